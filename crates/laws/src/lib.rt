@@ -1,0 +1,1 @@
+// Theorems about the definitions of the crate `meaning`, in proofs/. There is no code.

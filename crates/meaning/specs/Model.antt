@@ -1,0 +1,82 @@
+-- The policy: attributes and elements. What an operation gives, and the words of the file.
+use Prim.Native.Nat.{ℕ, zero, suc, _*_, _-_}
+use mathlib.Core.List.{List, [], _∷_, _++_, map}
+use lib.ListN.{length, take, replicate}
+pub use Rattle.meaning.specs.declared.Kind.{Kind}
+pub use Rattle.meaning.specs.declared.Kind.the-variants.{Set as set, Policy as policy, Rule as rule}
+pub use Rattle.meaning.specs.declared.Word.{Word}
+pub use Rattle.meaning.specs.declared.Word.the-variants.{DenyOverrides as deny-overrides, PermitOverrides as permit-overrides, FirstApplicable as first-applicable, OnlyOneApplicable as only-one-applicable}
+pub use Rattle.meaning.specs.declared.Decision.{Decision}
+pub use Rattle.meaning.specs.declared.Decision.the-variants.{NotApplicable as not-applicable, Indeterminate as indeterminate}
+pub use Rattle.meaning.specs.declared.Element.{Element}
+use Rattle.meaning.specs.Text.{Bytes, bytes}
+
+pub record Attribute : Type 0 where
+  pub name : Bytes
+  pub values : List Bytes
+
+-- An element is the record of the lent list: zeros stand behind its name and behind its masks, one for each attribute
+abbrev pub padded : ℕ → List ℕ → List ℕ
+padded n xs = xs ++ replicate (n - length xs) 0
+
+abbrev pub nameOf : Element → Bytes
+nameOf e = take (e .len) (e .name)
+
+pub record Policy : Type 0 where
+  pub attributes : List Attribute
+  pub elements : List Element
+
+-- The space: the product of the value counts
+abbrev pub choices : Attribute → ℕ
+choices a = length (a .values)
+
+abbrev pub sizes : List Attribute → List ℕ
+sizes attrs = map choices attrs
+
+abbrev pub product : List ℕ → ℕ
+product [] = 1
+product (n ∷ ns) = n * product ns
+
+abbrev pub space : List Attribute → ℕ
+space attrs = product (sizes attrs)
+
+-- Refused with number and second number, or a result
+pub data Result (A : Type 0) : Type 0 where
+  refused : ℕ → ℕ → Result A
+  given : A → Result A
+
+infixl 20 _then_
+abbrev pub _then_ : {A B : Type 0} → Result A → (A → Result B) → Result B
+refused n m then f = refused n m
+given a then f = f a
+
+-- A refusal of number k on line n, where k is not 0; else what comes next
+abbrev pub unless : {A : Type 0} → ℕ → ℕ → Result A → Result A
+unless zero n r = r
+unless (suc k) n r = refused (suc k) n
+
+-- The letters and words of the file
+abbrev pub kindText : Kind → Bytes
+kindText set = bytes "S"
+kindText policy = bytes "P"
+kindText rule = bytes "R"
+
+abbrev pub wordText : Word → Bytes
+wordText Word.Permit = bytes "permit"
+wordText Word.Deny = bytes "deny"
+wordText deny-overrides = bytes "deny-overrides"
+wordText permit-overrides = bytes "permit-overrides"
+wordText first-applicable = bytes "first-applicable"
+wordText only-one-applicable = bytes "only-one-applicable"
+
+-- the words allowed for each kind
+abbrev pub words : Kind → List Word
+words rule = Word.Permit ∷ Word.Deny ∷ []
+words policy = deny-overrides ∷ permit-overrides ∷ first-applicable ∷ []
+words set = deny-overrides ∷ permit-overrides ∷ first-applicable ∷ only-one-applicable ∷ []
+
+abbrev pub decisionText : Decision → Bytes
+decisionText Decision.Permit = bytes "permit"
+decisionText Decision.Deny = bytes "deny"
+decisionText not-applicable = bytes "not-applicable"
+decisionText indeterminate = bytes "indeterminate"
