@@ -3,3 +3,4 @@ pub mod Types
 pub mod Bools
 pub mod Text
 pub mod Reading
+pub mod Striking
