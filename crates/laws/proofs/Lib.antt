@@ -8,3 +8,4 @@ pub mod Targets
 pub mod Bounds
 pub mod Requests
 pub mod Striking
+pub mod Trimming
