@@ -9,3 +9,5 @@ pub mod Bounds
 pub mod Requests
 pub mod Striking
 pub mod Trimming
+pub mod Clean
+pub mod ReportLines
