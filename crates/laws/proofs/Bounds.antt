@@ -1,21 +1,22 @@
 -- The bounds of an accepted file: an invariant of reading that every line keeps.
-use mathlib.Core.Path.{_≡_, refl, subst, subst⁻¹}
-use Prim.Native.Nat.{ℕ, zero, suc, _-_, _≤_, zero-le, suc-le-suc}
+use mathlib.Core.Path.{_≡_, refl, subst⁻¹}
+use mathlib.Core.Logic.{_≢_}
+use Prim.Native.Nat.{ℕ, zero, suc, _-_, _≤_, _<_, zero-le, suc-le-suc}
 use native.Mathlib.Omega.{arith}
 use mathlib.Core.Bool.{true, false, not, _&&_, _||_}
 use mathlib.Core.List.{List, [], _∷_, _++_, map, reverse, reverse-cons}
-use mathlib.Core.Option.{Option, none, some}
 use lib.ListN.{length, drop, replicate, length-append, length-reverse, length-replicate}
 use lib.Seq.{take-append-seam}
-use lib.Dec.{leb, ltb, lit≤}
-use borrow.Author.Tests.{leb-true, leb-false, ltb-false, not-false}
+use lib.Dec.{eqb, leb, ltb, lit≤}
+use borrow.Author.Tests.{leb-true, leb-false, ltb-false, eqb-false, not-false}
 use Rattle.laws.proofs.Types.{Kind, Element}
-use Rattle.meaning.specs.Text.{Bytes, bytes, empty, all, front, same, amongNames, repeated, between, cut, newline, isName}
+use Rattle.meaning.specs.Text.{Bytes, empty, all, front, amongNames, repeated, between, cut, newline, isName}
 use Rattle.meaning.specs.Model.{Attribute, padded, nameOf, Policy, given, space}
-use Rattle.meaning.specs.Reading.{Line, attributeLine, treeLine, otherLine, kindOf, treeOf, lineOf, masksOf, elementOf, Sofar, parentHolds, wellPlaced, nonZero, badName, attributeTests, elementTests, lineTests, withElement, extended, nothing, read}
+use Rattle.meaning.specs.Reading.{Line, attributeLine, treeLine, otherLine, lineOf, full, masksOf, elementOf, Sofar, parentHolds, wellPlaced, nonZero, badName, badMasks, attributeTests, elementTests, lineTests, withElement, extended, nothing, read}
 use Rattle.meaning.specs.Writing.{headerTests}
 use Rattle.meaning.specs.Claims.{All, GoodAttribute, Shaped, GoodElement, Bounded}
-use Rattle.laws.proofs.Bools.{Test, passed, failed, test, contradiction, or-false, and-true}
+use Rattle.laws.proofs.Bools.{contradiction, or-false, and-true}
+use Rattle.laws.proofs.Lines.{attribute-fields}
 use Rattle.laws.proofs.Reading.{Passes, Numbered, line-numbered, PassesLine, lines-keep, policyOf, accepted}
 
 -- What holds of every element of two lists holds of every element of both, and of the list turned round
@@ -42,25 +43,6 @@ nothing-good = record { attributes-good = tt; some-attribute = λ h. contradicti
 pub filled : {A : Type 0} (xs : List A) → empty xs ≡ false → 1 ≤ length xs
 filled [] h = contradiction refl h
 filled (x ∷ xs) h = suc-le-suc zero-le
-
--- An attribute line has a value
-tree-attribute : (o : Option Kind) (d n : Bytes) (ws : List Bytes) (a : Attribute) → treeOf o d n ws ≡ attributeLine a → ⊥
-tree-attribute none d n ws a h = let z : _≡_ {A = ℕ} 0 1 = cc in omega arith
-tree-attribute (some k) d n [] a h = let z : _≡_ {A = ℕ} 0 1 = cc in omega arith
-tree-attribute (some k) d n (w ∷ ws) a h = let z : _≡_ {A = ℕ} 0 1 = cc in omega arith
-
-some-value : (fs : List Bytes) (a : Attribute) → lineOf fs ≡ attributeLine a → 1 ≤ length (a .values)
-some-value [] a h = let z : _≡_ {A = ℕ} 0 1 = cc in absurd (omega arith)
-some-value (f ∷ []) a h = let z : _≡_ {A = ℕ} 0 1 = cc in absurd (omega arith)
-some-value (f ∷ g ∷ []) a h = let z : _≡_ {A = ℕ} 0 1 = cc in absurd (omega arith)
-some-value (f ∷ g ∷ v ∷ vs) a h = go (test (same f (bytes "A")))
-  where
-    go : Test (same f (bytes "A")) → 1 ≤ length (a .values)
-    go (passed e) =
-        let i : attributeLine (record { name = g; values = v ∷ vs }) ≡ attributeLine a = rw e at h in
-        let j : record { name = g; values = v ∷ vs } ≡ a = cc in
-        subst (λ b. 1 ≤ length (b .values)) j (suc-le-suc zero-le)
-    go (failed e) = absurd (tree-attribute (kindOf f) g v vs a (rw e at h))
 
 -- An attribute that passes
 attribute-good : (s : Sofar) (a : Attribute) → 1 ≤ length (a .values) → Passes (attributeTests s a) → Good s → Good (extended s (attributeLine a))
@@ -117,6 +99,19 @@ named e h =
     let (size, name) = or-false (not (between 1 16 (e .len))) (not (isName (nameOf e))) a in
     record { size = not-false (between 1 16 (e .len)) size; is-name = not-false (isName (nameOf e)) name; zeros-behind = zeros }
 
+-- The first of some good masks
+pub record GoodMasks (a : Attribute) (attrs : List Attribute) (m : ℕ) (ms : List ℕ) : Type 0 where
+  pub not-empty : 0 < m
+  pub no-high-bit : m ≤ full (a .values)
+  pub others : badMasks attrs ms ≡ false
+
+pub masks-good : (a : Attribute) (attrs : List Attribute) (m : ℕ) (ms : List ℕ) → badMasks (a ∷ attrs) (m ∷ ms) ≡ false → GoodMasks a attrs m ms
+masks-good a attrs m ms h =
+    let (good, others) = or-false (eqb m 0 || ltb (full (a .values)) m) (badMasks attrs ms) h in
+    let (some-bit, low) = or-false (eqb m 0) (ltb (full (a .values)) m) good in
+    let nonzero : m ≢ 0 = eqb-false m 0 some-bit in
+    record { not-empty = omega arith; no-high-bit = ltb-false (full (a .values)) m low; others = others }
+
 -- The element of a tree line: its name, and its shape
 length-padded : (size : ℕ) (xs : List ℕ) → length xs ≤ size → length (padded size xs) ≡ size
 length-padded size xs l = rw (length-append xs (replicate (size - length xs) 0), length-replicate {A = ℕ} (size - length xs) 0) (omega arith)
@@ -138,7 +133,7 @@ module _ (attrs : List Attribute) (k : Kind) (d n w : Bytes) (ts : List Bytes) w
 
 -- Every line that passes keeps the invariant, in a file and among the writer's attribute lines
 pub line-good : (s : Sofar) (fs : List Bytes) (l : Line) → lineOf fs ≡ l → PassesLine lineTests line-numbered s fs l → Good s → Good (extended s l)
-line-good s fs (attributeLine a) e (f2, f) g = attribute-good s a (some-value fs a e) f g
+line-good s fs (attributeLine a) e (f2, f) g = attribute-good s a (attribute-fields fs a e .some-value) f g
 line-good s fs (treeLine k d n w ts) e (f2, f) g = element-good s w (elementOf (s .attributes) k d n w ts) (element-shaped (s .attributes) k d n w ts (g .few-attributes) (f .0)) f g
 line-good s fs otherLine e f g = g
 
@@ -148,7 +143,7 @@ header-numbered s (treeLine k d n w ts) = (lit≤ tt, (lit≤ tt, tt))
 header-numbered s otherLine = tt
 
 pub header-good : (s : Sofar) (fs : List Bytes) (l : Line) → lineOf fs ≡ l → PassesLine headerTests header-numbered s fs l → Good s → Good (extended s l)
-header-good s fs (attributeLine a) e (f2, f) g = attribute-good s a (some-value fs a e) f g
+header-good s fs (attributeLine a) e (f2, f) g = attribute-good s a (attribute-fields fs a e .some-value) f g
 header-good s fs (treeLine k d n w ts) e (f2, (f3, (f6, f))) g = contradiction refl f6
 header-good s fs otherLine e f g = g
 

@@ -4,10 +4,16 @@ pub mod Bools
 pub mod Search
 pub mod Text
 pub mod Reading
+pub mod Lines
 pub mod Targets
 pub mod Bounds
+pub mod Fields
+pub mod Rewritten
 pub mod Requests
 pub mod Striking
 pub mod Trimming
+pub mod OwnLines
 pub mod Clean
 pub mod ReportLines
+pub mod Segments
+pub mod Conflicts

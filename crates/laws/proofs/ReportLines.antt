@@ -14,9 +14,9 @@ use Rattle.meaning.specs.Segments.{applyingTo, segments, segmentSize, Conflict,
 use Rattle.meaning.specs.Report.{marked, segmentFields, conflictFields, struckFields, keptFields, keptLine, report}
 use Rattle.meaning.specs.Claims.{All, Trims, none-left, last-struck, linesWith}
 use Rattle.laws.proofs.Bools.{Test, passed, failed, test}
-use Rattle.laws.proofs.Text.{cut-append, cut-join}
+use Rattle.laws.proofs.Text.{join-free, cut-append, cut-join}
 use Rattle.laws.proofs.Bounds.{bounded}
-use Rattle.laws.proofs.Clean.{Clean, free-join, cleans, printable-clean, number-clean, decision-clean, WithName, with-names, name-in-clean, marked-named, dash-clean, name-at-clean}
+use Rattle.laws.proofs.Clean.{Clean, cleans, field-clean, number-clean, decision-clean, WithName, with-names, name-in-clean, marked-named, dash-clean, name-at-clean}
 
 -- Lines of clean fields, cut again
 abbrev fieldsIn : Bytes → List (List Bytes)
@@ -26,7 +26,7 @@ line-in : (c : Bytes) (fs : List Bytes) (rest : Bytes) → All Clean (c ∷ fs) 
 line-in c fs rest a =
     let (x, y) = cleans (c ∷ fs) a in
     ap fieldsIn (append-assoc (join tab (c ∷ fs)) (newline ∷ []) rest)
-    ∙ ap (map (cut tab)) (cut-append newline (join tab (c ∷ fs)) rest (free-join newline tab (c ∷ fs) refl x))
+    ∙ ap (map (cut tab)) (cut-append newline (join tab (c ∷ fs)) rest (join-free newline tab (c ∷ fs) refl x))
     ∙ ap (λ t. t ∷ fieldsIn rest) (cut-join tab c fs y)
 
 module _ {A : Type 0} (letter : Bytes) (F : A → List Bytes) where
@@ -102,16 +102,16 @@ module _ (f : Bytes) (p : Policy) (h : read f ≡ given p) (steps : Trims f (tri
   names = with-names (p .attributes) (p .elements) (bounded f p h .elements-good)
 
   segment-clean : (n : ℕ) → All Clean (segmentFields p n)
-  segment-clean n = (printable-clean (bytes "G") refl, (number-clean n, (number-clean (segmentSize p n), (decision-clean (outcome p n), (dash-clean (marked (applyingTo p n) (p .elements)) (marked-named (applyingTo p n) (p .elements) names), tt)))))
+  segment-clean n = (field-clean (bytes "G") refl, (number-clean n, (number-clean (segmentSize p n), (decision-clean (outcome p n), (dash-clean (marked (applyingTo p n) (p .elements)) (marked-named (applyingTo p n) (p .elements) names), tt)))))
 
   conflict-clean : (c : Conflict) → All Clean (conflictFields (p .elements) c)
-  conflict-clean c = (printable-clean (bytes "C") refl, (name-in-clean (p .elements) (c .parent) names, (name-in-clean (p .elements) (c .earlier) names, (name-in-clean (p .elements) (c .later) names, (number-clean (c .request), tt)))))
+  conflict-clean c = (field-clean (bytes "C") refl, (name-in-clean (p .elements) (c .parent) names, (name-in-clean (p .elements) (c .earlier) names, (name-in-clean (p .elements) (c .later) names, (number-clean (c .request), tt)))))
 
   struck-fields-clean : (n : Bytes) → Clean n → All Clean (struckFields n)
-  struck-fields-clean n c = (printable-clean (bytes "X") refl, (c, tt))
+  struck-fields-clean n c = (field-clean (bytes "X") refl, (c, tt))
 
   kept-clean : (k : ℕ) → All Clean (kept k)
-  kept-clean k = (printable-clean (bytes "K") refl, (name-at-clean left k, (number-clean (shownWith left k), tt)))
+  kept-clean k = (field-clean (bytes "K") refl, (name-at-clean left k, (number-clean (shownWith left k), tt)))
 
   -- the report, line by line
   report-fields : fieldsIn (report f p) ≡ map (segmentFields p) (segments p) ++ (map (conflictFields (p .elements)) (conflicts p) ++ (map struckFields (trimmed f .struck) ++ (map kept (ruleLines left) ++ (([] ∷ []) ∷ []))))

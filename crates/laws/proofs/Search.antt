@@ -9,6 +9,7 @@ use mathlib.Core.Option.{Option, none, some}
 use lib.Dec.{ltb, eqb}
 use borrow.Author.Tests.{ltb-true, ltb-false, eqb-true, eqb-false}
 use Rattle.meaning.specs.Text.{any, keep, gathered, counting, firstFrom, lastBelow}
+use Rattle.meaning.specs.Claims.{Distinct}
 use Rattle.laws.proofs.Bools.{Test, passed, failed, test, contradiction, or-true}
 
 pub none-some {ℓ} : {A : Type 0} {B : Type ℓ} {a : A} → none ≡ some a → B
@@ -157,6 +158,10 @@ module _ {A : Type 0} (p : A → Bool) where
       go (passed d) later = either d (List·Memᴰ·cases-cons (rw d at h)) later
       go (failed d) later = let r = later (rw d at h) in (List·Memᴰ·tail (r .0), r .1)
 
+  pub keep-none : (xs : List A) → ((x : A) → List·Memᴰ x xs → p x ≡ false) → keep p xs ≡ []
+  keep-none [] h = refl
+  keep-none (x ∷ xs) h = rw (h x (List·Memᴰ·head refl), keep-none xs (λ y m. h y (List·Memᴰ·tail m)))
+
   pub any-has : (x : A) {xs : List A} → List·Memᴰ x xs → p x ≡ true → any p xs ≡ true
   any-has x (List·Memᴰ·head {x = y} {xs = ys} i) e = let d : p y ≡ true = rw i at e in rw d
   any-has x (List·Memᴰ·tail {x = y} {xs = ys} m) e = or-true (p y) (any p ys) (any-has x m e)
@@ -181,3 +186,24 @@ module _ {A B : Type 0} (f : A → List B) where
       go : List·Memᴰ y (f z) ⊎ List·Memᴰ y (gathered f zs) → (List·Memᴰ y (gathered f zs) → (x : A) × List·Memᴰ x zs × List·Memᴰ y (f x)) → (x : A) × List·Memᴰ x (z ∷ zs) × List·Memᴰ y (f x)
       go (inl m) later = (z, List·Memᴰ·head refl, m)
       go (inr m) later = let r = later m in (r .0, List·Memᴰ·tail (r .1), r .2)
+
+-- Numbers that ascend, so that none is there twice
+abbrev pub Ascending : List ℕ → Type 0
+Ascending [] = Unit {0}
+Ascending (x ∷ xs) = ((y : ℕ) → List·Memᴰ y xs → x < y) × Ascending xs
+
+pub counting-ascending : (from size : ℕ) → Ascending (counting from size)
+counting-ascending from zero = tt
+counting-ascending from (suc k) = (λ y m. counting-only (suc from) k y m .0, counting-ascending (suc from) k)
+
+pub keep-ascending : (t : ℕ → Bool) (xs : List ℕ) → Ascending xs → Ascending (keep t xs)
+keep-ascending t [] a = tt
+keep-ascending t (x ∷ xs) a = go (test (t x)) (keep-ascending t xs (a .1))
+  where
+    go : Test (t x) → Ascending (keep t xs) → Ascending (keep t (x ∷ xs))
+    go (passed e) later = rw e (λ y m. a .0 y (keep-only t y xs m .0), later)
+    go (failed e) later = rw e later
+
+pub ascending-distinct : (xs : List ℕ) → Ascending xs → Distinct xs
+ascending-distinct [] a = tt
+ascending-distinct (x ∷ xs) a = (λ m. let l = a .0 x m in omega arith, ascending-distinct xs (a .1))

@@ -4,7 +4,7 @@ use mathlib.Core.Logic.{_≢_}
 use Prim.Native.Nat.{ℕ, zero, suc, _+_, _≤_, _<_, zero-le, suc-le-suc}
 use native.Mathlib.Omega.{arith}
 use native.Mathlib.Nat.{add-zero, le-of-lt}
-use mathlib.Core.Bool.{true, false, not, _&&_, _||_, false≢true}
+use mathlib.Core.Bool.{true, false, not, _&&_, false≢true}
 use mathlib.Core.List.{List, [], _∷_, _++_, map, reverse, reverse-append, reverse-cons}
 use lib.ListN.{length, getD, take, drop, length-append, length-reverse, List·getD-append}
 use lib.Seq.{append-snoc, split-at, length-take-le}
@@ -17,7 +17,7 @@ use Rattle.meaning.specs.Trimming.{ruleLine, isRuleLine, strike}
 use Rattle.laws.proofs.Types.{Kind, rule, Element}
 use Rattle.laws.proofs.Bools.{Test, passed, failed, test, or-false, and-true}
 use Rattle.laws.proofs.Text.{Some, one-or-more, join-cut, cut-join, Frees, cut-frees, same-true}
-use Rattle.laws.proofs.Reading.{Passes, PassesLine, line-numbered, read-step, read-step⁻, read-end, policyOf, Accepted, accepted, read-lines}
+use Rattle.laws.proofs.Reading.{Passes, PassesLine, line-numbered, read-step, read-step⁻, read-end, policyOf, accepted, read-lines}
 
 abbrev PassesHere : Sofar → List Bytes → Line → Type 0
 PassesHere s fs l = PassesLine lineTests line-numbered s fs l

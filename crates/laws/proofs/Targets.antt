@@ -14,12 +14,12 @@ use borrow.Author.Tests.{eq-eqb, ne-eqb, eqb-true, eqb-false}
 use Rattle.meaning.specs.Text.{Bytes, bytes, all, same, amongNames, repeated, cut, join, comma, isName}
 use Rattle.meaning.specs.Reading.{twice, maskOf, full, notFull, targetOf}
 use Rattle.meaning.specs.Writing.{valueNames, targetText}
-use Rattle.laws.proofs.Bools.{Test, passed, failed, test, contradiction, or-false, or-true, and-true}
+use Rattle.laws.proofs.Bools.{Test, passed, failed, test, contradiction, or-false, or-true, and-true, never}
 use Rattle.laws.proofs.Text.{Some, one-or-more, cut-some, join-cut, cut-join, same-true, same-refl, other-byte, NonEmptyName, name-bytes, name-of, names-free}
 
 -- A bit in front of a mask
 twice-some : (b m : ℕ) (o : Option ℕ) → twice b o ≡ some m → (k : ℕ) × (o ≡ some k) × (m ≡ b + 2 * k)
-twice-some b m none h = let z : _≡_ {A = ℕ} 0 1 = cc in absurd (omega arith)
+twice-some b m none h = never cc
 twice-some b m (some k) h = (k, refl, let e : b + 2 * k ≡ m = cc in sym e)
 
 names-zero : (vs : List Bytes) → valueNames vs 0 ≡ []
@@ -32,7 +32,7 @@ Named vs ns m = (valueNames vs m ≡ ns) × (m < 2 ^ length vs)
 
 mask-names : (vs ns : List Bytes) (m : ℕ) → maskOf vs ns ≡ some m → Named vs ns m
 mask-names [] [] m h = let e : 0 ≡ m = cc in (refl, omega arith)
-mask-names [] (n ∷ ns) m h = let z : _≡_ {A = ℕ} 0 1 = cc in absurd (omega arith)
+mask-names [] (n ∷ ns) m h = never cc
 mask-names (v ∷ vs) [] m h = let e : 0 ≡ m = cc in (rw (← e) (names-zero (v ∷ vs)), rw (← e) (pow-pos (suc (length vs))))
 mask-names (v ∷ vs) (n ∷ ns) m h = go (test (same v n)) (mask-names vs ns) (mask-names vs (n ∷ ns))
   where
@@ -50,11 +50,11 @@ mask-names (v ∷ vs) (n ∷ ns) m h = go (test (same v n)) (mask-names vs ns) (
         (rw (ne-eqb (m % 2) 1 even, half, x), rw (pow-succ' 2 (length vs)) (omega arith))
 
 not-full : (vs : List Bytes) (o : Option ℕ) (m : ℕ) → notFull vs o ≡ some m → (o ≡ some m) × (m ≢ full vs)
-not-full vs none m h = let z : _≡_ {A = ℕ} 0 1 = cc in absurd (omega arith)
+not-full vs none m h = never cc
 not-full vs (some k) m h = go (test (eqb k (full vs)))
   where
     go : Test (eqb k (full vs)) → (some k ≡ some m) × (m ≢ full vs)
-    go (passed e) = let i : none ≡ some m = rw e at h in let z : _≡_ {A = ℕ} 0 1 = cc in absurd (omega arith)
+    go (passed e) = let i : none ≡ some m = rw e at h in never cc
     go (failed e) =
         let i : some k ≡ some m = rw e at h in
         let j : k ≡ m = cc in
@@ -66,7 +66,7 @@ some-names : (vs : List Bytes) (m : ℕ) → Some (valueNames vs m) → 0 < m
 some-names vs zero s = none-named (valueNames vs 0) s (names-zero vs)
   where
     none-named : (ns : List Bytes) → Some ns → ns ≡ [] → 0 < 0
-    none-named ns (one-or-more x xs) e = let z : _≡_ {A = ℕ} 0 1 = cc in absurd (omega arith)
+    none-named ns (one-or-more x xs) e = never cc
 some-names vs (suc m) s = suc-le-suc zero-le
 
 -- A field that was read, written again; its mask is not empty where there is a value, and has no bit too high
@@ -102,7 +102,7 @@ mask-nil [] = refl
 mask-nil (v ∷ vs) = refl
 
 names-among : (vs : List Bytes) (m : ℕ) (n : Bytes) (ns : List Bytes) → valueNames vs m ≡ n ∷ ns → amongNames n vs ≡ true
-names-among [] m n ns h = let z : _≡_ {A = ℕ} 0 1 = cc in absurd (omega arith)
+names-among [] m n ns h = never cc
 names-among (v ∷ vs) m n ns h = go (test (eqb (m % 2) 1)) (names-among vs (m / 2) n ns)
   where
     go : Test (eqb (m % 2) 1) → (valueNames vs (m / 2) ≡ n ∷ ns → amongNames n vs ≡ true) → amongNames n (v ∷ vs) ≡ true

@@ -1,15 +1,15 @@
 -- Laws of trimming: needless as the paper says it, the steps of striking, and what is left.
 use mathlib.Core.Path.{_≡_, refl, sym, ap, _∙_, subst}
-use mathlib.Core.Logic.{_≢_, ⊎-elim}
+use mathlib.Core.Logic.{_≢_}
 use Prim.Native.Nat.{ℕ, zero, suc, _≤_, _<_, zero-le}
 use native.Mathlib.Omega.{arith}
-use mathlib.Core.Bool.{true, false, not, _&&_, false≢true}
+use mathlib.Core.Bool.{true, false, not, false≢true}
 use mathlib.Core.List.{List, [], _∷_, _++_}
 use mathlib.Core.Option.{Option, none, some}
 use lib.ListN.{length, getD}
-use lib.Dec.{eqb, leb}
-use borrow.Author.Tests.{not-false, not-true, eqb-true, eqb-false, leb-true, leb-false}
-use Rattle.meaning.specs.Text.{Bytes, isNone, without, firstFrom, lastBelow, cut, newline}
+use lib.Dec.{leb}
+use borrow.Author.Tests.{not-false, not-true, eqb-true, leb-true, leb-false}
+use Rattle.meaning.specs.Text.{Bytes, isNone, without}
 use Rattle.meaning.specs.Model.{Policy, space, given}
 use Rattle.meaning.specs.Reading.{read}
 use Rattle.meaning.specs.Deciding.{decisionNumber, Outcome, sameOutcome, outcome}
@@ -17,7 +17,7 @@ use Rattle.meaning.specs.Trimming.{lines, ruleLine, isRuleLine, nameAt, strike,
 use Rattle.meaning.specs.Claims.{Alike, Needless, Trims, none-left, last-struck, FirstChange}
 use Rattle.laws.proofs.Types.{Decision, not-applicable, indeterminate}
 use Rattle.laws.proofs.Bools.{Test, passed, failed, test, contradiction, and-true, eqb-same}
-use Rattle.laws.proofs.Search.{none-some, first-some, first-none, first-absent, last-some, last-none, last-absent}
+use Rattle.laws.proofs.Search.{first-some, first-none, first-absent, last-some, last-none, last-absent}
 use Rattle.laws.proofs.Reading.{given-given}
 use Rattle.laws.proofs.Striking.{strike-without, strike-read}
 
