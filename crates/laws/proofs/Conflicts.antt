@@ -1,43 +1,19 @@
 -- Conflicts: exactly the pairs of children of one element that a request shows, each once.
 use mathlib.Core.Path.{_≡_, refl, sym, ap, _∙_, subst}
 use mathlib.Core.Logic.{_⊎_, inl, inr}
-use Prim.Native.Nat.{ℕ, suc, _<_, zero-le}
+use Prim.Native.Nat.{ℕ, _<_, zero-le}
 use native.Mathlib.Omega.{arith}
-use mathlib.Core.Bool.{true}
 use mathlib.Core.List.{List, [], _∷_, _++_, map, List·Memᴰ, List·Memᴰ·head, List·Memᴰ·tail, List·Memᴰ·not-nil, List·Memᴰ·cases-cons, List·Memᴰ·append-cases, List·Memᴰ·eq-of-singleton, Memᴰ·cast, Memᴰ·append-left, Memᴰ·append-right, Memᴰ·map, Memᴰ·of-map, map-append}
 use mathlib.Core.Option.{Option, none, some}
 use lib.ListN.{length}
-use lib.Dec.{eqb}
-use borrow.Author.Tests.{eqb-true}
-use Rattle.laws.proofs.Types.{Element}
-use Rattle.meaning.specs.Text.{gathered, ifSome, firstFrom}
-use Rattle.meaning.specs.Model.{Policy, space}
-use Rattle.meaning.specs.Segments.{depthAt, parentOf, isPlace, places, childrenOf, shows, Conflict, pairs, conflictOf, conflicts}
-use Rattle.meaning.specs.Claims.{Distinct, Conflicting}
-use Rattle.laws.proofs.Bools.{contradiction, eqb-same}
-use Rattle.laws.proofs.Search.{some-some, First, first-some, first-is, last-some, counting-has, counting-only, keep-has, keep-only, gathered-has, gathered-only, Ascending, counting-ascending, keep-ascending, ascending-distinct}
-
--- Children: the places of the file that have a parent
-place-true : (i : ℕ) (o : Option ℕ) → isPlace i o ≡ true → o ≡ some i
-place-true i none h = contradiction h refl
-place-true i (some j) h = ap some (sym (eqb-true i j h))
-
-pub child-only : (es : List Element) (i j : ℕ) → List·Memᴰ j (childrenOf es i) → (j < length es) × (parentOf es j ≡ some i)
-unfolding childrenOf
-child-only es i j m =
-    let (l, t) = keep-only (λ j. isPlace i (parentOf es j)) j (places es) m in
-    (omega (arith, counting-only 0 (length es) j l), place-true i (parentOf es j) t)
-
-pub child-has : (es : List Element) (i j : ℕ) → j < length es → parentOf es j ≡ some i → List·Memᴰ j (childrenOf es i)
-unfolding childrenOf
-child-has es i j l e = keep-has (λ j. isPlace i (parentOf es j)) j (counting-has 0 (length es) j zero-le (omega arith)) (rw (e, eqb-same i))
-
-children-ascending : (es : List Element) (i : ℕ) → Ascending (childrenOf es i)
-unfolding childrenOf
-children-ascending es i = keep-ascending (λ j. isPlace i (parentOf es j)) (places es) (counting-ascending 0 (length es))
-
-parent-before : (es : List Element) (i j : ℕ) → parentOf es j ≡ some i → i < j
-parent-before es i j h = last-some (λ i. eqb (suc (depthAt es i)) (depthAt es j)) j i h .below
+use Rattle.meaning.specs.Text.{Bytes, gathered, ifSome, firstFrom}
+use Rattle.meaning.specs.Model.{Policy, space, given}
+use Rattle.meaning.specs.Reading.{read}
+use Rattle.meaning.specs.Deciding.{hits}
+use Rattle.meaning.specs.Segments.{parentOf, places, childrenOf, shows, Conflict, pairs, conflictOf, conflicts}
+use Rattle.meaning.specs.Claims.{Distinct, Conflicting, ConflictsListed}
+use Rattle.laws.proofs.Children.{child-only, child-has, children-ascending, parent-before, accepted-steps, children-asked}
+use Rattle.laws.proofs.Search.{some-some, First, first-some, first-is, counting-has, gathered-has, gathered-only, Ascending, counting-ascending, ascending-distinct}
 
 -- Pairs of ascending numbers: the lower and the higher
 pairs-has : (x y : ℕ) {zs : List ℕ} → List·Memᴰ x zs → List·Memᴰ y zs → Ascending zs → x < y → List·Memᴰ {A = ℕ × ℕ} (x, y) (pairs zs)
@@ -191,3 +167,11 @@ module _ (p : Policy) where
           let d = child-only (p .elements) j (r .0) (pairs-only r (childrenOf (p .elements) j) (children-ascending (p .elements) j) y .0) .1 in
           let same : q .0 ≡ r .0 = sym (ap (λ c. c .earlier) g) ∙ ap (λ s. s .0) e ∙ ap (λ c. c .earlier) h in
           some-some (sym a ∙ ap (parentOf (p .elements)) same ∙ d)
+
+pub conflicts-listed : (f : Bytes) (p : Policy) → read f ≡ given p → ConflictsListed p
+conflicts-listed f p h = record {
+  each-listed = conflicts-each p;
+  no-other = conflicts-only p;
+  once = conflicts-once p;
+  children-asked = λ n i l. children-asked (p .elements) (accepted-steps f p h) (hits p n) i l;
+}

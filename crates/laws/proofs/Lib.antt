@@ -13,7 +13,11 @@ pub mod Requests
 pub mod Striking
 pub mod Trimming
 pub mod OwnLines
+pub mod RuleLines
+pub mod Answers
 pub mod Clean
 pub mod ReportLines
+pub mod Demand3
 pub mod Segments
+pub mod Children
 pub mod Conflicts

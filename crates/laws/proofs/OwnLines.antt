@@ -145,7 +145,7 @@ pub steps-own : {f t : Bytes} {struck : List Bytes} → Trims f struck t → lin
 steps-own (none-left f needed) = none-struck (lines f)
 steps-own (last-struck f k struck t n l s) =
     let gone : lines (strike k f) ≡ keep (λ l. not (called (nameAt f k) l)) (lines f) =
-        strike-without f (n .policy) (n .is-accepted) k (n .rule-line) ∙ without-keep k (lines f) (file-once f (n .policy) (n .is-accepted)) (n .rule-line) in
+    strike-without f (n .policy) (n .is-accepted) k (n .rule-line) ∙ without-keep k (lines f) (file-once f (n .policy) (n .is-accepted)) (n .rule-line) in
     steps-own s
     ∙ ap (keep (stays struck)) gone
     ∙ keep-keep (stays struck) (λ l. not (called (nameAt f k) l)) (lines f)

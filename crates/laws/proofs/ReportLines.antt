@@ -122,7 +122,7 @@ module _ (f : Bytes) (p : Policy) (h : read f ≡ given p) (steps : Trims f (tri
       let C = gathered (λ c. line (conflictFields (p .elements) c)) (conflicts p) in
       let same-kept : K ≡ gathered (λ k. line (kept k)) (ruleLines left) = kept-lines left (ruleLines left) (kept-all (Shown left) (isRuleLine left) shown (counting 0 (length (lines left)))) in
       let k-in : fieldsIn K ≡ map kept (ruleLines left) ++ (([] ∷ []) ∷ []) =
-          ap fieldsIn (same-kept ∙ sym (append-nil (gathered (λ k. line (kept k)) (ruleLines left)))) ∙ lines-in (bytes "K") (λ k. nameAt left k ∷ decimal (shownWith left k) ∷ []) (ruleLines left) [] (every kept-clean (ruleLines left)) in
+      ap fieldsIn (same-kept ∙ sym (append-nil (gathered (λ k. line (kept k)) (ruleLines left)))) ∙ lines-in (bytes "K") (λ k. nameAt left k ∷ decimal (shownWith left k) ∷ []) (ruleLines left) [] (every kept-clean (ruleLines left)) in
       lines-in (bytes "G") _ (segments p) (C ++ (X ++ K)) (every segment-clean (segments p))
       ∙ ap (λ ls. map (segmentFields p) (segments p) ++ ls) (lines-in (bytes "C") _ (conflicts p) (X ++ K) (every conflict-clean (conflicts p))
       ∙ ap (λ ls. map (conflictFields (p .elements)) (conflicts p) ++ ls) (lines-in (bytes "X") _ (trimmed f .struck) K (all-map struck-fields-clean (trimmed f .struck) (struck-clean steps))

@@ -3,7 +3,7 @@ use mathlib.Core.Path.{_≡_, refl, sym, ap, _∙_, subst}
 use Prim.Native.Nat.{ℕ, suc, _-_, _≤_, _<_}
 use native.Mathlib.Omega.{arith}
 use mathlib.Core.Bool.{Bool, true, false, not}
-use mathlib.Core.List.{List, [], _∷_, _++_, reverse, reverse-cons, append-assoc, append-nil}
+use mathlib.Core.List.{List, [], _∷_, _++_, map, reverse, reverse-cons, append-assoc, append-nil}
 use mathlib.Core.Option.{Option, none, some}
 use lib.ListN.{length, replicate, length-append}
 use lib.Seq.{append-snoc}
@@ -95,7 +95,7 @@ elements-taken n s (e ∷ es) z h =
 record Tree (s : Sofar) (ls : List Bytes) (z : Sofar) : Type 0 where
   pub more : List Element
   pub no-attributes : keep isAttribute ls ≡ []
-  pub lines-same : unlines ls ≡ treeText (s .attributes) more
+  pub fields-same : map (cut tab) ls ≡ map (elementFields (s .attributes)) more
   pub taken : (n : ℕ) → readElements n s more ≡ given z
 
 tree-more : (s : Sofar) (l : Bytes) (ls : List Bytes) (z : Sofar) (k : Kind) (d m w : Bytes) (ts : List Bytes) → lineOf (cut tab l) ≡ treeLine k d m w ts
@@ -103,16 +103,15 @@ tree-more : (s : Sofar) (l : Bytes) (ls : List Bytes) (z : Sofar) (k : Kind) (d 
 tree-more s l ls z k d m w ts e p t =
     let letter : isAttribute l ≡ false = rw (tree-fields (cut tab l) k d m w ts e) (kind-not-attribute k) in
     let word : wordText (el s k d m w ts .word) ≡ w = word-again k w (p .1 .1 .1 .1 .1 .0) in
-    let own : line (elementFields (s .attributes) (el s k d m w ts)) ≡ l ++ (newline ∷ []) = ap line (fields-again s k d m w ts (cut tab l) e p) ∙ ap (λ x. x ++ (newline ∷ [])) (join-cut tab l) in
     record {
       more = el s k d m w ts ∷ t .more;
       no-attributes = rw letter (t .no-attributes);
-      lines-same = cc (own, t .lines-same);
+      fields-same = cc (fields-again s k d m w ts (cut tab l) e p, t .fields-same);
       taken = λ n. rw (word, passes-lowest (elementTests s w (el s k d m w ts)) (p .1)) (t .taken (suc n));
     }
 
 tree-again : (n : ℕ) (s : Sofar) (ls : List Bytes) (z : Sofar) → empty (s .before) ≡ false → readLines lineTests [] n s ls ≡ given z → Tree s ls z
-tree-again n s [] z b h = record { more = []; no-attributes = refl; lines-same = refl; taken = λ m. h }
+tree-again n s [] z b h = record { more = []; no-attributes = refl; fields-same = refl; taken = λ m. h }
 tree-again n s (l ∷ ls) z b h =
     let (p, r) = read-step lineTests line-numbered [] n s l ls z h in
     go (lineOf (cut tab l)) refl p (λ c. tree-again (suc n) (extended s (lineOf (cut tab l))) ls z c r)
@@ -127,7 +126,7 @@ abbrev pub only : List Attribute → Sofar
 only attrs = record { attributes = attrs; before = [] }
 
 record Whole (n : ℕ) (attrs : List Attribute) (ls : List Bytes) (z : Sofar) : Type 0 where
-  pub lines-same : unlines ls ≡ unlines (keep isAttribute ls) ++ treeText (z .attributes) (reverse (z .before))
+  pub fields-same : map (cut tab) ls ≡ map (cut tab) (keep isAttribute ls) ++ map (elementFields (z .attributes)) (reverse (z .before))
   pub header-read : readLines headerTests [] n (only attrs) (keep isAttribute ls) ≡ given (only (z .attributes))
   pub taken : (n : ℕ) → readElements n (only (z .attributes)) (reverse (z .before)) ≡ given z
 
@@ -135,13 +134,13 @@ from-tree : (n : ℕ) (attrs : List Attribute) (ls : List Bytes) (z : Sofar) →
 from-tree n attrs ls z t =
     let k = elements-taken n (only attrs) (t .more) z (t .taken n) in
     record {
-      lines-same = rw (t .no-attributes, k .elements-added, k .attributes-stay) (t .lines-same);
+      fields-same = rw (t .no-attributes, k .elements-added, k .attributes-stay) (t .fields-same);
       header-read = rw (t .no-attributes, k .attributes-stay);
       taken = λ m. cc (k .elements-added, k .attributes-stay, t .taken m);
     }
 
 whole-again : (n : ℕ) (attrs : List Attribute) (ls : List Bytes) (z : Sofar) → readLines lineTests [] n (only attrs) ls ≡ given z → Whole n attrs ls z
-whole-again n attrs [] z h = from-tree n attrs [] z (record { more = []; no-attributes = refl; lines-same = refl; taken = λ m. h })
+whole-again n attrs [] z h = from-tree n attrs [] z (record { more = []; no-attributes = refl; fields-same = refl; taken = λ m. h })
 whole-again n attrs (l ∷ ls) z h =
     let (p, r) = read-step lineTests line-numbered [] n (only attrs) l ls z h in
     go (lineOf (cut tab l)) refl p r (λ a. whole-again (suc n) (attrs ++ (a ∷ [])) ls z)
@@ -153,12 +152,32 @@ whole-again n attrs (l ∷ ls) z h =
         let letter : isAttribute l ≡ true = rw (attribute-fields (cut tab l) a e .are) in
         let own = keep isAttribute ls in
         record {
-          lines-same = rw letter (ap (λ x. (l ++ (newline ∷ [])) ++ x) (w .lines-same) ∙ sym (append-assoc (l ++ (newline ∷ [])) (unlines own) (treeText (z .attributes) (reverse (z .before)))));
+          fields-same = rw (letter, w .fields-same);
           header-read = rw letter (read-step⁻ headerTests header-numbered [] n (only attrs) l own (rw e p) ∙ rw e (w .header-read));
           taken = w .taken;
         }
     go (treeLine k d m w ts) e p r later = from-tree n attrs (l ∷ ls) z (tree-more (only attrs) l ls z k d m w ts e p (tree-again (suc n) (extended (only attrs) (treeLine k d m w ts)) ls z refl r))
     go otherLine e (f2, f) r later = contradiction refl (or-false (not (all isField (cut tab l))) true f2 .1)
+
+-- A text by the fields of its lines
+gathered-append : {A B : Type 0} (f : A → List B) (xs ys : List A) → gathered f (xs ++ ys) ≡ gathered f xs ++ gathered f ys
+gathered-append f [] ys = refl
+gathered-append f (x ∷ xs) ys = ap (λ zs. f x ++ zs) (gathered-append f xs ys) ∙ sym (append-assoc (f x) (gathered f xs) (gathered f ys))
+
+gathered-map : {A B C : Type 0} (f : B → List C) (g : A → B) (xs : List A) → gathered f (map g xs) ≡ gathered (λ x. f (g x)) xs
+gathered-map f g [] = refl
+gathered-map f g (x ∷ xs) = ap (λ zs. f (g x) ++ zs) (gathered-map f g xs)
+
+unlines-fields : (ls : List Bytes) → unlines ls ≡ gathered line (map (cut tab) ls)
+unlines-fields [] = refl
+unlines-fields (l ∷ ls) = rw (join-cut tab l, unlines-fields ls)
+
+-- The lines of an accepted file: its attribute lines, and each element's line
+pub file-fields : (f : Bytes) (p : Policy) → read f ≡ given p → map (cut tab) (front (cut newline f)) ≡ map (cut tab) (keep isAttribute (front (cut newline f))) ++ map (elementFields (p .attributes)) (p .elements)
+file-fields f p h =
+    let a = accepted f p h in
+    whole-again 1 [] (front (cut newline f)) (a .sofar) (a .text .lines-read) .fields-same
+    ∙ ap (λ q. map (cut tab) (keep isAttribute (front (cut newline f))) ++ map (elementFields (q .attributes)) (q .elements)) (sym (a .is-policy))
 
 -- A file read and written again has the same bytes
 keep-frees : (b : ℕ) (t : Bytes → Bool) (ps : List Bytes) → Frees b ps → Frees b (keep t ps)
@@ -176,7 +195,10 @@ whole-written f p a w room =
     let own = keep isAttribute ls in
     let z = a .sofar in
     let tree = treeText (z .attributes) (reverse (z .before)) in
-    let whole : f ≡ unlines own ++ tree = text-unlines f ls (a .text .pieces) ∙ w .lines-same in
+    let whole : f ≡ unlines own ++ tree =
+    text-unlines f ls (a .text .pieces) ∙ unlines-fields ls ∙ ap (gathered line) (w .fields-same)
+    ∙ gathered-append line (map (cut tab) own) (map (elementFields (z .attributes)) (reverse (z .before))) ∙ ap (λ x. x ++ gathered line (map (elementFields (z .attributes)) (reverse (z .before)))) (sym (unlines-fields own))
+    ∙ ap (λ x. unlines own ++ x) (gathered-map line (elementFields (z .attributes)) (reverse (z .before))) in
     let pieces : cut newline (unlines own) ≡ own ++ ([] ∷ []) = cut-unlines own (keep-frees newline isAttribute ls (frees-front newline (cut newline f) (cut-frees newline f))) in
     let fits : length (unlines own) ≤ 16384 = omega (arith, length-append (unlines own) tree, ap length whole, a .size) in
     rw (a .is-policy, short-text (unlines own) fits, read-text headerTests header-numbered (unlines own) own pieces, w .header-read, w .taken (suc (length (z .attributes))), finished-some z (a .some-element), ← whole, short-text f (a .size))

@@ -187,6 +187,13 @@ module _ {A B : Type 0} (f : A → List B) where
       go (inl m) later = (z, List·Memᴰ·head refl, m)
       go (inr m) later = let r = later m in (r .0, List·Memᴰ·tail (r .1), r .2)
 
+-- Numbers that all fail may be skipped
+pub keep-skip : (t : ℕ → Bool) (skip from to size whole : ℕ) → to ≡ from + skip → whole ≡ skip + size → ((n : ℕ) → from ≤ n → n < to → t n ≡ false) → keep t (counting from whole) ≡ keep t (counting to size)
+keep-skip t zero from to size whole e g h = let i : to ≡ from = omega arith in let j : whole ≡ size = omega arith in rw (i, j)
+keep-skip t (suc skip) from to size whole e g h =
+    let i : whole ≡ suc (skip + size) = omega arith in
+    rw (i, h from (omega arith) (omega arith)) (keep-skip t skip (suc from) to size (skip + size) (omega arith) refl (λ n l u. h n (omega arith) u))
+
 -- Numbers that ascend, so that none is there twice
 abbrev pub Ascending : List ℕ → Type 0
 Ascending [] = Unit {0}
