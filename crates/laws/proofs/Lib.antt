@@ -18,6 +18,7 @@ pub mod Answers
 pub mod Clean
 pub mod ReportLines
 pub mod Demand3
+pub mod WrongTools
 pub mod Segments
 pub mod Children
 pub mod Conflicts
