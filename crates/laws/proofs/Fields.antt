@@ -105,7 +105,7 @@ decimal-field n = rw (some-digit (test (ltb n 10)), digits-printable (suc n) n)
     some-digit (failed e) = rw e (snoc-some (digits n (n / 10)) (48 + (n % 10)))
 
 -- The fields of an element
-pub kind-field : (k : Kind) → isField (kindText k) ≡ true
+kind-field : (k : Kind) → isField (kindText k) ≡ true
 kind-field set = refl
 kind-field policy = refl
 kind-field rule = refl

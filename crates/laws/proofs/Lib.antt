@@ -9,6 +9,7 @@ pub mod Targets
 pub mod Bounds
 pub mod Fields
 pub mod Rewritten
+pub mod Reread
 pub mod Requests
 pub mod Striking
 pub mod Trimming

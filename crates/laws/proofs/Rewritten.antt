@@ -38,7 +38,7 @@ depth-again (x ∷ []) h = go (test (between 48 55 x))
     go (failed e) = let bad : 8 ≤ 7 = rw e at h in absurd (omega arith)
 depth-again (x ∷ y ∷ ys) h = absurd (omega arith)
 
-word-again : (k : Kind) (w : Bytes) → isNone (wordOf k w) ≡ false → wordText (orPermit (wordOf k w)) ≡ w
+pub word-again : (k : Kind) (w : Bytes) → isNone (wordOf k w) ≡ false → wordText (orPermit (wordOf k w)) ≡ w
 word-again k w h = go (wordOf k w) refl h
   where
     go : (o : Option Word) → wordOf k w ≡ o → isNone o ≡ false → wordText (orPermit o) ≡ w
@@ -122,7 +122,7 @@ tree-again n s (l ∷ ls) z b h =
     go otherLine e (f2, f) later = contradiction refl (or-false (not (all isField (cut tab l))) true f2 .1)
 
 -- and the attribute lines before them, which the writer reads alike
-abbrev pub only : List Attribute → Sofar
+abbrev only : List Attribute → Sofar
 only attrs = record { attributes = attrs; before = [] }
 
 record Whole (n : ℕ) (attrs : List Attribute) (ls : List Bytes) (z : Sofar) : Type 0 where

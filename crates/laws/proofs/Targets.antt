@@ -27,16 +27,16 @@ names-zero [] = refl
 names-zero (v ∷ vs) = names-zero vs
 
 -- The names of a mask that was read are the names that were read, and the mask is below 2 to the values
-abbrev Named : List Bytes → List Bytes → ℕ → Type 0
-Named vs ns m = (valueNames vs m ≡ ns) × (m < 2 ^ length vs)
+abbrev MaskNames : List Bytes → List Bytes → ℕ → Type 0
+MaskNames vs ns m = (valueNames vs m ≡ ns) × (m < 2 ^ length vs)
 
-mask-names : (vs ns : List Bytes) (m : ℕ) → maskOf vs ns ≡ some m → Named vs ns m
+mask-names : (vs ns : List Bytes) (m : ℕ) → maskOf vs ns ≡ some m → MaskNames vs ns m
 mask-names [] [] m h = let e : 0 ≡ m = cc in (refl, omega arith)
 mask-names [] (n ∷ ns) m h = never cc
 mask-names (v ∷ vs) [] m h = let e : 0 ≡ m = cc in (rw (← e) (names-zero (v ∷ vs)), rw (← e) (pow-pos (suc (length vs))))
 mask-names (v ∷ vs) (n ∷ ns) m h = go (test (same v n)) (mask-names vs ns) (mask-names vs (n ∷ ns))
   where
-    go : Test (same v n) → ((m : ℕ) → maskOf vs ns ≡ some m → Named vs ns m) → ((m : ℕ) → maskOf vs (n ∷ ns) ≡ some m → Named vs (n ∷ ns) m) → Named (v ∷ vs) (n ∷ ns) m
+    go : Test (same v n) → ((m : ℕ) → maskOf vs ns ≡ some m → MaskNames vs ns m) → ((m : ℕ) → maskOf vs (n ∷ ns) ≡ some m → MaskNames vs (n ∷ ns) m) → MaskNames (v ∷ vs) (n ∷ ns) m
     go (passed e) taken passed-by =
         let (k, i, j) = twice-some 1 m (maskOf vs ns) (rw e at h) in
         let (x, y) = taken k i in
