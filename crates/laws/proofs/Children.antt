@@ -9,15 +9,16 @@ use mathlib.Core.Option.{Option, none, some}
 use lib.ListN.{length, drop, length-drop}
 use lib.Dec.{leb, eqb, isEq, isLe}
 use borrow.Author.Tests.{leb-true, leb-false, eqb-true, eqb-false, eq-eqb, ne-eqb, not-false}
-use Rattle.laws.proofs.Types.{Kind, Decision, Element}
+use Rattle.laws.proofs.Types.{Kind, Element}
 use Rattle.meaning.specs.Text.{Bytes, empty, front, cut, newline, keep, counting}
 use Rattle.meaning.specs.Model.{Policy, given}
 use Rattle.meaning.specs.Reading.{Line, attributeLine, treeLine, otherLine, elementOf, Sofar, parentHolds, wellPlaced, lineTests, extended, nothing, read}
-use Rattle.meaning.specs.Deciding.{reply, childReplies, firstDecision}
+use Rattle.meaning.specs.Deciding.{Reply, reply, childReplies}
 use Rattle.meaning.specs.Segments.{depthAt, parentOf, isPlace, places, childrenOf}
+use Rattle.meaning.specs.Claims.{Rising, replyOf}
 use Rattle.laws.proofs.Bools.{Test, passed, failed, test, contradiction, eqb-same, or-false, and-true}
 use Rattle.laws.proofs.Reading.{PassesLine, line-numbered, lines-keep, accepted}
-use Rattle.laws.proofs.Search.{last-some, last-is, counting-has, counting-only, keep-has, keep-only, keep-none, keep-skip, Ascending, counting-ascending, keep-ascending}
+use Rattle.laws.proofs.Search.{last-some, last-is, counting-has, counting-only, keep-has, keep-only, keep-none, keep-skip, counting-rising, keep-rising}
 
 -- Children: the places of the file that have a parent
 abbrev child : List Element → ℕ → ℕ → Bool
@@ -44,9 +45,9 @@ pub child-has : (es : List Element) (i j : ℕ) → j < length es → parentOf e
 unfolding childrenOf
 child-has es i j l e = keep-has (child es i) j (counting-has 0 (length es) j zero-le (omega arith)) (rw (e, eqb-same i))
 
-pub children-ascending : (es : List Element) (i : ℕ) → Ascending (childrenOf es i)
+pub children-rising : (es : List Element) (i : ℕ) → Rising (childrenOf es i)
 unfolding childrenOf
-children-ascending es i = keep-ascending (child es i) (places es) (counting-ascending 0 (length es))
+children-rising es i = keep-rising (child es i) (places es) (counting-rising 0 (length es))
 
 -- a parent stands before its child and is one less deep
 abbrev parents : List Element → ℕ → ℕ → Bool
@@ -118,13 +119,13 @@ drop-next [] (suc j) e rs h = absurd (nil≢cons h)
 drop-next (x ∷ xs) zero e rs h = let i : x ≡ e = cc in (cc, ap (λ e. e .depth) i)
 drop-next (x ∷ xs) (suc j) e rs h = drop-next xs j e rs h
 
--- What the children of place i reply in the walk over some elements, and what is decided at some places
+-- What the children of place i reply in the walk over some elements, and what those at some places reply
 module _ (es : List Element) (hit : Element → Bool) where
-  abbrev replied : ℕ → List Element → List Decision
-  replied i rest = map (λ r. r .decision) (childReplies hit (suc (depthAt es i)) rest)
+  abbrev replied : ℕ → List Element → List (Option Reply)
+  replied i rest = map some (childReplies hit (suc (depthAt es i)) rest)
 
-  abbrev decided : List ℕ → List Decision
-  decided js = map (λ j. firstDecision hit (drop j es)) js
+  abbrev askedAt : List ℕ → List (Option Reply)
+  askedAt js = map (λ j. replyOf hit (drop j es)) js
 
 -- Of elements whose depths step so
 module _ (es : List Element) (steps : Stepping es) where
@@ -162,7 +163,7 @@ module _ (es : List Element) (steps : Stepping es) where
   -- The walk over the elements behind place i, from place j on
   module _ (hit : Element → Bool) (i : ℕ) where
     asked : (rest : List Element) (j : ℕ) → drop j es ≡ rest → i < j → ((m : ℕ) → i < m → m < j → depthAt es i < depthAt es m)
-        → replied es hit i rest ≡ decided es hit (keep (child es i) (counting j (length rest)))
+        → replied es hit i rest ≡ askedAt es hit (keep (child es i) (counting j (length rest)))
     asked [] j dr l deeper = refl
     asked (e ∷ rs) j dr l deeper = go (compare (e .depth) (suc (depthAt es i))) refl (λ d. asked rs (suc j) (drop-next es j e rs dr .0) (omega arith) (λ m a b. still d m a b (test (eqb m j))))
       where
@@ -182,28 +183,28 @@ module _ (es : List Element) (steps : Stepping es) where
             omega (arith, at-j, deeper-between i k j h (omega arith) l (omega arith))
 
         go : (o : Ordering) → compare (e .depth) (suc (depthAt es i)) ≡ o
-            → (depthAt es i < e .depth → replied es hit i rs ≡ decided es hit (keep (child es i) (counting (suc j) (length rs))))
-            → replied es hit i (e ∷ rs) ≡ decided es hit (keep (child es i) (counting j (suc (length rs))))
+            → (depthAt es i < e .depth → replied es hit i rs ≡ askedAt es hit (keep (child es i) (counting (suc j) (length rs))))
+            → replied es hit i (e ∷ rs) ≡ askedAt es hit (keep (child es i) (counting j (suc (length rs))))
         go Ordering·lt o later =
             let other : e .depth ≢ suc (depthAt es i) = eqb-false (e .depth) (suc (depthAt es i)) (ap isEq o) in
             let low : e .depth ≤ depthAt es i = omega (arith, leb-true (e .depth) (suc (depthAt es i)) (ap isLe o)) in
             let ends = keep-none (child es i) (counting j (suc (length rs)))
             (λ k m. let r = counting-only j (suc (length rs)) k m in no-child es i k (none-later low k (r .0) (r .1) (test (eqb k j)))) in
-            rw o (sym (ap (decided es hit) ends))
+            rw o (sym (ap (askedAt es hit) ends))
         go Ordering·eq o later =
             let d : e .depth ≡ suc (depthAt es i) = eqb-true (e .depth) (suc (depthAt es i)) (ap isEq o) in
             let mine : parentOf es j ≡ some i = parent-is es i j l (at-j ∙ d) deeper in
-            let here : firstDecision hit (drop j es) ≡ reply hit e (childReplies hit (suc (suc (depthAt es i))) rs) .decision =
-            ap (firstDecision hit) dr ∙ ap (λ n. reply hit e (childReplies hit (suc n) rs) .decision) d in
+            let here : replyOf hit (drop j es) ≡ some (reply hit e (childReplies hit (suc (suc (depthAt es i))) rs)) =
+            ap (replyOf hit) dr ∙ ap (λ n. some (reply hit e (childReplies hit (suc n) rs))) d in
             rw (o, mine, eqb-same i) (ap₂ (λ x xs. x ∷ xs) (sym here) (later (omega arith)))
         go Ordering·gt o later =
             let high : suc (depthAt es i) < e .depth = leb-false (e .depth) (suc (depthAt es i)) (ap isLe o) in
             rw (o, no-child es i j (λ h. omega (arith, at-j, parent-depth es i j h)), later (omega arith))
 
 pub children-asked : (es : List Element) → Stepping es → (hit : Element → Bool) (i : ℕ) → i < length es
-    → map (λ r. r .decision) (childReplies hit (suc (depthAt es i)) (drop (suc i) es)) ≡ map (λ j. firstDecision hit (drop j es)) (childrenOf es i)
+    → map some (childReplies hit (suc (depthAt es i)) (drop (suc i) es)) ≡ map (λ j. replyOf hit (drop j es)) (childrenOf es i)
 unfolding childrenOf
 children-asked es steps hit i l =
     let skip = keep-skip (child es i) (suc i) 0 (suc i) (length (drop (suc i) es)) (length es) (omega arith) (omega (arith, length-drop (suc i) es))
     (λ n a b. no-child es i n (λ h. omega (arith, parent-before es i n h))) in
-    asked es steps hit i (drop (suc i) es) (suc i) refl (omega arith) (λ m a b. absurd (omega arith)) ∙ sym (ap (decided es hit) skip)
+    asked es steps hit i (drop (suc i) es) (suc i) refl (omega arith) (λ m a b. absurd (omega arith)) ∙ sym (ap (askedAt es hit) skip)

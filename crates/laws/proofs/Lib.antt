@@ -2,6 +2,7 @@
 pub mod Types
 pub mod Bools
 pub mod Search
+pub mod Outcomes
 pub mod Text
 pub mod Reading
 pub mod Lines
@@ -22,4 +23,6 @@ pub mod Demand3
 pub mod WrongTools
 pub mod Segments
 pub mod Children
+pub mod Parents
 pub mod Conflicts
+pub mod Promises

@@ -3,7 +3,7 @@ use mathlib.Core.Path.{_≡_, refl, sym, ap, _∙_, subst, subst⁻¹}
 use Prim.Native.Nat.{ℕ, suc, _+_, _-_, _≤_}
 use native.Mathlib.Omega.{arith}
 use mathlib.Core.Bool.{true, false, not}
-use mathlib.Core.List.{List, [], _∷_, _++_, map, reverse}
+use mathlib.Core.List.{append-cancel-right, List, [], _∷_, _++_, map, reverse}
 use mathlib.Core.Option.{some}
 use lib.ListN.{length, take, drop, replicate, take-append-drop, length-drop}
 use lib.Seq.{length-take-le}
@@ -15,7 +15,7 @@ use Rattle.meaning.specs.Model.{Attribute, padded, nameOf, Policy, refused, giv
 use Rattle.meaning.specs.Reading.{Line, attributeLine, treeLine, otherLine, lineOf, spelled, depthOf, wordOf, masksOf, orPermit, elementOf, Sofar, nonZero, badMasks, elementTests, lineTests, lowest, wrongFields, withElement, extended, readLines, nothing, readText, short, finished, read}
 use Rattle.meaning.specs.Report.{fitted}
 use Rattle.meaning.specs.Writing.{headerTests, readElements, targetTexts, elementFields, writeFile}
-use Rattle.meaning.specs.Claims.{All, GoodAttribute, Shaped, GoodElement, RoundTrips}
+use Rattle.meaning.specs.Claims.{attributeLines, All, GoodAttribute, Shaped, GoodElement, RoundTrips}
 use Rattle.laws.proofs.Bools.{Test, passed, failed, test, contradiction, or-false, and-true}
 use Rattle.laws.proofs.Text.{Frees, cut-frees, cut-join, join-free, frees-append}
 use Rattle.laws.proofs.Reading.{refused-given, given-given, step-then, step-unless, Passes, lowest-zero, element-numbered, line-numbered, PassesLine, read-step, read-step⁻, lines-keep, ReadText, text-read, short-given, policyOf, finished-given, read-lines}
@@ -23,7 +23,7 @@ use Rattle.laws.proofs.Lines.{tree-line, unlines, unlines-append, text-
 use Rattle.laws.proofs.Targets.{mask-read}
 use Rattle.laws.proofs.Bounds.{Good, nothing-good, element-good, named, masks-good, header-numbered, header-good}
 use Rattle.laws.proofs.Fields.{digit, fields-free, element-fields}
-use Rattle.laws.proofs.Rewritten.{word-again, treeText, elements-taken, rewritten}
+use Rattle.laws.proofs.Rewritten.{file-text, word-again, treeText, elements-taken, rewritten}
 
 -- A depth and a word, read again
 depth-back : (d : ℕ) → d ≤ 7 → depthOf (decimal d) ≡ d
@@ -206,8 +206,8 @@ lines-free : (attrs : List Attribute) (es : List Element) → All GoodAttribute 
 lines-free attrs [] g h = tt
 lines-free attrs (e ∷ es) g h = (join-free newline tab (elementFields attrs e) refl (fields-free newline (elementFields attrs e) refl (element-fields attrs e g (h .0))), lines-free attrs es g (h .1))
 
--- Elements written and read again are the same elements
-written-reread : (header t : Bytes) (es : List Element) → All Shaped es → Writes header es t → (read t then λ p. given (p .elements)) ≡ given es
+-- Elements written and read again are the same elements, behind the same attribute lines
+written-reread : (header t : Bytes) (es : List Element) → All Shaped es → Writes header es t → ((read t then λ p. given (p .elements)) ≡ given es) × (attributeLines t ≡ header)
 written-reread header t es shaped w =
     let own = front (cut newline header) in
     let s = w .start in
@@ -224,11 +224,11 @@ written-reread header t es shaped w =
     let free : Frees newline (own ++ more) = frees-append newline own more (frees-front newline (cut newline header) (cut-frees newline header)) (lines-free (s .attributes) es (g .attributes-good) (back .elements-good)) in
     let (n, header-again) = header-back 1 nothing own s more header-lines in
     let is-read : read t ≡ given (policyOf z) = read-lines t (own ++ more) z (w .size) (ap (cut newline) whole ∙ cut-unlines (own ++ more) free) (header-again ∙ back .lines-read n) (w .some-element) in
-    rw is-read (ap given same-elements)
+    (rw is-read (ap given same-elements), append-cancel-right (attributeLines t) header (treeText (z .attributes) (reverse (z .before))) (sym (file-text t (policyOf z) is-read) ∙ sym (w .text)))
 
-pub reread : (room : ℕ) (header t : Bytes) (es : List Element) → All Shaped es → writeFile room header es ≡ given t → (read t then λ p. given (p .elements)) ≡ given es
+pub reread : (room : ℕ) (header t : Bytes) (es : List Element) → All Shaped es → writeFile room header es ≡ given t → ((read t then λ p. given (p .elements)) ≡ given es) × (attributeLines t ≡ header)
 reread room header t es shaped h = written-reread header t es shaped (writes room header es t h)
 
--- Demand 2, both ways
+-- Both ways
 pub round-trips : RoundTrips
 round-trips = record { rewritten = rewritten; reread = reread }

@@ -179,6 +179,19 @@ file-fields f p h =
     whole-again 1 [] (front (cut newline f)) (a .sofar) (a .text .lines-read) .fields-same
     ∙ ap (λ q. map (cut tab) (keep isAttribute (front (cut newline f))) ++ map (elementFields (q .attributes)) (q .elements)) (sym (a .is-policy))
 
+-- and so are its bytes
+pub file-text : (f : Bytes) (p : Policy) → read f ≡ given p → f ≡ attributeLines f ++ treeText (p .attributes) (p .elements)
+file-text f p h =
+    let ls = front (cut newline f) in
+    let own = keep isAttribute ls in
+    let tree = map (elementFields (p .attributes)) (p .elements) in
+    text-unlines f ls (accepted f p h .text .pieces)
+    ∙ unlines-fields ls
+    ∙ ap (gathered line) (file-fields f p h)
+    ∙ gathered-append line (map (cut tab) own) tree
+    ∙ ap (λ x. x ++ gathered line tree) (sym (unlines-fields own))
+    ∙ ap (λ x. unlines own ++ x) (gathered-map line (elementFields (p .attributes)) (p .elements))
+
 -- A file read and written again has the same bytes
 keep-frees : (b : ℕ) (t : Bytes → Bool) (ps : List Bytes) → Frees b ps → Frees b (keep t ps)
 keep-frees b t [] f = tt
@@ -188,20 +201,17 @@ keep-frees b t (p ∷ ps) f = go (test (t p)) (keep-frees b t ps (f .1))
     go (passed e) later = rw e (f .0, later)
     go (failed e) later = rw e later
 
-whole-written : (f : Bytes) (p : Policy) (a : Accepted f p (front (cut newline f))) → Whole 1 [] (front (cut newline f)) (a .sofar) → (room : ℕ) → writeFile room (attributeLines f) (p .elements) ≡ fitted room f
+whole-written : (f : Bytes) (p : Policy) (a : Accepted f p (front (cut newline f))) → Whole 1 [] (front (cut newline f)) (a .sofar) → f ≡ attributeLines f ++ treeText (p .attributes) (p .elements)
+    → (room : ℕ) → writeFile room (attributeLines f) (p .elements) ≡ fitted room f
 unfolding writeFile
-whole-written f p a w room =
+whole-written f p a w text room =
     let ls = front (cut newline f) in
     let own = keep isAttribute ls in
     let z = a .sofar in
-    let tree = treeText (z .attributes) (reverse (z .before)) in
-    let whole : f ≡ unlines own ++ tree =
-    text-unlines f ls (a .text .pieces) ∙ unlines-fields ls ∙ ap (gathered line) (w .fields-same)
-    ∙ gathered-append line (map (cut tab) own) (map (elementFields (z .attributes)) (reverse (z .before))) ∙ ap (λ x. x ++ gathered line (map (elementFields (z .attributes)) (reverse (z .before)))) (sym (unlines-fields own))
-    ∙ ap (λ x. unlines own ++ x) (gathered-map line (elementFields (z .attributes)) (reverse (z .before))) in
+    let whole : f ≡ unlines own ++ treeText (z .attributes) (reverse (z .before)) = subst (λ q. f ≡ unlines own ++ treeText (q .attributes) (q .elements)) (a .is-policy) text in
     let pieces : cut newline (unlines own) ≡ own ++ ([] ∷ []) = cut-unlines own (keep-frees newline isAttribute ls (frees-front newline (cut newline f) (cut-frees newline f))) in
-    let fits : length (unlines own) ≤ 16384 = omega (arith, length-append (unlines own) tree, ap length whole, a .size) in
+    let fits : length (unlines own) ≤ 16384 = omega (arith, length-append (unlines own) (treeText (z .attributes) (reverse (z .before))), ap length whole, a .size) in
     rw (a .is-policy, short-text (unlines own) fits, read-text headerTests header-numbered (unlines own) own pieces, w .header-read, w .taken (suc (length (z .attributes))), finished-some z (a .some-element), ← whole, short-text f (a .size))
 
 pub rewritten : (f : Bytes) (p : Policy) → read f ≡ given p → (room : ℕ) → writeFile room (attributeLines f) (p .elements) ≡ fitted room f
-rewritten f p h = let a = accepted f p h in whole-written f p a (whole-again 1 [] (front (cut newline f)) (a .sofar) (a .text .lines-read))
+rewritten f p h = let a = accepted f p h in whole-written f p a (whole-again 1 [] (front (cut newline f)) (a .sofar) (a .text .lines-read)) (file-text f p h)

@@ -9,7 +9,7 @@ use mathlib.Core.Option.{Option, none, some}
 use lib.Dec.{ltb, eqb}
 use borrow.Author.Tests.{ltb-true, ltb-false, eqb-true, eqb-false}
 use Rattle.meaning.specs.Text.{any, keep, gathered, counting, firstFrom, lastBelow}
-use Rattle.meaning.specs.Claims.{Distinct}
+use Rattle.meaning.specs.Claims.{Distinct, Rising}
 use Rattle.laws.proofs.Bools.{Test, passed, failed, test, contradiction, or-true}
 
 pub none-some {ℓ} : {A : Type 0} {B : Type ℓ} {a : A} → none ≡ some a → B
@@ -194,23 +194,19 @@ keep-skip t (suc skip) from to size whole e g h =
     let i : whole ≡ suc (skip + size) = omega arith in
     rw (i, h from (omega arith) (omega arith)) (keep-skip t skip (suc from) to size (skip + size) (omega arith) refl (λ n l u. h n (omega arith) u))
 
--- Numbers that ascend, so that none is there twice
-abbrev pub Ascending : List ℕ → Type 0
-Ascending [] = Unit {0}
-Ascending (x ∷ xs) = ((y : ℕ) → List·Memᴰ y xs → x < y) × Ascending xs
+-- Numbers that rise, so that none is there twice
+pub counting-rising : (from size : ℕ) → Rising (counting from size)
+counting-rising from zero = tt
+counting-rising from (suc k) = (λ y m. counting-only (suc from) k y m .0, counting-rising (suc from) k)
 
-pub counting-ascending : (from size : ℕ) → Ascending (counting from size)
-counting-ascending from zero = tt
-counting-ascending from (suc k) = (λ y m. counting-only (suc from) k y m .0, counting-ascending (suc from) k)
-
-pub keep-ascending : (t : ℕ → Bool) (xs : List ℕ) → Ascending xs → Ascending (keep t xs)
-keep-ascending t [] a = tt
-keep-ascending t (x ∷ xs) a = go (test (t x)) (keep-ascending t xs (a .1))
+pub keep-rising : (t : ℕ → Bool) (xs : List ℕ) → Rising xs → Rising (keep t xs)
+keep-rising t [] a = tt
+keep-rising t (x ∷ xs) a = go (test (t x)) (keep-rising t xs (a .1))
   where
-    go : Test (t x) → Ascending (keep t xs) → Ascending (keep t (x ∷ xs))
+    go : Test (t x) → Rising (keep t xs) → Rising (keep t (x ∷ xs))
     go (passed e) later = rw e (λ y m. a .0 y (keep-only t y xs m .0), later)
     go (failed e) later = rw e later
 
-pub ascending-distinct : (xs : List ℕ) → Ascending xs → Distinct xs
-ascending-distinct [] a = tt
-ascending-distinct (x ∷ xs) a = (λ m. let l = a .0 x m in omega arith, ascending-distinct xs (a .1))
+pub rising-distinct : (xs : List ℕ) → Rising xs → Distinct xs
+rising-distinct [] a = tt
+rising-distinct (x ∷ xs) a = (λ m. let l = a .0 x m in omega arith, rising-distinct xs (a .1))

@@ -8,38 +8,18 @@ use mathlib.Core.List.{List, [], _∷_, _++_}
 use mathlib.Core.Option.{Option, none, some}
 use lib.ListN.{length, getD}
 use lib.Dec.{leb}
-use borrow.Author.Tests.{not-false, not-true, eqb-true, leb-true, leb-false}
+use borrow.Author.Tests.{not-false, not-true, leb-true, leb-false}
 use Rattle.meaning.specs.Text.{Bytes, isNone, without}
 use Rattle.meaning.specs.Model.{Policy, space, given}
 use Rattle.meaning.specs.Reading.{read}
-use Rattle.meaning.specs.Deciding.{decisionNumber, Outcome, sameOutcome, outcome}
+use Rattle.meaning.specs.Deciding.{Outcome, sameOutcome, outcome}
 use Rattle.meaning.specs.Trimming.{lines, ruleLine, isRuleLine, nameAt, strike, firstChanged, firstChange, needless, nextStruck, trimming, trimmed}
 use Rattle.meaning.specs.Claims.{Alike, Needless, Trims, none-left, last-struck, FirstChange}
-use Rattle.laws.proofs.Types.{Decision, not-applicable, indeterminate}
-use Rattle.laws.proofs.Bools.{Test, passed, failed, test, contradiction, and-true, eqb-same}
+use Rattle.laws.proofs.Bools.{Test, passed, failed, test, contradiction, and-true}
+use Rattle.laws.proofs.Outcomes.{same-outcome, outcome-same}
 use Rattle.laws.proofs.Search.{first-some, first-none, first-absent, last-some, last-none, last-absent}
 use Rattle.laws.proofs.Reading.{given-given}
 use Rattle.laws.proofs.Striking.{strike-without, strike-read}
-
--- Outcomes that are the same
-byNumber : ℕ → Decision
-byNumber zero = Decision.Permit
-byNumber (suc zero) = Decision.Deny
-byNumber (suc (suc zero)) = not-applicable
-byNumber (suc (suc (suc n))) = indeterminate
-
-by-number : (d : Decision) → byNumber (decisionNumber d) ≡ d
-unfolding byNumber
-by-number Decision.Permit = refl
-by-number Decision.Deny = refl
-by-number not-applicable = refl
-by-number indeterminate = refl
-
-pub same-outcome : (d e : Outcome) → sameOutcome d e ≡ true → d ≡ e
-same-outcome d e h = sym (by-number d) ∙ ap byNumber (eqb-true (decisionNumber d) (decisionNumber e) h) ∙ by-number e
-
-pub outcome-same : (d : Outcome) → sameOutcome d d ≡ true
-outcome-same d = eqb-same (decisionNumber d)
 
 -- Requests that are changed from one policy to another
 differs-false : (d e : Outcome) → not (sameOutcome d e) ≡ false → e ≡ d
