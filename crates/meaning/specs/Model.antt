@@ -26,7 +26,8 @@ pub record Policy : Type 0 where
   pub attributes : List Attribute
   pub elements : List Element
 
--- The space: the product of the value counts
+-- The space: the product of the value counts. What an attribute counts in it has a name of its own, for later kinds of
+-- attributes
 abbrev pub choices : Attribute → ℕ
 choices a = length (a .values)
 

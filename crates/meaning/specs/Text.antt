@@ -93,7 +93,7 @@ same [] (y ∷ ys) = false
 same (x ∷ xs) [] = false
 same (x ∷ xs) (y ∷ ys) = eqb x y && same xs ys
 
--- Names that are equal
+-- Names that are equal: apart from `same`, so that names can come to be compared otherwise than other texts
 abbrev pub sameName : Bytes → Bytes → Bool
 sameName m n = same m n
 

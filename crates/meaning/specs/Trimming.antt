@@ -9,6 +9,7 @@ use Rattle.meaning.specs.Model.{Policy, space, Result, refused, given}
 use Rattle.meaning.specs.Reading.{read}
 use Rattle.meaning.specs.Deciding.{sameOutcome, outcome}
 
+-- what newlines part: behind the last newline of an accepted file stands an empty piece
 abbrev pub lines : Bytes → List Bytes
 lines f = cut newline f
 

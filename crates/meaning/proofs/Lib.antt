@@ -1,0 +1,3 @@
+-- The paper's cases, computed.
+pub mod Cases
+pub mod Rows
