@@ -1,0 +1,64 @@
+-- Walks over the bytes of texts.
+use mathlib.Core.Path.{_≡_, refl, ap}
+use mathlib.Core.Bool.{Bool, true, false, and-false, and-true}
+use mathlib.Core.List.{[], _∷_}
+use Prim.Native.Nat.{ℕ, suc, _+_, _≤_, _<_}
+use native.Mathlib.Omega.{arith}
+use lib.ListN.{length, getD, drop, drop-of-length-le}
+use lib.Dec.{eqb}
+use borrow.Author.Tests.{le-leb, lt-leb, eq-eqb, ne-eqb}
+use Rattle.meaning.specs.Text.{Bytes, all, between, same, isField, nameByte, isName}
+use Rattle.text.proofs.Pieces.{drop-next}
+
+-- Two texts from a position on
+module _ (a b : Bytes) (i : ℕ) where
+  pub same-end : length a ≤ i → length b ≤ i → same (drop i a) (drop i b) ≡ true
+  same-end h k = rw (drop-of-length-le a h, drop-of-length-le b k)
+
+  pub same-fail : i < length a → i < length b → (getD a i 0 ≡ getD b i 0 → ⊥) → same (drop i a) (drop i b) ≡ false
+  same-fail h k n = rw (drop-next a i h, drop-next b i k, ne-eqb _ _ n)
+
+  pub same-pass : i < length a → i < length b → getD a i 0 ≡ getD b i 0 → same (drop i a) (drop i b) ≡ same (drop (i + 1) a) (drop (i + 1) b)
+  same-pass h k e = rw (drop-next a i h, drop-next b i k, eq-eqb _ _ e)
+
+pub same-length : (a b : Bytes) → (length a ≡ length b → ⊥) → same a b ≡ false
+same-length [] [] n = absurd (n refl)
+same-length [] (y ∷ b) n = refl
+same-length (x ∷ a) [] n = refl
+same-length (x ∷ a) (y ∷ b) n = rw (same-length a b (λ e. n (ap suc e)), and-false)
+
+-- A test of every byte from a position on
+module _ (t : ℕ → Bool) (s : Bytes) (i : ℕ) where
+  pub all-end : length s ≤ i → all t (drop i s) ≡ true
+  all-end h = rw (drop-of-length-le s h)
+
+  pub all-fail : i < length s → t (getD s i 0) ≡ false → all t (drop i s) ≡ false
+  all-fail h e = rw (drop-next s i h, e)
+
+  pub all-pass : i < length s → t (getD s i 0) ≡ true → all t (drop i s) ≡ all t (drop (i + 1) s)
+  all-pass h e = rw (drop-next s i h, e)
+
+-- What is a name by its length and its first byte
+pub name-short : (s : Bytes) → length s < 1 → isName s ≡ false
+name-short [] h = refl
+name-short (x ∷ s) h = absurd (omega arith)
+
+pub name-long : (s : Bytes) → 16 < length s → isName s ≡ false
+name-long s h = rw (lt-leb (length s) 16 h, and-false)
+
+pub name-hyphen : (s : Bytes) → 1 ≤ length s → getD s 0 0 ≡ 45 → isName s ≡ false
+name-hyphen [] h e = absurd (omega arith)
+name-hyphen (x ∷ s) h e = rw (eq-eqb x 45 e, and-false)
+
+pub name-by-bytes : (s : Bytes) → 1 ≤ length s → length s ≤ 16 → (getD s 0 0 ≡ 45 → ⊥) → isName s ≡ all nameByte s
+name-by-bytes [] h k n = absurd (omega arith)
+name-by-bytes (x ∷ s) h k n = simp (le-leb 1 (length (x ∷ s)) h, le-leb (length (x ∷ s)) 16 k, ne-eqb x 45 n, and-true)
+
+-- What is a field by its length
+pub field-empty : (s : Bytes) → length s < 1 → isField s ≡ false
+field-empty [] h = refl
+field-empty (x ∷ s) h = absurd (omega arith)
+
+pub field-by-bytes : (s : Bytes) → 1 ≤ length s → isField s ≡ all (between 33 126) s
+field-by-bytes [] h = absurd (omega arith)
+field-by-bytes (x ∷ s) h = refl

@@ -1,0 +1,237 @@
+// Bytes of a text: pieces, names and fields.
+ghost use mathlib.Core.Path.{_≡_};
+ghost use mathlib.Core.Bool.{not, cond};
+ghost use mathlib.Core.List.{[]};
+ghost use Prim.Native.Nat.{ℕ, _+_, _≤_, _<_};
+ghost use lib.ListN.{length, drop, getD};
+ghost use Rattle.meaning.specs.Text.{all, between, same, amongNames, repeated, cut, tab, isField, nameByte, isName};
+ghost use Rattle.meaning.specs.Deciding.{valueOf};
+ghost use Rattle.text.specs.Places.{foundOf};
+
+// Where the piece that starts at `at` ends: the place of the next `sep`, or the length.
+pub fn end_of(s: &[u8], at: usize, sep: u8) -> usize
+    requires { ⌜ at ≤ length (now s) ⌝ }
+    ensures { λ r. ⌜ r ≡ at + length (getD (cut sep (drop at (now (s .entry)))) 0 []) ⌝ }
+    ensures within { λ r. ⌜ (at ≤ r) × (r ≤ length (now (s .entry))) ⌝ }
+{
+    let mut i = at;
+    while i < s.len() {
+        if s[i] == sep {
+            return i;
+        }
+        i += 1;
+    }
+    i
+}
+
+// Whether two texts are equal byte for byte.
+pub fn same(a: &[u8], b: &[u8]) -> bool
+    ensures { λ r. ⌜ r ≡ same (now (a .entry)) (now (b .entry)) ⌝ }
+{
+    if a.len() != b.len() {
+        return false;
+    }
+    let mut i = 0;
+    while i < a.len() {
+        if a[i] != b[i] {
+            return false;
+        }
+        i += 1;
+    }
+    true
+}
+
+fn name_byte(b: u8) -> bool
+    ensures { λ r. ⌜ r ≡ nameByte b ⌝ }
+{
+    if 97 <= b {
+        return b <= 122;
+    }
+    if 48 <= b {
+        return b <= 57;
+    }
+    b == 45
+}
+
+// Whether a text is a name: its length and first byte first, then every byte.
+pub fn is_name(s: &[u8]) -> bool
+    ensures { λ r. ⌜ r ≡ isName (now (s .entry)) ⌝ }
+{
+    if s.len() < 1 {
+        return false;
+    }
+    if 16 < s.len() {
+        return false;
+    }
+    if s[0] == b'-' {
+        return false;
+    }
+    let mut i = 0;
+    while i < s.len() {
+        if !name_byte(s[i]) {
+            return false;
+        }
+        i += 1;
+    }
+    true
+}
+
+fn field_byte(b: u8) -> bool
+    ensures { λ r. ⌜ r ≡ between 33 126 b ⌝ }
+{
+    if b < 33 {
+        return false;
+    }
+    b <= 126
+}
+
+// Whether a text is a field: one or more visible bytes.
+pub fn is_field(f: &[u8]) -> bool
+    ensures { λ r. ⌜ r ≡ isField (now (f .entry)) ⌝ }
+{
+    if f.len() < 1 {
+        return false;
+    }
+    let mut i = 0;
+    while i < f.len() {
+        if !field_byte(f[i]) {
+            return false;
+        }
+        i += 1;
+    }
+    true
+}
+
+// How many fields a line has, or 0 where one of them is empty or has another byte. One pass over the bytes.
+pub fn count_fields(line: &[u8]) -> usize
+    ensures { λ r. ⌜ r ≡ cond (all isField (cut tab (now (line .entry)))) (length (cut tab (now (line .entry)))) 0 ⌝ }
+    ensures few { λ r. ⌜ r ≤ length (now (line .entry)) + 1 ⌝ }
+{
+    let mut ended = 0;
+    // the field at hand has no byte yet
+    let mut fresh = true;
+    let mut i = 0;
+    while i < line.len() {
+        let b = line[i];
+        if b == b'\t' {
+            if fresh {
+                return 0;
+            }
+            ended += 1;
+            fresh = true;
+            i += 1;
+            continue;
+        }
+        if !field_byte(b) {
+            return 0;
+        }
+        fresh = false;
+        i += 1;
+    }
+    if fresh {
+        return 0;
+    }
+    ended + 1
+}
+
+// Field k of a line, or an empty text where it has fewer.
+pub fn field(line: &[u8], k: usize) -> &[u8]
+    ensures { λ r. ⌜ now r ≡ getD (cut tab (now (line .entry))) k [] ⌝ }
+{
+    let mut at = 0;
+    let mut n = 0;
+    loop {
+        let e = end_of(line, at, b'\t');
+        if n == k {
+            return &line[at..e];
+        }
+        if e == line.len() {
+            return &line[0..0];
+        }
+        at = e + 1;
+        n += 1;
+    }
+}
+
+// A line from its field k on.
+pub fn from_field(line: &[u8], k: usize) -> &[u8]
+    requires { ⌜ k < length (cut tab (now line)) ⌝ }
+    ensures { λ r. ⌜ cut tab (now r) ≡ drop k (cut tab (now (line .entry))) ⌝ }
+{
+    let mut at = 0;
+    let mut n = 0;
+    while n < k {
+        at = end_of(line, at, b'\t') + 1;
+        n += 1;
+    }
+    &line[at..]
+}
+
+// Whether every field is a name.
+pub fn all_names(fields: &[u8]) -> bool
+    ensures { λ r. ⌜ r ≡ all isName (cut tab (now (fields .entry))) ⌝ }
+{
+    let mut at = 0;
+    loop {
+        let e = end_of(fields, at, b'\t');
+        if !is_name(&fields[at..e]) {
+            return false;
+        }
+        if e == fields.len() {
+            return true;
+        }
+        at = e + 1;
+    }
+}
+
+pub enum Found {
+    At(usize),
+    Nothing,
+}
+
+// The place, from 0, of the first field that has this name.
+pub fn find(fields: &[u8], name: &[u8]) -> Found
+    ensures { λ r. ⌜ r ≡ foundOf (valueOf 0 (now (name .entry)) (cut tab (now (fields .entry)))) ⌝ }
+    ensures within { λ r. ⌜ ((v : ℕ) → r ≡ Found.At v → v < length (cut tab (now (fields .entry)))) ⌝ }
+{
+    let mut at = 0;
+    let mut n = 0;
+    loop {
+        let e = end_of(fields, at, b'\t');
+        if same(name, &fields[at..e]) {
+            return Found::At(n);
+        }
+        if e == fields.len() {
+            return Found::Nothing;
+        }
+        at = e + 1;
+        n += 1;
+    }
+}
+
+fn has(fields: &[u8], name: &[u8]) -> bool
+    ensures { λ r. ⌜ r ≡ amongNames (now (name .entry)) (cut tab (now (fields .entry))) ⌝ }
+{
+    match find(fields, name) {
+        Found::At(_) => true,
+        Found::Nothing => false,
+    }
+}
+
+// Whether no field stands twice.
+pub fn all_distinct(fields: &[u8]) -> bool
+    ensures { λ r. ⌜ r ≡ not (repeated (cut tab (now (fields .entry)))) ⌝ }
+{
+    let mut at = 0;
+    loop {
+        let e = end_of(fields, at, b'\t');
+        if e == fields.len() {
+            return true;
+        }
+        let next = e + 1;
+        if has(&fields[next..], &fields[at..e]) {
+            return false;
+        }
+        at = next;
+    }
+}
