@@ -97,7 +97,7 @@ field-read vs f m h = go (test (same f (bytes "*")))
         }
 
 -- A mask, written and read again
-mask-nil : (vs : List Bytes) → maskOf vs [] ≡ some 0
+pub mask-nil : (vs : List Bytes) → maskOf vs [] ≡ some 0
 mask-nil [] = refl
 mask-nil (v ∷ vs) = refl
 

@@ -1,0 +1,93 @@
+-- `Request::matches`: the attributes looked at so far are in their masks. Assumes nothing.
+use Prim.Native.Nat.{_-_, _≤_}
+use mathlib.Core.Path.{_≡_, sym, _∙_}
+use mathlib.Core.Bool.{true, false}
+use native.Mathlib.Omega.{arith}
+use borrow.Author.Needs.{needs}
+use borrow.Author.Tests.{not-true, not-false}
+use lib.ListN.{length, take, drop}
+use Rattle.meaning.specs.Deciding.{within}
+use Rattle.requests.proofs.Targets.{withinFrom, within-more, within-all}
+use Rattle.requests.proofs.Request.matches.Statement.{statement}
+use Rattle.requests.proofs.Request.matches.Tie as tie
+
+abbrev Inv-loop : tie.InvT-loop
+Inv-loop masks at values len i₀ i = (i ≤ len) × (within (take 6 (drop at masks)) (take len values) ≡ withinFrom at len i masks values)
+
+abbrev μ-loop : tie.MeasureT-loop
+μ-loop masks at values len i₀ i = len - i
+
+loop-holds : tie.Need-loop-holds Inv-loop μ-loop
+loop-holds c = search needs
+
+add-holds : tie.Need-add-holds Inv-loop μ-loop
+add-holds c = search needs
+
+mul-holds : tie.Need-mul-holds Inv-loop μ-loop
+mul-holds c = search needs
+
+shared-slice-read-holds : tie.Need-shared-slice-read-holds Inv-loop μ-loop
+shared-slice-read-holds c = search needs
+
+mul-holds-2 : tie.Need-mul-holds-2 Inv-loop μ-loop
+mul-holds-2 c = search needs
+
+array-read-holds : tie.Need-array-read-holds Inv-loop μ-loop
+array-read-holds c = search needs
+
+holds-requires : tie.Need-holds-requires Inv-loop μ-loop
+holds-requires c κs = search needs
+
+returns : tie.Need-returns Inv-loop μ-loop
+returns c =
+    let start = c .before .before .before .before .before .before .before in
+    let turn = c .before .before .before .before .loop in
+    let six : length (start .args .self .values) ≡ 6 = search needs in
+    let out : c .before .holds .result ≡ false = not-true _ (c .if1 .taken) in
+    sym (turn .inv .1
+    ∙ within-more (start .args .at) (start .args .self .len) (turn .i) (start .args .masks .now) (start .args .self .values) (start .pre .0) (start .pre .1) (omega arith) (c .before .before .before .loop-test .taken)
+    ∙ rw (← c .before .holds .ensures, out))
+
+add-i : tie.Need-add-i Inv-loop μ-loop
+add-i c = search needs
+
+loop-less : tie.Need-loop-less Inv-loop μ-loop
+loop-less c = search needs
+
+loop-again : tie.Need-loop-again Inv-loop μ-loop
+loop-again c =
+    let start = c .before .before .before .before .before .before .before in
+    let turn = c .before .before .before .before .loop in
+    let six : length (start .args .self .values) ≡ 6 = search needs in
+    let in-mask : c .before .holds .result ≡ true = not-false _ (c .if1 .left) in (
+      search needs,
+      turn .inv .1
+          ∙ within-more (start .args .at) (start .args .self .len) (turn .i) (start .args .masks .now) (start .args .self .values) (start .pre .0) (start .pre .1) (omega arith) (c .before .before .before .loop-test .taken)
+          ∙ rw (← c .before .holds .ensures, in-mask),
+    )
+
+returns-2 : tie.Need-returns-2 Inv-loop μ-loop
+returns-2 c =
+    let start = c .before .before .before .before in
+    let turn = c .before .loop in
+    let six : length (start .args .self .values) ≡ 6 = search needs in
+    sym (turn .inv .1 ∙ within-all (start .args .at) (start .args .self .len) (turn .i) (start .args .masks .now) (start .args .self .values) (start .pre .0) (start .pre .1) (omega arith) (omega arith))
+
+pub matches-spec : {M : Type 1} → statement M
+matches-spec =
+    tie.close
+    (tie.spec
+    Inv-loop
+    μ-loop
+    loop-holds
+    add-holds
+    mul-holds
+    shared-slice-read-holds
+    mul-holds-2
+    array-read-holds
+    holds-requires
+    returns
+    add-i
+    loop-less
+    loop-again
+    returns-2)

@@ -1,0 +1,114 @@
+-- `request_of`: the values from the place looked at on, with what is left of the number, weigh the number. Assumes nothing.
+use Prim.Native.Nat.{ℕ, _-_, _%_, _≤_, _<_}
+use mathlib.Core.Path.{_≡_, refl, _∙_}
+use native.Mathlib.Nat.{mod-lt}
+use native.Mathlib.Omega.{arith}
+use borrow.Author.Needs.{needs}
+use lib.ListN.{length, take, getD, length-set}
+use Rattle.requests.proofs.Laws.{Below, fits, set-below, counts-positive, positive-at, weighed, weighed-all}
+use Rattle.requests.proofs.Steps.{divided, settled}
+use Rattle.requests.proofs.request_of.Statement.{statement}
+use Rattle.requests.proofs.request_of.Tie as tie
+
+abbrev Inv-loop : tie.InvT-loop
+Inv-loop number len counts values₀ rest₀ i₀ values rest i = (i ≤ len) × (length values ≡ 6) × (weighed len i rest counts values ≡ number) × ((k : ℕ) → i ≤ k → k < len → getD values k 0 < getD counts k 0)
+
+abbrev μ-loop : tie.MeasureT-loop
+μ-loop number len counts values₀ rest₀ i₀ values rest i = i
+
+none : {n : ℕ} (k : ℕ) → n ≤ k → k < n → ⊥
+none k a b = omega arith
+
+count-positive : (c : tie.In-loop Inv-loop μ-loop) → 0 < getD (c .before .before .args .t2) (c .before .loop .i - 1) 0
+count-positive c =
+    let start = c .before .before in
+    let few = start .pre .0 in
+    let six : length (start .args .t2) ≡ 6 = search needs in
+    positive-at (start .args .len) (c .before .loop .i - 1) (start .args .t2) (omega arith) (omega arith) (counts-positive (take (start .args .len) (start .args .t2)) (omega (arith, start .pre .1)))
+
+loop-holds : tie.Need-loop-holds Inv-loop μ-loop
+loop-holds c =
+    let few = c .pre .0 in
+    let six : length (c .args .t2) ≡ 6 = search needs in
+    (search needs, search needs, weighed-all (c .args .len) (c .args .len) (c .args .number) (c .args .t2) _ (omega arith) refl, λ k a b. absurd (none k a b))
+
+sub-i : tie.Need-sub-i Inv-loop μ-loop
+sub-i c = search needs
+
+mul-values : tie.Need-mul-values Inv-loop μ-loop
+mul-values c = search needs
+
+array-read-values : tie.Need-array-read-values Inv-loop μ-loop
+array-read-values c = search needs
+
+rem-values : tie.Need-rem-values Inv-loop μ-loop
+rem-values c = omega (arith, count-positive c)
+
+mul-values-2 : tie.Need-mul-values-2 Inv-loop μ-loop
+mul-values-2 c = search needs
+
+array-write-values : tie.Need-array-write-values Inv-loop μ-loop
+array-write-values c = search needs
+
+mul-rest : tie.Need-mul-rest Inv-loop μ-loop
+mul-rest c = search needs
+
+array-read-rest : tie.Need-array-read-rest Inv-loop μ-loop
+array-read-rest c = search needs
+
+div-rest : tie.Need-div-rest Inv-loop μ-loop
+div-rest c = omega (arith, count-positive c)
+
+loop-less : tie.Need-loop-less Inv-loop μ-loop
+loop-less c = search needs
+
+loop-again : tie.Need-loop-again Inv-loop μ-loop
+loop-again c =
+    let start = c .before .before in
+    let turn = c .before .loop in
+    let few = start .pre .0 in
+    let six : length (start .args .t2) ≡ 6 = search needs in
+    let six-now : length (turn .values) ≡ 6 = turn .inv .1 in
+    let j = turn .i - 1 in
+    let v = turn .rest % getD (start .args .t2) j 0 in (
+      omega arith,
+      length-set (turn .values) j v ∙ six-now,
+      divided (start .args .len) (turn .i) j (start .args .t2) (turn .values) (omega arith) (omega arith) (omega arith) (omega arith) (turn .rest) ∙ turn .inv .2,
+      λ k a b. set-below j v (start .args .t2) (turn .values) (omega arith) (mod-lt (turn .rest) (count-positive c)) k (λ other. turn .inv .3 k (omega arith) b),
+    )
+
+returns : tie.Need-returns Inv-loop μ-loop
+returns c =
+    let start = c .before .before in
+    let turn = c .before .loop in
+    let len = start .args .len in
+    let counts = start .args .t2 in
+    let few = start .pre .0 in
+    let six : length counts ≡ 6 = search needs in
+    let six-now : length (turn .values) ≡ 6 = turn .inv .1 in
+    let none : turn .i ≡ 0 = omega arith in
+    let below : Below len counts (turn .values) = λ k l. turn .inv .3 k (omega arith) l in (
+      refl,
+      settled len (turn .rest) (start .args .number) counts (turn .values) (fits len counts (turn .values) (omega arith) (omega arith) below) (rw none at (turn .inv .2)) (start .pre .1),
+      record { few = few; below = below; small = start .pre .2 },
+    )
+
+pub request-of-spec : {M : Type 1} → statement M
+request-of-spec =
+    tie.close
+    (tie.spec
+    Inv-loop
+    μ-loop
+    loop-holds
+    sub-i
+    mul-values
+    array-read-values
+    rem-values
+    mul-values-2
+    array-write-values
+    mul-rest
+    array-read-rest
+    div-rest
+    loop-less
+    loop-again
+    returns)

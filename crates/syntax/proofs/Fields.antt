@@ -1,0 +1,69 @@
+-- Laws of the first field, the depth and the word of a tree line.
+use mathlib.Core.Path.{_≡_, refl}
+use mathlib.Core.Logic.{_≢_}
+use Prim.Native.Nat.{_-_}
+use native.Mathlib.Omega.{arith}
+use mathlib.Core.Bool.{Bool, true, false, cond}
+use mathlib.Core.List.{[], _∷_}
+use mathlib.Core.Option.{Option, none, some}
+use lib.ListN.{length, getD}
+use lib.Dec.{eqb}
+use Rattle.meaning.specs.Text.{Bytes, bytes, isNone, between, same}
+use Rattle.meaning.specs.Model.{wordText}
+use Rattle.meaning.specs.Reading.{kindOf, depthOf, wordOf}
+use Rattle.laws.proofs.Types.{Kind, set, policy, Word, deny-overrides, permit-overrides, first-applicable, only-one-applicable}
+use Rattle.laws.proofs.Bools.{Test, passed, failed, test}
+use Rattle.syntax.specs.Fields.{lineKind, numberOfWord}
+use Rattle.syntax.specs.declared.LineKind.{LineKind}
+
+-- First field: what each answer says of it
+abbrev pub ByLetter : Bytes → LineKind → Type 0
+ByLetter f LineKind.Attribute = same f (bytes "A") ≡ true
+ByLetter f (LineKind.Tree k) = (same f (bytes "A") ≡ false) × (kindOf f ≡ some k)
+ByLetter f LineKind.Other = (same f (bytes "A") ≡ false) × (kindOf f ≡ none)
+
+pub by-letter : (f : Bytes) → ByLetter f (lineKind f)
+by-letter f = go (test (same f (bytes "A"))) (kindOf f) refl
+  where
+    go : Test (same f (bytes "A")) → (o : Option Kind) → kindOf f ≡ o → ByLetter f (lineKind f)
+    go (passed e) o i = rw e e
+    go (failed e) none i = rw (e, i) (e, i)
+    go (failed e) (some k) i = rw (e, i) (e, i)
+
+-- Depth: a field of one byte goes by that byte, any other is none
+pub depth-byte : (f : Bytes) → length f ≡ 1 → depthOf f ≡ cond (between 48 55 (getD f 0 0)) (getD f 0 0 - 48) 8
+depth-byte [] h = absurd (omega arith)
+depth-byte (x ∷ []) h = refl
+depth-byte (x ∷ y ∷ ys) h = absurd (omega arith)
+
+pub depth-other : (f : Bytes) → length f ≢ 1 → depthOf f ≡ 8
+depth-other [] h = refl
+depth-other (x ∷ []) h = absurd (h refl)
+depth-other (x ∷ y ∷ ys) h = refl
+
+-- Word: the words of a policy are those of a set but the last
+pub policy-number : (w : Bytes) → numberOfWord (wordOf policy w) ≡ cond (eqb (numberOfWord (wordOf set w)) 5) 6 (numberOfWord (wordOf set w))
+policy-number w = go (matching deny-overrides) (matching permit-overrides) (matching first-applicable) (matching only-one-applicable)
+  where
+    matching : Word → Bool
+    matching x = same (wordText x) w
+
+    go : (a b c d : Bool)
+        → let later = cond c (some first-applicable) (cond d (some only-one-applicable) none) in
+        let n = numberOfWord (cond a (some deny-overrides) (cond b (some permit-overrides) later)) in
+        numberOfWord (cond a (some deny-overrides) (cond b (some permit-overrides) (cond c (some first-applicable) none))) ≡ cond (eqb n 5) 6 n
+    go true b c d = refl
+    go false true c d = refl
+    go false false true d = refl
+    go false false false true = refl
+    go false false false false = refl
+
+-- a word is not allowed exactly where its number is 6
+pub no-word : (o : Option Word) → isNone o ≡ eqb (numberOfWord o) 6
+no-word (some Word.Permit) = refl
+no-word (some Word.Deny) = refl
+no-word (some deny-overrides) = refl
+no-word (some permit-overrides) = refl
+no-word (some first-applicable) = refl
+no-word (some only-one-applicable) = refl
+no-word none = refl
