@@ -18,6 +18,10 @@ use Rattle.text.specs.declared.Found.the-variants.{At, Nothing}
 use Rattle.text.specs.Places.{foundOf}
 use Rattle.text.proofs.Pieces.{rest-of, piece-last, piece-more, piece-at}
 
+-- whether the part `&s[at..e]` stands among the fields of the part `&s[e + 1..]`
+abbrev pub amongRest : Bytes → ℕ → ℕ → Bool
+amongRest s at e = amongNames (take (e - at) (drop at s)) (cut tab (take (length s - (e + 1)) (drop (e + 1) s)))
+
 -- e is where the field that starts at `at` ends
 module _ (s : Bytes) (at e : ℕ) (p : e ≡ at + length (getD (cut tab (drop at s)) 0 [])) where
   -- a test of every field
@@ -36,14 +40,10 @@ module _ (s : Bytes) (at e : ℕ) (p : e ≡ at + length (getD (cut tab (drop at
   repeated-end l = rw (piece-last tab s at e p l)
 
   module _ (l : e < length s) where
-    -- whether the field stands among those behind it, in the part `&s[e + 1..]`
-    abbrev pub amongRest : Bool
-    amongRest = amongNames (take (e - at) (drop at s)) (cut tab (take (length s - (e + 1)) (drop (e + 1) s)))
-
-    pub repeated-hit : amongRest ≡ true → repeated (cut tab (drop at s)) ≡ true
+    pub repeated-hit : amongRest s at e ≡ true → repeated (cut tab (drop at s)) ≡ true
     repeated-hit f = let among = rw rest-of at f in rw (piece-more tab s at e p l, among)
 
-    pub repeated-more : amongRest ≡ false → repeated (cut tab (drop at s)) ≡ repeated (cut tab (drop (e + 1) s))
+    pub repeated-more : amongRest s at e ≡ false → repeated (cut tab (drop at s)) ≡ repeated (cut tab (drop (e + 1) s))
     repeated-more f = let among = rw rest-of at f in rw (piece-more tab s at e p l, among)
 
   -- the place of a name, where field n starts at `at`
@@ -88,12 +88,17 @@ among-placed n name (f ∷ fs) = go (test (same name f)) (among-placed (suc n) n
     go (passed e) later = rw e
     go (failed e) later = rw e later
 
-at-at : {m n : ℕ} → At m ≡ At n → m ≡ n
-at-at h = cc
-
 pub found-some : (o : Option ℕ) {v : ℕ} → foundOf o ≡ At v → isNone o ≡ false
 found-some none h = never (cc)
 found-some (some n) h = refl
+
+pub found-none : (o : Option ℕ) → foundOf o ≡ Nothing → isNone o ≡ true
+found-none none h = refl
+found-none (some n) h = never (cc)
+
+-- A place is below the number of names
+at-at : {m n : ℕ} → At m ≡ At n → m ≡ n
+at-at h = cc
 
 pub found-within : (name : Bytes) (fs : List Bytes) (r : Found) → r ≡ foundOf (valueOf 0 name fs) → (v : ℕ) → r ≡ At v → v < length fs
 found-within name fs r e v h = let d = below 0 fs (sym e ∙ h) in omega arith
@@ -105,7 +110,3 @@ found-within name fs r e v h = let d = below 0 fs (sym e ∙ h) in omega arith
         go : Test (same name f) → (foundOf (valueOf (suc n) name fs) ≡ At v → v < suc n + length fs) → v < n + length (f ∷ fs)
         go (passed t) later = let d : n ≡ v = at-at (rw t at i) in omega arith
         go (failed t) later = let d = later (rw t at i) in omega arith
-
-pub found-none : (o : Option ℕ) → foundOf o ≡ Nothing → isNone o ≡ true
-found-none none h = refl
-found-none (some n) h = never (cc)
