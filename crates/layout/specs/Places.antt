@@ -1,0 +1,89 @@
+-- Where attributes and elements stand in a file, and what the definitions make of the places.
+use Prim.Native.Nat.{ℕ, zero, suc, _+_, _-_, _*_, _≤_, _<_}
+use mathlib.Core.Bool.{cond}
+use mathlib.Core.List.{List, [], _∷_, _++_}
+use mathlib.Core.Path.{_≡_}
+use lib.Dec.{eqb}
+use lib.ListN.{length, take, drop, getD}
+use Rattle.meaning.specs.declared.Kind.{Kind}
+use Rattle.meaning.specs.declared.Kind.the-variants.{Set, Policy, Rule}
+use Rattle.meaning.specs.declared.Element.{Element}
+use Rattle.meaning.specs.Text.{Bytes, cut, tab}
+use Rattle.meaning.specs.Model.{Attribute, padded}
+use Rattle.decisions.specs.Table.{elementAt}
+use Rattle.layout.specs.declared.Attributes.{Attributes}
+
+-- the bytes from a up to b
+abbrev pub part : Bytes → ℕ → ℕ → Bytes
+part f a b = take (b - a) (drop a f)
+
+-- Attribute i: its name, which a tab ends, and its values up to the line's end
+abbrev pub attributeAt : Bytes → Attributes → ℕ → Attribute
+attributeAt f a i =
+    record {
+      name = part f (getD (a .names) i 0) (getD (a .values) i 0 - 1);
+      values = cut tab (part f (getD (a .values) i 0) (getD (a .ends) i 0));
+    }
+
+-- n attributes from i on
+unfoldable pub attributesFrom : Bytes → Attributes → ℕ → ℕ → List Attribute
+attributesFrom f a i zero = []
+attributesFrom f a i (suc n) = attributeAt f a i ∷ attributesFrom f a (i + 1) n
+
+abbrev pub attributesOf : Bytes → Attributes → List Attribute
+attributesOf f a = attributesFrom f a 0 (a .len)
+
+-- the places of an attribute lie in the file, and its count is that of its values
+pub record Standing (f : Bytes) (a : Attributes) (i : ℕ) : Type 0 where
+  pub name : getD (a .names) i 0 < getD (a .values) i 0
+  pub line : getD (a .values) i 0 ≤ getD (a .ends) i 0
+  pub inside : getD (a .ends) i 0 ≤ length f
+  pub count : getD (a .counts) i 0 ≡ length (cut tab (part f (getD (a .values) i 0) (getD (a .ends) i 0)))
+
+pub record AllStanding (f : Bytes) (a : Attributes) : Type 0 where
+  pub few : a .len ≤ 6
+  pub each : (i : ℕ) → i < a .len → Standing f a i
+
+-- one attribute more, of any file
+pub record Added (a : Attributes) (name value end count : ℕ) (b : Attributes) : Type 0 where
+  pub one-more : b .len ≡ a .len + 1
+  pub behind : (f : Bytes) → attributesOf f b ≡ attributesOf f a ++ (record { name = part f name (value - 1); values = cut tab (part f value end) } ∷ [])
+  pub standing : (f : Bytes) → AllStanding f a → name < value → value ≤ end → end ≤ length f → count ≡ length (cut tab (part f value end)) → AllStanding f b
+
+-- A kind, by the first byte of its line
+abbrev pub kindAt : ℕ → Kind
+kindAt b = cond (eqb b 83) Set (cond (eqb b 80) Policy Rule)
+
+-- Element i: `places` has a row of two for each, the start of its line and the end of its name, which starts at byte 4 of
+-- the line; `table` has a row of eight
+abbrev pub startOf : List ℕ → ℕ → ℕ
+startOf places i = getD places (2 * i) 0
+
+abbrev pub nameIn : Bytes → List ℕ → ℕ → Bytes
+nameIn f places i = part f (startOf places i + 4) (getD places (2 * i + 1) 0)
+
+unfoldable pub elementIn : Bytes → List ℕ → List ℕ → ℕ → Element
+elementIn f table places i =
+    record {
+      kind = kindAt (getD f (startOf places i) 0);
+      depth = elementAt table i .depth;
+      name = padded 16 (nameIn f places i);
+      len = length (nameIn f places i);
+      word = elementAt table i .word;
+      masks = elementAt table i .masks;
+    }
+
+-- the first n elements and their names, the nearest first
+unfoldable pub elementsTo : Bytes → List ℕ → List ℕ → ℕ → List Element
+elementsTo f table places zero = []
+elementsTo f table places (suc n) = elementIn f table places n ∷ elementsTo f table places n
+
+unfoldable pub namesTo : Bytes → List ℕ → ℕ → List Bytes
+namesTo f places zero = []
+namesTo f places (suc n) = nameIn f places n ∷ namesTo f places n
+
+-- the places of n elements lie in the file
+pub record Named (f : Bytes) (places : List ℕ) (n : ℕ) : Type 0 where
+  pub room : 2 * n ≤ length places
+  pub starts : (i : ℕ) → i < n → startOf places i + 4 ≤ getD places (2 * i + 1) 0
+  pub ends : (i : ℕ) → i < n → getD places (2 * i + 1) 0 ≤ length f

@@ -1,0 +1,187 @@
+// How a file's attributes and elements lie: places in the file, the table of the elements, and what placing the next needs.
+use meaning::Kind;
+ghost use mathlib.Core.Path.{_≡_};
+ghost use mathlib.Core.List.{List, [], _∷_, map};
+ghost use Prim.Native.Nat.{_+_, _*_, _≤_, _<_};
+ghost use lib.ListN.{length};
+ghost use lib.Seq.{sets};
+ghost use Rattle.meaning.specs.declared.Element.{Element};
+ghost use Rattle.meaning.specs.Text.{amongNames};
+ghost use Rattle.meaning.specs.Reading.{wellPlaced};
+ghost use Rattle.layout.specs.Places.{attributesOf, AllStanding, Added, namesTo, Named};
+ghost use Rattle.layout.specs.Nearest.{kindNumber, parentNumber, Stands};
+
+// Where each attribute stands: the start of its name, of its first value, the end of its line; and its value count.
+pub struct Attributes {
+    pub names: [usize; 6],
+    pub values: [usize; 6],
+    pub ends: [usize; 6],
+    pub counts: [usize; 6],
+    pub len: usize,
+}
+
+// The elements so far: how many, the last one's depth, and for each depth the number of the nearest kind, 0 for none.
+pub struct Tree {
+    pub len: usize,
+    pub depth: usize,
+    pub kinds: [usize; 8],
+}
+
+// An element's row of the table: its word's number, its depth and its masks.
+pub struct Row {
+    pub word: u16,
+    pub depth: u16,
+    pub masks: [u16; 6],
+}
+
+// Whether an attribute has this name.
+pub fn known_attribute(file: &[u8], a: Attributes, name: &[u8]) -> bool
+    requires { ⌜ AllStanding (now file) a ⌝ }
+    ensures { λ r. ⌜ r ≡ amongNames (now (name .entry)) (map (λ b. b .name) (attributesOf (now (file .entry)) a)) ⌝ }
+{
+    let names = a.names;
+    let values = a.values;
+    let len = a.len;
+    let mut i = 0;
+    while i < len {
+        let start = names[i];
+        let end = values[i] - 1;
+        if text::same(name, &file[start..end]) {
+            return true;
+        }
+        i += 1;
+    }
+    false
+}
+
+// The attributes with one more behind them.
+pub fn with_attribute(
+    a: Attributes,
+    name: usize,
+    value: usize,
+    end: usize,
+    count: usize,
+) -> Attributes
+    requires { ⌜ a .len < 6 ⌝ }
+    ensures { λ r. ⌜ Added a name value end count r ⌝ }
+{
+    let len = a.len;
+    let mut names = a.names;
+    let mut values = a.values;
+    let mut ends = a.ends;
+    let mut counts = a.counts;
+    names[len] = name;
+    values[len] = value;
+    ends[len] = end;
+    counts[len] = count;
+    Attributes {
+        names,
+        values,
+        ends,
+        counts,
+        len: len + 1,
+    }
+}
+
+// Whether an element has this name.
+pub fn known_element(file: &[u8], places: &[usize], n: usize, name: &[u8]) -> bool
+    requires { ⌜ Named (now file) (now places) n ⌝ }
+    ensures { λ r. ⌜ r ≡ amongNames (now (name .entry)) (namesTo (now (file .entry)) (now (places .entry)) n) ⌝ }
+{
+    let mut i = n;
+    while 0 < i {
+        i -= 1;
+        let start = places[2 * i] + 4;
+        let end = places[2 * i + 1];
+        if text::same(name, &file[start..end]) {
+            return true;
+        }
+    }
+    false
+}
+
+// Puts an element's row into the table and its places beside it.
+pub fn put_element(
+    table: &mut [u16],
+    places: &mut [usize],
+    i: usize,
+    row: Row,
+    start: usize,
+    name_end: usize,
+)
+    requires { ⌜ (8 * i + 8 ≤ length (now table)) × (2 * i + 2 ≤ length (now places)) ⌝ }
+    ensures { λ _. ⌜ now (table .exit) ≡ sets (now (table .entry)) (8 * i) (row .word ∷ row .depth ∷ row .masks) ⌝ }
+    ensures { λ _. ⌜ now (places .exit) ≡ sets (now (places .entry)) (2 * i) (start ∷ «name_end» ∷ []) ⌝ }
+{
+    let masks = row.masks;
+    let at = 8 * i;
+    table[at] = row.word;
+    table[at + 1] = row.depth;
+    let mut m = 0;
+    while m < 6 {
+        table[at + 2 + m] = masks[m];
+        m += 1;
+    }
+    let place = 2 * i;
+    places[place] = start;
+    places[place + 1] = name_end;
+}
+
+fn kind_number(kind: Kind) -> usize
+    ensures { λ r. ⌜ r ≡ kindNumber kind ⌝ }
+{
+    match kind {
+        Kind::Set => 1,
+        Kind::Policy => 2,
+        Kind::Rule => 3,
+    }
+}
+
+// The number of the kind that may hold the kind.
+fn parent_number(kind: Kind) -> usize
+    ensures { λ r. ⌜ r ≡ parentNumber kind ⌝ }
+{
+    match kind {
+        Kind::Set => 1,
+        Kind::Policy => 1,
+        Kind::Rule => 2,
+    }
+}
+
+// Whether an element of this kind and depth may stand behind the others.
+pub fn well_placed(kind: Kind, depth: usize, tree: Tree) -> bool
+    requires { ⌜ tree .depth ≤ 7 ⌝ }
+    ensures { λ r. ⌜ ((before : List Element) → Stands tree before → r ≡ wellPlaced kind depth before) ⌝ }
+{
+    if tree.len == 0 {
+        if depth != 0 {
+            return false;
+        }
+        return kind_number(kind) != 3;
+    }
+    if depth == 0 {
+        return false;
+    }
+    if 7 < depth {
+        return false;
+    }
+    if tree.depth + 1 < depth {
+        return false;
+    }
+    let kinds = tree.kinds;
+    kinds[depth - 1] == parent_number(kind)
+}
+
+// The tree with one element more.
+pub fn with_element(tree: Tree, kind: Kind, depth: usize) -> Tree
+    requires { ⌜ (depth ≤ 7) × (tree .len < 64) ⌝ }
+    ensures { λ r. ⌜ ((before : List Element) (e : Element) → Stands tree before → e .kind ≡ kind → e .depth ≡ depth → Stands r (e ∷ before)) ⌝ }
+{
+    let mut kinds = tree.kinds;
+    kinds[depth] = kind_number(kind);
+    Tree {
+        len: tree.len + 1,
+        depth,
+        kinds,
+    }
+}
