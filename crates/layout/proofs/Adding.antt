@@ -5,7 +5,7 @@ use mathlib.Core.Logic.{⊎-elim}
 use mathlib.Core.List.{[], _∷_, _++_}
 use native.Mathlib.Nat.{eq-or-lt-of-le}
 use native.Mathlib.Omega.{arith}
-use lib.ListN.{length, set}
+use lib.ListN.{length, getD, set}
 use lib.Seq.{getD-set-same, getD-set-other}
 use Rattle.meaning.specs.Text.{Bytes, cut, tab}
 use Rattle.layout.specs.declared.Attributes.{Attributes}
@@ -69,6 +69,12 @@ module _ (a : Attributes) (name value end count : ℕ) where
         let counts-old = getD-set-other (a .counts) (a .len) k count 0 other in
         record { name = rw (names-old, values-old) (s .name); line = rw (values-old, ends-old) (s .line); inside = rw ends-old (s .inside); count = rw (counts-old, values-old, ends-old) (s .count) }
 
+    count-new : (most k : ℕ) → k ≡ a .len → count ≤ most → getD (added .counts) k 0 ≤ most
+    count-new most k e few = rw (e, getD-set-same (a .counts) (a .len) count 0 counts-room) few
+
+    count-old : (most k : ℕ) → k < a .len → getD (a .counts) k 0 ≤ most → getD (added .counts) k 0 ≤ most
+    count-old most k l few = rw (getD-set-other (a .counts) (a .len) k count 0 (λ e. omega arith)) few
+
     pub added-behind : a .len < 6 → Added a name value end count added
     added-behind few =
         record {
@@ -78,6 +84,7 @@ module _ (a : Attributes) (name value end count : ℕ) where
             few = omega arith;
             each = λ k l. ⊎-elim (λ e. standing-new f k e named line inside counted) (λ below. standing-old f k below (all .each k below)) (eq-or-lt-of-le (last k l));
           };
+          few-values = λ most old new k l. ⊎-elim (λ e. count-new most k e new) (λ below. count-old most k below (old k below)) (eq-or-lt-of-le (last k l));
         }
       where
         last : (k : ℕ) → k < a .len + 1 → k ≤ a .len

@@ -1,4 +1,4 @@
--- Laws for the reader: one element more, the names of the elements, the attributes one by one, the empty tree, decisions on the table.
+-- Laws for the reader: one element more, the names of the elements, the attributes one by one, the empty tree.
 use Prim.Native.Nat.{ℕ, zero, suc, _+_, _-_, _*_, _≤_, _<_}
 use mathlib.Core.Path.{_≡_, refl, sym, ap, _∙_}
 use mathlib.Core.Logic.{⊎-elim}

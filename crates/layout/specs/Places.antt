@@ -49,6 +49,7 @@ pub record Added (a : Attributes) (name value end count : ℕ) (b : Attributes) 
   pub one-more : b .len ≡ a .len + 1
   pub behind : (f : Bytes) → attributesOf f b ≡ attributesOf f a ++ (record { name = part f name (value - 1); values = cut tab (part f value end) } ∷ [])
   pub standing : (f : Bytes) → AllStanding f a → name < value → value ≤ end → end ≤ length f → count ≡ length (cut tab (part f value end)) → AllStanding f b
+  pub few-values : (most : ℕ) → ((i : ℕ) → i < a .len → getD (a .counts) i 0 ≤ most) → count ≤ most → (i : ℕ) → i < b .len → getD (b .counts) i 0 ≤ most
 
 -- A kind, by the first byte of its line
 abbrev pub kindAt : ℕ → Kind

@@ -114,17 +114,15 @@ pub fn put_element(
     ensures { λ _. ⌜ now (places .exit) ≡ sets (now (places .entry)) (2 * i) (start ∷ «name_end» ∷ []) ⌝ }
 {
     let masks = row.masks;
-    let at = 8 * i;
-    table[at] = row.word;
-    table[at + 1] = row.depth;
+    table[8 * i] = row.word;
+    table[8 * i + 1] = row.depth;
     let mut m = 0;
     while m < 6 {
-        table[at + 2 + m] = masks[m];
+        table[8 * i + 2 + m] = masks[m];
         m += 1;
     }
-    let place = 2 * i;
-    places[place] = start;
-    places[place + 1] = name_end;
+    places[2 * i] = start;
+    places[2 * i + 1] = name_end;
 }
 
 fn kind_number(kind: Kind) -> usize

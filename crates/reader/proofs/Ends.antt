@@ -1,0 +1,73 @@
+-- The state before the first line, and the end of a file.
+use mathlib.Core.Path.{_≡_, refl}
+use Prim.Native.Nat.{ℕ, _≤_, zero-le}
+use native.Mathlib.Omega.{arith}
+use mathlib.Core.Bool.{cond}
+use mathlib.Core.List.{List}
+use lib.Dec.{eqb, lit≤}
+use lib.ListN.{length, replicate}
+use borrow.Author.Tests.{eq-eqb, ne-eqb}
+use Rattle.meaning.specs.Model.{refused}
+use Rattle.meaning.specs.Reading.{nothing, finished}
+use Rattle.layout.specs.declared.Attributes.{Attributes}
+use Rattle.layout.specs.declared.Tree.{Tree}
+use Rattle.layout.specs.Places.{attributesFrom, elementsTo}
+use Rattle.layout.proofs.Laws.{empty-stands}
+use Rattle.reader.specs.declared.State.{State}
+use Rattle.reader.specs.declared.Reading.{Reading}
+use Rattle.reader.proofs.AttributeLines.{no-elements}
+use Rattle.reader.specs.Steps.{Ready, readSofar, ReadAs}
+
+-- before the first line
+abbrev pub none-yet : Attributes
+none-yet = record { names = replicate 6 0; values = replicate 6 0; ends = replicate 6 0; counts = replicate 6 0; len = 0 }
+
+abbrev pub no-tree : Tree
+no-tree = record { len = 0; depth = 0; kinds = replicate 8 0 }
+
+abbrev pub beginning : State
+beginning = record { at = 0; line = 1; attributes = none-yet; space = 1; tree = no-tree }
+
+pub beginning-ready : (f table places : List ℕ) → 512 ≤ length table → 128 ≤ length places → Ready f table places beginning × (readSofar f table places beginning ≡ nothing)
+unfolding attributesFrom elementsTo
+beginning-ready f table places rows pairs = (
+  record {
+    begun = record {
+      inside = zero-le;
+      lines-passed = lit≤ tt;
+      attributes = record { standing = record { few = zero-le; each = λ i l. absurd (omega arith) }; few-values = λ i l. absurd (omega arith); small = lit≤ tt };
+      space-is = refl;
+      shallow = zero-le;
+      few = zero-le;
+    };
+    rooms = record { rows = rows; pairs = pairs; named = record { room = zero-le; starts = λ i l. absurd (omega arith); ends = λ i l. absurd (omega arith) } };
+    tree = empty-stands;
+  },
+  refl,
+)
+
+module _ (f table places : List ℕ) (st : State) (end : ℕ) (ready : Ready f table places st) where
+  abbrev ending : Reading → Type 0
+  ending r = ReadAs f table places r (cond (eqb (st .at) end) (finished (readSofar f table places st)) (refused 2 (st .line)))
+
+  abbrev told : ℕ → ℕ → Reading
+  told n m = record { number = n; second = m; attributes = st .attributes; elements = st .tree .len }
+
+  -- bytes behind the last newline
+  pub left-over : (st .at ≡ end → ⊥) → st .line ≤ 16385 → ending (told 2 (st .line))
+  left-over h l = rw (ne-eqb (st .at) end h) (record { number = refl; second = refl; not-zero = lit≤ tt; small = l })
+
+  -- no tree line
+  pub no-element : st .at ≡ end → st .tree .len ≡ 0 → ending (told 9 0)
+  no-element e z = rw (eq-eqb (st .at) end e, no-elements f table places (st .tree .len), eq-eqb (st .tree .len) 0 z) (record { number = refl; second = refl; not-zero = lit≤ tt; small = zero-le })
+
+  -- the policy
+  pub all-read : st .at ≡ end → (st .tree .len ≡ 0 → ⊥) → ending (told 0 0)
+  all-read e n = rw (eq-eqb (st .at) end e, no-elements f table places (st .tree .len), ne-eqb (st .tree .len) 0 n) (record {
+    number = refl;
+    attributes = refl;
+    elements = refl;
+    spaced = ready .begun .attributes;
+    some = omega arith;
+    rooms = ready .rooms;
+  })

@@ -1,0 +1,91 @@
+-- `attribute_line` meets its contract: the laws of the refusal and of the state behind the line.
+use native.Mathlib.Omega.{arith}
+use borrow.Author.Needs.{needs}
+use Rattle.reader.proofs.AttributeLines.{AttributeParts, attribute-parts, line-refusal, line-next}
+use Rattle.reader.proofs.attribute_line.Statement.{statement}
+use Rattle.reader.proofs.attribute_line.Tie as tie
+
+-- where the name and the values stand
+parts : (c : tie.After-field) → let a = c .before .before .before .before .before .before .before .args in AttributeParts (a .file .now) (a .st .at) (a .end) (c .field .result .now)
+parts c =
+    let start = c .before .before .before .before .before .before .before in
+    let a = start .args in
+    attribute-parts (a .file .now) (a .st .at) (a .end) (c .field .result .now) (omega (arith, start .pre .1 .ends)) (start .pre .2) (c .field .ensures)
+
+sub-line : tie.Need-sub-line
+sub-line c = search needs
+
+part-line-start : tie.Need-part-line-start
+part-line-start c = search needs
+
+part-line-end : tie.Need-part-line-end
+part-line-end c = search needs
+
+attribute-refusal-requires : tie.Need-attribute-refusal-requires
+attribute-refusal-requires c κs = search needs
+
+returns : tie.Need-returns
+returns c =
+    let start = c .before .before .before .before .before .before in
+    λ table places ready. record {
+      refusal = line-refusal ready (start .pre .1) (start .pre .2) (c .before .attribute-refusal .ensures);
+      next = λ none. absurd (c .if1 .taken none);
+    }
+
+field-requires : tie.Need-field-requires
+field-requires c κs = search needs
+
+add-first : tie.Need-add-first
+add-first c = search needs
+
+add-first-2 : tie.Need-add-first-2
+add-first-2 c = let here = parts c in omega arith
+
+sub-values : tie.Need-sub-values
+sub-values c = search needs
+
+add-with-attribute : tie.Need-add-with-attribute
+add-with-attribute c = search needs
+
+with-attribute-requires : tie.Need-with-attribute-requires
+with-attribute-requires c κs = c .before .before .attribute-refusal .ensures .few (c .before .if1 .left)
+
+add-t20 : tie.Need-add-t20
+add-t20 c = search needs
+
+add-t17 : tie.Need-add-t17
+add-t17 c = search needs
+
+mul-t21 : tie.Need-mul-t21
+mul-t21 c = let small = c .before .before .before .before .attribute-refusal .ensures .small-space (c .before .before .before .if1 .left) in omega arith
+
+returns-2 : tie.Need-returns-2
+returns-2 c =
+    let start = c .before .before .before .before .before .before .before .before .before in
+    let tested = c .before .before .before .before .attribute-refusal .ensures in
+    let field = c .before .before .field in
+    let added = c .before .with-attribute in
+    λ table places ready. record {
+      refusal = line-refusal ready (start .pre .1) (start .pre .2) tested;
+      next = λ none. line-next ready (start .pre .1) (start .pre .2) (field .result .now) (added .result) (field .ensures) (added .ensures) (tested .few-values none) (tested .small-space none);
+    }
+
+pub attribute-line-spec : {M : Type 1} → statement M
+attribute-line-spec =
+    tie.close
+    (tie.spec
+    sub-line
+    part-line-start
+    part-line-end
+    attribute-refusal-requires
+    returns
+    field-requires
+    add-first
+    add-first-2
+    sub-values
+    add-with-attribute
+    with-attribute-requires
+    add-t20
+    add-t17
+    mul-t21
+    returns-2)

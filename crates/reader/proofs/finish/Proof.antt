@@ -1,0 +1,15 @@
+use Rattle.reader.proofs.Ends.{left-over, no-element, all-read}
+use Rattle.reader.proofs.finish.Statement.{statement}
+use Rattle.reader.proofs.finish.Tie as tie
+
+returns : tie.Need-returns
+returns c = λ f table places ready l. left-over f table places (c .before .before .before .before .args .st) (c .before .before .before .before .args .end) ready (c .if1 .taken) l
+
+returns-2 : tie.Need-returns-2
+returns-2 c = λ f table places ready l. no-element f table places (c .before .before .before .before .before .args .st) (c .before .before .before .before .before .args .end) ready (c .before .if1 .left) (c .if2 .taken)
+
+returns-3 : tie.Need-returns-3
+returns-3 c = λ f table places ready l. all-read f table places (c .before .before .before .before .before .args .st) (c .before .before .before .before .before .args .end) ready (c .before .if1 .left) (c .if2 .left)
+
+pub finish-spec : {M : Type 1} → statement M
+finish-spec = tie.close (tie.spec returns returns-2 returns-3)

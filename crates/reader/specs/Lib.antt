@@ -1,0 +1,3 @@
+-- What the contracts of the reader cite.
+pub mod Sofar
+pub mod Steps

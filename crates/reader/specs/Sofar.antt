@@ -1,0 +1,68 @@
+-- What was read so far, as the places and the table stand for it, and the tests of a line by its fields.
+use Prim.Native.Nat.{ℕ, _-_, _*_, _≤_, _<_}
+use mathlib.Core.Path.{_≡_}
+use mathlib.Core.Option.{some}
+use mathlib.Core.Bool.{true, false, _||_, not}
+use mathlib.Core.List.{List, [], _∷_, map}
+use lib.Dec.{leb, eqb}
+use lib.ListN.{length, drop, getD}
+use Rattle.meaning.specs.declared.Kind.{Kind}
+use Rattle.meaning.specs.declared.Element.{Element}
+use Rattle.meaning.specs.Text.{Bytes, bytes, empty, all, isNone, same, amongNames, isField}
+use Rattle.meaning.specs.Model.{Attribute, nameOf, space as spaceOf}
+use Rattle.meaning.specs.Reading.{kindOf, lineOf, wordOf, elementOf, Sofar, wellPlaced, Tests, lowest, wrongFields, attributeTests, badName, lineTests}
+use Rattle.layout.specs.declared.Attributes.{Attributes}
+use Rattle.layout.specs.Places.{attributesOf, AllStanding, elementsTo}
+
+abbrev pub sofarOf : Bytes → Attributes → List ℕ → List ℕ → ℕ → Sofar
+sofarOf f a table places n = record { attributes = attributesOf f a; before = elementsTo f table places n }
+
+-- the number that refuses a line of these fields, or 0
+unfoldable pub refusalOf : Sofar → List Bytes → ℕ
+refusalOf s fs = lowest ((2, wrongFields s fs (lineOf fs)) ∷ lineTests s (lineOf fs))
+
+-- the attribute of an attribute line, and the element of a tree line of this kind
+abbrev pub attributeIn : List Bytes → Attribute
+attributeIn fs = record { name = getD fs 1 []; values = drop 2 fs }
+
+abbrev pub elementFrom : List Attribute → Kind → List Bytes → Element
+elementFrom attrs k fs = elementOf attrs k (getD fs 1 []) (getD fs 2 []) (getD fs 3 []) (drop 4 fs)
+
+-- 3 to 7 of an element: the tests before that of its targets
+abbrev pub earlierTests : Sofar → Bytes → Element → Tests
+earlierTests s w e =
+    (3, badName e)
+    ∷ (4, amongNames (nameOf e) (map nameOf (s .before)))
+    ∷ (5, leb 64 (length (s .before)))
+    ∷ (6, empty (s .attributes) || not (wellPlaced (e .kind) (e .depth) (s .before)))
+    ∷ (7, isNone (wordOf (e .kind) w))
+    ∷ []
+
+-- An attribute line under its tests 3 to 6: the attributes before it, the space that they make, and its fields, so many
+pub record Tested (f : Bytes) (a : Attributes) (space : ℕ) (fs : List Bytes) (fields : ℕ) : Type 0 where
+  pub standing : AllStanding f a
+  pub space-is : space ≡ spaceOf (attributesOf f a)
+  pub small : space ≤ 4096
+  pub count : fields ≡ length fs
+  pub three : 3 ≤ fields
+
+-- the lowest of them, whatever the elements before it are; where that is 0 there is room for the attribute
+pub record AttributeRefusal (f : Bytes) (a : Attributes) (space elements : ℕ) (fs : List Bytes) (fields r : ℕ) : Type 0 where
+  pub is-lowest : (s : Sofar) → s .attributes ≡ attributesOf f a → empty (s .before) ≡ eqb elements 0 → r ≡ lowest (attributeTests s (attributeIn fs))
+  pub few : r ≡ 0 → a .len < 6
+  pub few-values : r ≡ 0 → fields - 2 ≤ 16
+  pub small-space : r ≡ 0 → space * (fields - 2) ≤ 4096
+
+-- the fields of an attribute line, and of a tree line of this kind: all are fields, so many
+pub record AttributeLine (fs : List Bytes) (n : ℕ) : Type 0 where
+  pub fields : all isField fs ≡ true
+  pub count : n ≡ length fs
+  pub three : 3 ≤ n
+  pub letter : same (getD fs 0 []) (bytes "A") ≡ true
+
+pub record TreeLine (fs : List Bytes) (k : Kind) (n : ℕ) : Type 0 where
+  pub fields : all isField fs ≡ true
+  pub count : n ≡ length fs
+  pub three : 3 ≤ n
+  pub no-attribute : same (getD fs 0 []) (bytes "A") ≡ false
+  pub letter : kindOf (getD fs 0 []) ≡ some k

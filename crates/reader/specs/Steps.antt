@@ -1,0 +1,98 @@
+-- What a state stands for, what reading one line does, and what reading a file gives.
+use Prim.Native.Nat.{ℕ, _+_, _*_, _≤_, _<_}
+use mathlib.Core.List.{List, [], _∷_, reverse}
+use mathlib.Core.Path.{_≡_}
+use lib.ListN.{length, getD}
+use Rattle.meaning.specs.declared.Kind.{Kind}
+use Rattle.meaning.specs.declared.Element.{Element}
+use Rattle.meaning.specs.Text.{Bytes, cut, tab}
+use Rattle.meaning.specs.Model.{Policy, space, Result, refused, given}
+use Rattle.meaning.specs.Reading.{depthOf, lineOf, Sofar, extended}
+use Rattle.layout.specs.declared.Attributes.{Attributes}
+use Rattle.layout.specs.Places.{part, attributesOf, AllStanding, elementsTo, Named}
+use Rattle.layout.specs.Nearest.{Stands}
+use Rattle.reader.specs.declared.State.{State}
+use Rattle.reader.specs.declared.Step.{Step}
+use Rattle.reader.specs.declared.Reading.{Reading}
+use Rattle.reader.specs.Sofar.{sofarOf, refusalOf}
+
+-- the attributes lie in the file, with at most 16 values each and a small space
+pub record Spaced (f : Bytes) (a : Attributes) : Type 0 where
+  pub standing : AllStanding f a
+  pub few-values : (i : ℕ) → i < a .len → getD (a .counts) i 0 ≤ 16
+  pub small : space (attributesOf f a) ≤ 4096
+
+-- room for 64 elements, of which n are there
+pub record Rooms (f : Bytes) (table places : List ℕ) (n : ℕ) : Type 0 where
+  pub rows : 512 ≤ length table
+  pub pairs : 128 ≤ length places
+  pub named : Named f places n
+
+-- A state before a line: what it says of the file alone, and with the table and the places
+pub record Begun (f : Bytes) (st : State) : Type 0 where
+  pub inside : st .at ≤ length f
+  pub lines-passed : st .line ≤ st .at + 1
+  pub attributes : Spaced f (st .attributes)
+  pub space-is : st .space ≡ space (attributesOf f (st .attributes))
+  pub shallow : st .tree .depth ≤ 7
+  pub few : st .tree .len ≤ 64
+
+pub record Ready (f : Bytes) (table places : List ℕ) (st : State) : Type 0 where
+  pub begun : Begun f st
+  pub rooms : Rooms f table places (st .tree .len)
+  pub tree : Stands (st .tree) (elementsTo f table places (st .tree .len))
+
+-- a line from a state's place up to the newline at `end`
+pub record Line (f : Bytes) (st : State) (end : ℕ) : Type 0 where
+  pub starts : st .at ≤ end
+  pub ends : end < length f
+
+-- room for the element of a tree line of these fields, and the state behind it
+pub record Fits (table places : List ℕ) (st : State) (end : ℕ) (fs : List Bytes) : Type 0 where
+  pub row : 8 * st .tree .len + 8 ≤ length table
+  pub pair : 2 * st .tree .len + 2 ≤ length places
+  pub few : st .tree .len < 64
+  pub shallow : depthOf (getD fs 1 []) ≤ 7
+  pub lines-passed : st .line ≤ st .at + 1
+  pub name-inside : st .at + 4 + length (getD fs 2 []) ≤ end
+  pub ends : end < 18446744073709551615
+
+pub record Put (st : State) (end : ℕ) (k : Kind) (fs : List Bytes) (r : State) : Type 0 where
+  pub at-next : r .at ≡ end + 1
+  pub line-next : r .line ≡ st .line + 1
+  pub same-attributes : r .attributes ≡ st .attributes
+  pub same-space : r .space ≡ st .space
+  pub stands : (before : List Element) (e : Element) → Stands (st .tree) before → e .kind ≡ k → e .depth ≡ depthOf (getD fs 1 []) → Stands (r .tree) (e ∷ before)
+
+abbrev pub readSofar : Bytes → List ℕ → List ℕ → State → Sofar
+readSofar f table places st = sofarOf f (st .attributes) table places (st .tree .len)
+
+-- One line, which a newline at `end` ends: its refusal; else the state behind it
+pub record Next (f : Bytes) (table places : List ℕ) (s : Sofar) (fs : List Bytes) (end line : ℕ) (st : State) : Type 0 where
+  pub ready : Ready f table places st
+  pub at-next : st .at ≡ end + 1
+  pub line-next : st .line ≡ line + 1
+  pub extends : readSofar f table places st ≡ extended s (lineOf fs)
+
+pub record StepIs (f table₀ places₀ table places : List ℕ) (st : State) (end : ℕ) (r : Step) : Type 0 where
+  pub refusal : r .refusal ≡ refusalOf (readSofar f table₀ places₀ st) (cut tab (part f (st .at) end))
+  pub next : r .refusal ≡ 0 → Next f table places (readSofar f table₀ places₀ st) (cut tab (part f (st .at) end)) end (st .line) (r .state)
+
+-- A file: its refusal, with a second number that is small; or the policy, by the places and the table
+pub record Refused (n m : ℕ) (r : Reading) : Type 0 where
+  pub number : r .number ≡ n
+  pub second : r .second ≡ m
+  pub not-zero : 1 ≤ n
+  pub small : m ≤ 16385
+
+pub record Holds (f table places : List ℕ) (r : Reading) (p : Policy) : Type 0 where
+  pub number : r .number ≡ 0
+  pub attributes : p .attributes ≡ attributesOf f (r .attributes)
+  pub elements : p .elements ≡ reverse (elementsTo f table places (r .elements))
+  pub spaced : Spaced f (r .attributes)
+  pub some : 1 ≤ r .elements
+  pub rooms : Rooms f table places (r .elements)
+
+abbrev pub ReadAs : List ℕ → List ℕ → List ℕ → Reading → Result Policy → Type 0
+ReadAs f table places r (refused n m) = Refused n m r
+ReadAs f table places r (given p) = Holds f table places r p
