@@ -55,11 +55,11 @@ module _ (f table places : List ℕ) (st : State) (end : ℕ) (ready : Ready f t
 
   -- bytes behind the last newline
   pub left-over : (st .at ≡ end → ⊥) → st .line ≤ 16385 → ending (told 2 (st .line))
-  left-over h l = rw (ne-eqb (st .at) end h) (record { number = refl; second = refl; not-zero = lit≤ tt; small = l })
+  left-over h l = rw (ne-eqb (st .at) end h) (record { number = refl; second = refl; not-zero = lit≤ tt; low = lit≤ tt; small = l })
 
   -- no tree line
   pub no-element : st .at ≡ end → st .tree .len ≡ 0 → ending (told 9 0)
-  no-element e z = rw (eq-eqb (st .at) end e, no-elements f table places (st .tree .len), eq-eqb (st .tree .len) 0 z) (record { number = refl; second = refl; not-zero = lit≤ tt; small = zero-le })
+  no-element e z = rw (eq-eqb (st .at) end e, no-elements f table places (st .tree .len), eq-eqb (st .tree .len) 0 z) (record { number = refl; second = refl; not-zero = lit≤ tt; low = lit≤ tt; small = zero-le })
 
   -- the policy
   pub all-read : st .at ≡ end → (st .tree .len ≡ 0 → ⊥) → ending (told 0 0)

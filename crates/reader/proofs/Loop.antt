@@ -1,16 +1,18 @@
 -- Reading line by line: what is left of a file, read behind what was read so far.
 use mathlib.Core.Path.{_≡_, refl, sym, ap, _∙_, subst⁻¹}
-use Prim.Native.Nat.{ℕ, zero, suc, _+_, _≤_, _<_}
+use Prim.Native.Nat.{ℕ, zero, suc, _+_, _≤_, _<_, zero-le}
 use native.Mathlib.Numerals.{add-one}
 use native.Mathlib.Omega.{arith}
 use mathlib.Core.Bool.{Bool, true, false, cond}
 use mathlib.Core.List.{List, [], _∷_}
-use lib.Dec.{eqb}
+use lib.Dec.{eqb, lit≤}
 use lib.ListN.{length, getD, drop, length-drop}
 use borrow.Author.Tests.{eq-eqb, ne-eqb, le-ltb, lt-ltb}
 use Rattle.meaning.specs.Text.{Bytes, empty, front, last, cut, newline, tab}
 use Rattle.meaning.specs.Model.{Policy, Result, refused, given, _then_, unless}
-use Rattle.meaning.specs.Reading.{lineOf, Sofar, lineTests, extended, readLines, nothing, finished, read}
+use Rattle.meaning.specs.Reading.{Line, attributeLine, treeLine, otherLine, lineOf, Sofar, Tests, lowest, wrongFields, lineTests, extended, readLines, nothing, finished, read}
+use Rattle.meaning.specs.Claims.{All}
+use Rattle.laws.proofs.Bools.{Test, passed, failed, test}
 use Rattle.laws.proofs.Text.{Some, one-or-more, cut-some}
 use Rattle.text.proofs.Pieces.{piece-rest, piece-more}
 use Rattle.layout.specs.Places.{part}
@@ -69,6 +71,24 @@ module _ (f : Bytes) (at n : ℕ) (s : Sofar) (end : ℕ) (ends : end ≡ at + l
   pub line-read : end < length f → refusalOf s fields ≡ 0 → remaining f at n s ≡ remaining f (end + 1) (n + 1) (extended s (lineOf fields))
   line-read l z = one-line l ∙ rw (z, add-one n)
 
+-- a line's refusal is 8 at most
+lowest-low : (ts : Tests) → All (λ t. t .0 ≤ 8) ts → lowest ts ≤ 8
+lowest-low [] a = zero-le
+lowest-low (t ∷ ts) a = go (test (t .1)) (lowest-low ts (a .1))
+  where
+    go : Test (t .1) → lowest ts ≤ 8 → lowest (t ∷ ts) ≤ 8
+    go (passed e) later = rw e (a .0)
+    go (failed e) later = rw e later
+
+refusal-low : (s : Sofar) (fs : List Bytes) → refusalOf s fs ≤ 8
+unfolding refusalOf
+refusal-low s fs = lowest-low ((2, wrongFields s fs (lineOf fs)) ∷ lineTests s (lineOf fs)) (lit≤ tt, by-line (lineOf fs))
+  where
+    by-line : (l : Line) → All (λ t. t .0 ≤ 8) (lineTests s l)
+    by-line (attributeLine a) = (lit≤ tt, (lit≤ tt, (lit≤ tt, (lit≤ tt, tt))))
+    by-line (treeLine k d n w ts) = (lit≤ tt, (lit≤ tt, (lit≤ tt, (lit≤ tt, (lit≤ tt, (lit≤ tt, tt))))))
+    by-line otherLine = tt
+
 -- What the loop keeps: the file reads as the lines that remain behind what was read so far
 abbrev pub Keeps : (f table places : List ℕ) (st : State) → Type 0
 Keeps f table places st = read f ≡ remaining f (st .at) (st .line) (readSofar f table places st)
@@ -77,8 +97,8 @@ pub keeps-first : (f table places : List ℕ) (st : State) → length f ≤ 1638
 keeps-first f table places st l (a, n) e = all-remains f l ∙ sym (rw (a, n, e))
 
 -- a refusal's two numbers
-pub refusal-told : (f table places : List ℕ) (r : Reading) (n m : ℕ) → read f ≡ refused n m → r .number ≡ n → r .second ≡ m → 1 ≤ n → m ≤ 16385 → ReadAs f table places r (read f)
-refusal-told f table places r n m e a b p l = subst⁻¹ (ReadAs f table places r) e (record { number = a; second = b; not-zero = p; small = l })
+pub refusal-told : (f table places : List ℕ) (r : Reading) (n m : ℕ) → read f ≡ refused n m → r .number ≡ n → r .second ≡ m → 1 ≤ n → n ≤ 9 → m ≤ 16385 → ReadAs f table places r (read f)
+refusal-told f table places r n m e a b p low l = subst⁻¹ (ReadAs f table places r) e (record { number = a; second = b; not-zero = p; low = low; small = l })
 
 module _ (f table places : List ℕ) (st : State) (ready : Ready f table places st) (size : length f ≤ 16384) (keeps : Keeps f table places st)
     (end : ℕ) (ends : end ≡ st .at + length (getD (cut newline (drop (st .at) f)) 0 [])) where
@@ -93,7 +113,7 @@ module _ (f table places : List ℕ) (st : State) (ready : Ready f table places 
   module _ (inside : end < length f) (refusal : ℕ) (is-refusal : refusal ≡ refusalOf (readSofar f table places st) (cut tab (part f (st .at) end))) where
     pub refused-here : (t p : List ℕ) (r : Reading) → (refusal ≡ 0 → ⊥) → r .number ≡ refusal → r .second ≡ st .line → ReadAs f t p r (read f)
     refused-here t p r h a b =
-        refusal-told f t p r refusal (st .line) (keeps ∙ line-refused f (st .at) (st .line) (readSofar f table places st) end ends inside (λ z. h (is-refusal ∙ z)) ∙ ap (λ k. refused k (st .line)) (sym is-refusal)) a b (not-zero refusal h) few-lines
+        refusal-told f t p r refusal (st .line) (keeps ∙ line-refused f (st .at) (st .line) (readSofar f table places st) end ends inside (λ z. h (is-refusal ∙ z)) ∙ ap (λ k. refused k (st .line)) (sym is-refusal)) a b (not-zero refusal h) (omega (arith, is-refusal, refusal-low (readSofar f table places st) (cut tab (part f (st .at) end)))) few-lines
       where
         not-zero : (k : ℕ) → (k ≡ 0 → ⊥) → 1 ≤ k
         not-zero k h = omega arith

@@ -78,11 +78,12 @@ pub record StepIs (f table₀ places₀ table places : List ℕ) (st : State) (e
   pub refusal : r .refusal ≡ refusalOf (readSofar f table₀ places₀ st) (cut tab (part f (st .at) end))
   pub next : r .refusal ≡ 0 → Next f table places (readSofar f table₀ places₀ st) (cut tab (part f (st .at) end)) end (st .line) (r .state)
 
--- A file: its refusal, with a second number that is small; or the policy, by the places and the table
+-- A file: its refusal, with small numbers; or the policy, by the places and the table
 pub record Refused (n m : ℕ) (r : Reading) : Type 0 where
   pub number : r .number ≡ n
   pub second : r .second ≡ m
   pub not-zero : 1 ≤ n
+  pub low : n ≤ 9
   pub small : m ≤ 16385
 
 pub record Holds (f table places : List ℕ) (r : Reading) (p : Policy) : Type 0 where

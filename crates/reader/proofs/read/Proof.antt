@@ -27,7 +27,7 @@ start-requires c κs = search needs
 
 -- src/lib.rt:124:9
 returns : tie.Need-returns Inv-loop μ-loop
-returns c = refusal-told _ _ _ _ 1 0 (too-long _ (c .before .if1 .taken)) refl refl (lit≤ tt) zero-le
+returns c = refusal-told _ _ _ _ 1 0 (too-long _ (c .before .if1 .taken)) refl refl (lit≤ tt) (lit≤ tt) zero-le
 
 -- src/lib.rt:131:5
 loop-holds : tie.Need-loop-holds Inv-loop μ-loop
