@@ -15,7 +15,7 @@ use Rattle.meaning.specs.Deciding.{matches, childReplies, firstDecision, decide
 use Rattle.decisions.specs.Table.{wordAt, elementAt, left, before}
 use Rattle.laws.proofs.Types.{rule, Element}
 use Rattle.layout.specs.declared.Attributes.{Attributes}
-use Rattle.layout.specs.Places.{part, attributeAt, attributesFrom, attributesOf, kindAt, startOf, nameIn, elementIn, elementsTo, namesTo, Named}
+use Rattle.layout.specs.Places.{part, attributeAt, attributesFrom, attributesOf, kindAt, startOf, nameIn, elementIn, elementsTo, namesTo, Named, Lined}
 use Rattle.layout.specs.Nearest.{nearest, Stands}
 
 -- The element of a row: its line's start, its name's end, its word's number, its depth and its masks
@@ -89,30 +89,40 @@ module _ (f : Bytes) (table places : List ℕ) (n start end word depth : ℕ) (m
       laid : (l vs : List ℕ) (at size : ℕ) → length vs ≡ size → at + size ≤ length l → sets l at vs ≡ take at l ++ (vs ++ drop (at + size) l)
       laid l vs at size e h = rw (← e) (sets-eq vs l at (rw e h) ∙ append-assoc (take at l) vs (drop (at + length vs) l))
 
--- One name more that lies in the file
-module _ (f : Bytes) (places : List ℕ) (n start end : ℕ) where
-  pub named-more : 2 * n + 2 ≤ length places → start + 4 ≤ end → end ≤ length f → Named f places n → Named f (sets places (2 * n) (start ∷ end ∷ [])) (suc n)
-  named-more room name inside named =
+-- One name more that lies in the file, and one line more
+module _ (f : Bytes) (places : List ℕ) (n start end : ℕ) (room : 2 * n + 2 ≤ length places) where
+  abbrev more : List ℕ
+  more = sets places (2 * n) (start ∷ end ∷ [])
+
+  start-new : startOf more n ≡ start
+  start-new = rw (getD-set-other (set places (2 * n) start) (suc (2 * n)) (2 * n) end 0 (λ e. omega arith)) (getD-set-same places (2 * n) start 0 (omega arith))
+
+  end-new : getD more (2 * n + 1) 0 ≡ end
+  end-new = rw (add-one (2 * n)) (getD-set-same (set places (2 * n) start) (suc (2 * n)) end 0 (rw length-set (omega arith)))
+
+  start-old : (i : ℕ) → i < n → startOf more i ≡ startOf places i
+  start-old i l = getD-set-other (set places (2 * n) start) (suc (2 * n)) (2 * i) end 0 (λ e. omega arith) ∙ getD-set-other places (2 * n) (2 * i) start 0 (λ e. omega arith)
+
+  end-old : (i : ℕ) → i < n → getD more (2 * i + 1) 0 ≡ getD places (2 * i + 1) 0
+  end-old i l = getD-set-other (set places (2 * n) start) (suc (2 * n)) (2 * i + 1) end 0 (λ e. omega arith) ∙ getD-set-other places (2 * n) (2 * i + 1) start 0 (λ e. omega arith)
+
+  last : (i : ℕ) → i < suc n → i ≤ n
+  last i l = omega arith
+
+  pub named-more : start + 4 ≤ end → end ≤ length f → Named f places n → Named f more (suc n)
+  named-more name inside named =
       record {
         room = rw (length-sets places (2 * n) (start ∷ end ∷ [])) (omega arith);
         starts = λ i l. ⊎-elim (λ (e : i ≡ n). rw (e, start-new, end-new) name) (λ (below : i < n). rw (start-old i below, end-old i below) (named .starts i below)) (eq-or-lt-of-le (last i l));
         ends = λ i l. ⊎-elim (λ (e : i ≡ n). rw (e, end-new) inside) (λ (below : i < n). rw (end-old i below) (named .ends i below)) (eq-or-lt-of-le (last i l));
       }
-    where
-      last : (i : ℕ) → i < suc n → i ≤ n
-      last i l = omega arith
 
-      start-new : startOf (sets places (2 * n) (start ∷ end ∷ [])) n ≡ start
-      start-new = rw (getD-set-other (set places (2 * n) start) (suc (2 * n)) (2 * n) end 0 (λ e. omega arith)) (getD-set-same places (2 * n) start 0 (omega arith))
-
-      end-new : getD (sets places (2 * n) (start ∷ end ∷ [])) (2 * n + 1) 0 ≡ end
-      end-new = rw (add-one (2 * n)) (getD-set-same (set places (2 * n) start) (suc (2 * n)) end 0 (rw length-set (omega arith)))
-
-      start-old : (i : ℕ) → i < n → startOf (sets places (2 * n) (start ∷ end ∷ [])) i ≡ startOf places i
-      start-old i l = getD-set-other (set places (2 * n) start) (suc (2 * n)) (2 * i) end 0 (λ e. omega arith) ∙ getD-set-other places (2 * n) (2 * i) start 0 (λ e. omega arith)
-
-      end-old : (i : ℕ) → i < n → getD (sets places (2 * n) (start ∷ end ∷ [])) (2 * i + 1) 0 ≡ getD places (2 * i + 1) 0
-      end-old i l = getD-set-other (set places (2 * n) start) (suc (2 * n)) (2 * i + 1) end 0 (λ e. omega arith) ∙ getD-set-other places (2 * n) (2 * i + 1) start 0 (λ e. omega arith)
+  pub lined-more : (lines : ℕ → ℕ) (a at : ℕ) → Lined lines places a n start → at ≡ lines (suc (a + n)) → Lined lines more a (suc n) at
+  lined-more lines a at lined behind =
+      record {
+        next = behind ∙ ap lines (omega arith);
+        starts = λ i l. ⊎-elim (λ (e : i ≡ n). rw (e, start-new) (lined .next)) (λ (below : i < n). start-old i below ∙ lined .starts i below) (eq-or-lt-of-le (last i l));
+      }
 
 -- The names of the elements
 pub element-names : (f : Bytes) (table places : List ℕ) (n : ℕ) → map nameOf (elementsTo f table places n) ≡ namesTo f places n

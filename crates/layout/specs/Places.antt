@@ -8,7 +8,7 @@ use lib.ListN.{length, take, drop, getD}
 use Rattle.meaning.specs.declared.Kind.{Kind}
 use Rattle.meaning.specs.declared.Kind.the-variants.{Set, Policy, Rule}
 use Rattle.meaning.specs.declared.Element.{Element}
-use Rattle.meaning.specs.Text.{Bytes, cut, tab}
+use Rattle.meaning.specs.Text.{Bytes, cut, tab, newline}
 use Rattle.meaning.specs.Model.{Attribute, padded}
 use Rattle.decisions.specs.Table.{elementAt}
 use Rattle.layout.specs.declared.Attributes.{Attributes}
@@ -88,3 +88,13 @@ pub record Named (f : Bytes) (places : List ℕ) (n : ℕ) : Type 0 where
   pub room : 2 * n ≤ length places
   pub starts : (i : ℕ) → i < n → startOf places i + 4 ≤ getD places (2 * i + 1) 0
   pub ends : (i : ℕ) → i < n → getD places (2 * i + 1) 0 ≤ length f
+
+-- where line k of a file starts, counted from 0: behind the newline that ends the line before it
+unfoldable pub lineStart : Bytes → ℕ → ℕ
+lineStart f zero = 0
+lineStart f (suc k) = lineStart f k + length (getD (cut newline (drop (lineStart f k) f)) 0 []) + 1
+
+-- So many attributes have a line each and n elements behind them too; the next line starts at `at`
+pub record Lined (start : ℕ → ℕ) (places : List ℕ) (attributes n at : ℕ) : Type 0 where
+  pub next : at ≡ start (attributes + n)
+  pub starts : (i : ℕ) → i < n → startOf places i ≡ start (attributes + i)

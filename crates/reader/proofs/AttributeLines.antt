@@ -14,12 +14,12 @@ use Rattle.meaning.specs.Model.{Attribute, choices, space as spaceOf}
 use Rattle.meaning.specs.Reading.{attributeLine, lineOf, Sofar, Tests, lowest, attributeTests}
 use Rattle.laws.proofs.Lines.{attribute-fields}
 use Rattle.layout.specs.declared.Attributes.{Attributes}
-use Rattle.layout.specs.Places.{part, attributesOf, Added, elementsTo}
+use Rattle.layout.specs.Places.{part, attributesOf, Added, elementsTo, lineStart}
 use Rattle.layout.proofs.Laws.{attributes-length}
 use Rattle.reader.specs.Sofar.{refusalOf, attributeIn, Tested, AttributeRefusal, AttributeLine}
 use Rattle.reader.specs.Steps.{Ready, Line, readSofar, Next}
 use Rattle.reader.specs.declared.State.{State}
-use Rattle.reader.proofs.Parts.{field-at}
+use Rattle.reader.proofs.Parts.{field-at, next-start}
 
 -- The space with one attribute more
 pub space-more : (attrs : List Attribute) (a : Attribute) → spaceOf (attrs ++ (a ∷ [])) ≡ spaceOf attrs * choices a
@@ -58,6 +58,7 @@ module _ {f : Bytes} {a : Attributes} {space fields : ℕ} {fs : List Bytes} (el
         few = λ zero. absurd (omega arith);
         few-values = λ zero. absurd (omega arith);
         small-space = λ zero. absurd (omega arith);
+        no-element = λ zero. absurd (omega arith);
       }
 
   pub bad-name : all isName (drop 1 fs) ≡ false → AttributeRefusal f a space elements fs fields 3
@@ -96,6 +97,7 @@ module _ {f : Bytes} {a : Attributes} {space fields : ℕ} {fs : List Bytes} (el
                 few = λ zero. few;
                 few-values = λ zero. few-values;
                 small-space = λ zero. small;
+                no-element = λ zero. none;
               }
 
 -- An attribute line is one by the meaning too, and 2 does not refuse it
@@ -142,9 +144,9 @@ module _ {f : Bytes} {st : State} {end fields : ℕ} {table places : List ℕ} (
       let s = readSofar f table places st in
       refusal .is-lowest s refl (no-elements f table places (st .tree .len)) ∙ sym (refusal-is s (cut tab (part f (st .at) end)) is)
 
-  pub line-next : (name : Bytes) (b : Attributes) → name ≡ getD (cut tab (part f (st .at) end)) 1 [] → Added (st .attributes) (st .at + 2) (st .at + 3 + length name) end (fields - 2) b → fields - 2 ≤ 16 → st .space * (fields - 2) ≤ 4096
+  pub line-next : (name : Bytes) (b : Attributes) → name ≡ getD (cut tab (part f (st .at) end)) 1 [] → Added (st .attributes) (st .at + 2) (st .at + 3 + length name) end (fields - 2) b → fields - 2 ≤ 16 → st .space * (fields - 2) ≤ 4096 → st .tree .len ≡ 0
       → Next f table places (readSofar f table places st) (cut tab (part f (st .at) end)) end (st .line) (record { at = end + 1; line = st .line + 1; attributes = b; space = st .space * (fields - 2); tree = st .tree })
-  line-next name b named added few-values small =
+  line-next name b named added few-values small none =
       let fs = cut tab (part f (st .at) end) in
       let begun = ready .begun in
       let old = attributesOf f (st .attributes) in
@@ -168,6 +170,10 @@ module _ {f : Bytes} {st : State} {end fields : ℕ} {table places : List ℕ} (
           };
           rooms = ready .rooms;
           tree = ready .tree;
+          lined = record {
+            next = next-start (st .attributes .len + st .tree .len) here (ready .lined .next) ∙ ap (lineStart f) (omega (arith, added .one-more));
+            starts = λ i l. absurd (omega arith);
+          };
         };
         at-next = refl;
         line-next = refl;

@@ -1,5 +1,5 @@
 -- The state before the first line, and the end of a file.
-use mathlib.Core.Path.{_≡_, refl}
+use mathlib.Core.Path.{_≡_, refl, _∙_, subst}
 use Prim.Native.Nat.{ℕ, _≤_, zero-le}
 use native.Mathlib.Omega.{arith}
 use mathlib.Core.Bool.{cond}
@@ -11,7 +11,7 @@ use Rattle.meaning.specs.Model.{refused}
 use Rattle.meaning.specs.Reading.{nothing, finished}
 use Rattle.layout.specs.declared.Attributes.{Attributes}
 use Rattle.layout.specs.declared.Tree.{Tree}
-use Rattle.layout.specs.Places.{attributesFrom, elementsTo}
+use Rattle.layout.specs.Places.{attributesFrom, elementsTo, Lined, lineStart}
 use Rattle.layout.proofs.Laws.{empty-stands}
 use Rattle.reader.specs.declared.State.{State}
 use Rattle.reader.specs.declared.Reading.{Reading}
@@ -29,7 +29,7 @@ abbrev pub beginning : State
 beginning = record { at = 0; line = 1; attributes = none-yet; space = 1; tree = no-tree }
 
 pub beginning-ready : (f table places : List ℕ) → 512 ≤ length table → 128 ≤ length places → Ready f table places beginning × (readSofar f table places beginning ≡ nothing)
-unfolding attributesFrom elementsTo
+unfolding attributesFrom elementsTo lineStart
 beginning-ready f table places rows pairs = (
   record {
     begun = record {
@@ -42,6 +42,7 @@ beginning-ready f table places rows pairs = (
     };
     rooms = record { rows = rows; pairs = pairs; named = record { room = zero-le; starts = λ i l. absurd (omega arith); ends = λ i l. absurd (omega arith) } };
     tree = empty-stands;
+    lined = record { next = refl; starts = λ i l. absurd (omega arith) };
   },
   refl,
 )
@@ -62,12 +63,13 @@ module _ (f table places : List ℕ) (st : State) (end : ℕ) (ready : Ready f t
   no-element e z = rw (eq-eqb (st .at) end e, no-elements f table places (st .tree .len), eq-eqb (st .tree .len) 0 z) (record { number = refl; second = refl; not-zero = lit≤ tt; low = lit≤ tt; small = zero-le })
 
   -- the policy
-  pub all-read : st .at ≡ end → (st .tree .len ≡ 0 → ⊥) → ending (told 0 0)
-  all-read e n = rw (eq-eqb (st .at) end e, no-elements f table places (st .tree .len), ne-eqb (st .tree .len) 0 n) (record {
+  pub all-read : st .at ≡ end → (st .tree .len ≡ 0 → ⊥) → end ≡ length f → ending (told 0 0)
+  all-read e n whole = rw (eq-eqb (st .at) end e, no-elements f table places (st .tree .len), ne-eqb (st .tree .len) 0 n) (record {
     number = refl;
     attributes = refl;
     elements = refl;
     spaced = ready .begun .attributes;
     some = omega arith;
     rooms = ready .rooms;
+    lined = subst (Lined (lineStart f) places (st .attributes .len) (st .tree .len)) (e ∙ whole) (ready .lined);
   })

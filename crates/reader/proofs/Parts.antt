@@ -3,11 +3,13 @@ use Prim.Native.Nat.{ℕ, suc, _+_, _-_, _≤_, _<_}
 use mathlib.Core.Path.{_≡_, sym, ap, _∙_, subst}
 use mathlib.Core.List.{List, [], _∷_, _++_}
 use native.Mathlib.Omega.{arith}
-use lib.ListN.{length, take, drop, length-append, length-drop}
+use lib.ListN.{length, take, drop, getD, length-append, length-drop}
 use lib.Seq.{length-take-le, take-append-seam, drop-append-add, take-take, take-add, drop-at, drop-drop}
-use Rattle.meaning.specs.Text.{Bytes, cut, join, tab}
+use Rattle.meaning.specs.Text.{Bytes, cut, join, tab, newline}
 use Rattle.laws.proofs.Text.{Frees, join-cut, cut-join, cut-frees}
-use Rattle.layout.specs.Places.{part}
+use Rattle.layout.specs.Places.{part, lineStart}
+use Rattle.reader.specs.Steps.{Line}
+use Rattle.reader.specs.declared.State.{State}
 
 -- A part of a part, from its start and up to its end
 module _ (f : Bytes) (at end n : ℕ) (short : at + n ≤ end) where
@@ -49,3 +51,8 @@ field-at f at end p (q ∷ qs) inside some e =
           ∙ cut-join tab q qs (frees .1);
       within = omega arith;
     }
+
+-- The next line starts behind the newline that ends this one
+pub next-start : {f : Bytes} {st : State} {end : ℕ} (k : ℕ) → Line f st end → st .at ≡ lineStart f k → end + 1 ≡ lineStart f (suc k)
+unfolding lineStart
+next-start {f} k here e = ap (λ m. m + 1) (here .all-of-it ∙ ap (λ at. at + length (getD (cut newline (drop at f)) 0 [])) e)

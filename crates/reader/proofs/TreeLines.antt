@@ -22,13 +22,13 @@ use Rattle.laws.proofs.Lines.{spelled-some}
 use Rattle.laws.proofs.Bounds.{placed-depth}
 use Rattle.decisions.specs.Table.{wordAt}
 use Rattle.syntax.specs.Fields.{numberOfWord}
-use Rattle.layout.specs.Places.{part, attributesOf, kindAt, elementsTo}
+use Rattle.layout.specs.Places.{part, attributesOf, kindAt, elementsTo, lineStart}
 use Rattle.layout.specs.Nearest.{lastDepth, Stands}
-use Rattle.layout.proofs.Laws.{elements-more, named-more}
+use Rattle.layout.proofs.Laws.{elements-more, named-more, lined-more}
 use Rattle.reader.specs.declared.State.{State}
 use Rattle.reader.specs.Sofar.{refusalOf, elementFrom, earlierTests, TreeLine}
 use Rattle.reader.specs.Steps.{Spaced, Rooms, Ready, Line, Fits, Put, readSofar, Next}
-use Rattle.reader.proofs.Parts.{field-at}
+use Rattle.reader.proofs.Parts.{field-at, next-start}
 
 -- The fields of a tree line
 pub record TreeFields (fs : List Bytes) (k : Kind) : Type 0 where
@@ -245,6 +245,7 @@ module _ (f table places : List ℕ) (st : State) (end : ℕ) (k : Kind) (n : �
                 named = named-more f places size (st .at) name-end (omega (arith, ready .rooms .pairs, few)) (omega arith) (omega (arith, named .within, at .ends)) (ready .rooms .named);
               });
               tree = subst⁻¹ (λ m. Stands (r .tree) (elementsTo f table′ places′ m)) one-more stands;
+              lined = rw (put .same-attributes, one-more, put .at-next) (lined-more f places size (st .at) name-end (omega (arith, ready .rooms .pairs, few)) (lineStart f) (st .attributes .len) (end + 1) (ready .lined) (next-start (st .attributes .len + size) at (ready .lined .next)));
             };
             at-next = put .at-next;
             line-next = put .line-next;

@@ -52,6 +52,7 @@ pub record AttributeRefusal (f : Bytes) (a : Attributes) (space elements : ℕ) 
   pub few : r ≡ 0 → a .len < 6
   pub few-values : r ≡ 0 → fields - 2 ≤ 16
   pub small-space : r ≡ 0 → space * (fields - 2) ≤ 4096
+  pub no-element : r ≡ 0 → elements ≡ 0
 
 -- the fields of an attribute line, and of a tree line of this kind: all are fields, so many
 pub record AttributeLine (fs : List Bytes) (n : ℕ) : Type 0 where

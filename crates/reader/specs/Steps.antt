@@ -2,14 +2,14 @@
 use Prim.Native.Nat.{ℕ, _+_, _*_, _≤_, _<_}
 use mathlib.Core.List.{List, [], _∷_, reverse}
 use mathlib.Core.Path.{_≡_}
-use lib.ListN.{length, getD}
+use lib.ListN.{length, drop, getD}
 use Rattle.meaning.specs.declared.Kind.{Kind}
 use Rattle.meaning.specs.declared.Element.{Element}
-use Rattle.meaning.specs.Text.{Bytes, cut, tab}
+use Rattle.meaning.specs.Text.{Bytes, cut, tab, newline}
 use Rattle.meaning.specs.Model.{Policy, space, Result, refused, given}
 use Rattle.meaning.specs.Reading.{depthOf, lineOf, Sofar, extended}
 use Rattle.layout.specs.declared.Attributes.{Attributes}
-use Rattle.layout.specs.Places.{part, attributesOf, AllStanding, elementsTo, Named}
+use Rattle.layout.specs.Places.{part, attributesOf, AllStanding, elementsTo, Named, lineStart, Lined}
 use Rattle.layout.specs.Nearest.{Stands}
 use Rattle.reader.specs.declared.State.{State}
 use Rattle.reader.specs.declared.Step.{Step}
@@ -41,11 +41,13 @@ pub record Ready (f : Bytes) (table places : List ℕ) (st : State) : Type 0 whe
   pub begun : Begun f st
   pub rooms : Rooms f table places (st .tree .len)
   pub tree : Stands (st .tree) (elementsTo f table places (st .tree .len))
+  pub lined : Lined (lineStart f) places (st .attributes .len) (st .tree .len) (st .at)
 
--- a line from a state's place up to the newline at `end`
+-- the line at a state's place, which the newline at `end` ends
 pub record Line (f : Bytes) (st : State) (end : ℕ) : Type 0 where
   pub starts : st .at ≤ end
   pub ends : end < length f
+  pub all-of-it : end ≡ st .at + length (getD (cut newline (drop (st .at) f)) 0 [])
 
 -- room for the element of a tree line of these fields, and the state behind it
 pub record Fits (table places : List ℕ) (st : State) (end : ℕ) (fs : List Bytes) : Type 0 where
@@ -93,6 +95,7 @@ pub record Holds (f table places : List ℕ) (r : Reading) (p : Policy) : Type 0
   pub spaced : Spaced f (r .attributes)
   pub some : 1 ≤ r .elements
   pub rooms : Rooms f table places (r .elements)
+  pub lined : Lined (lineStart f) places (r .attributes .len) (r .elements) (length f)
 
 abbrev pub ReadAs : List ℕ → List ℕ → List ℕ → Reading → Result Policy → Type 0
 ReadAs f table places r (refused n m) = Refused n m r

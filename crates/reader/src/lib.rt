@@ -310,7 +310,7 @@ fn start() -> State
 
 // What stands behind the last newline, and the end of the file.
 fn finish(st: State, end: usize) -> Reading
-    ensures { λ r. ⌜ ((f table places : List ℕ) → Ready f table places st → st .line ≤ 16385
+    ensures { λ r. ⌜ ((f table places : List ℕ) → Ready f table places st → st .line ≤ 16385 → end ≡ length f
         → ReadAs f table places r (cond (eqb (st .at) end) (finished (readSofar f table places st)) (refused 2 (st .line)))) ⌝ }
 {
     let attributes = st.attributes;

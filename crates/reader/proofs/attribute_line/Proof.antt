@@ -67,7 +67,7 @@ returns-2 c =
     let added = c .before .with-attribute in
     λ table places ready. record {
       refusal = line-refusal ready (start .pre .1) (start .pre .2) tested;
-      next = λ none. line-next ready (start .pre .1) (start .pre .2) (field .result .now) (added .result) (field .ensures) (added .ensures) (tested .few-values none) (tested .small-space none);
+      next = λ none. line-next ready (start .pre .1) (start .pre .2) (field .result .now) (added .result) (field .ensures) (added .ensures) (tested .few-values none) (tested .small-space none) (tested .no-element none);
     }
 
 pub attribute-line-spec : {M : Type 1} → statement M

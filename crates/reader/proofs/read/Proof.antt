@@ -58,13 +58,13 @@ returns-2 : tie.Need-returns-2 Inv-loop μ-loop
 returns-2 c =
     let inv = c .before .before .before .loop .inv in
     let end = c .before .before .end-of .ensures .0 in
-    ended _ _ _ _ (inv .2) (inv .3) (inv .4) _ end (c .before .if2 .taken) _ (c .finish .ensures _ _ _ (inv .2) (few-lines _ _ _ _ (inv .2) (inv .3) (inv .4) _ end))
+    ended _ _ _ _ (inv .2) (inv .3) (inv .4) _ end (c .before .if2 .taken) _ (c .finish .ensures _ _ _ (inv .2) (few-lines _ _ _ _ (inv .2) (inv .3) (inv .4) _ end) (c .before .if2 .taken))
 
 -- src/lib.rt:137:13
 read-line-requires : tie.Need-read-line-requires Inv-loop μ-loop
 read-line-requires c κs =
     let inv = c .before .before .before .before .loop .inv in
-    (inv .2, record { starts = c .before .before .before .end-of .ensures .1 .0; ends = omega arith })
+    (inv .2, record { starts = c .before .before .before .end-of .ensures .1 .0; ends = omega arith; all-of-it = c .before .before .before .end-of .ensures .0 })
 
 -- src/lib.rt:141:13
 same-length-3 : tie.Need-same-length-3 Inv-loop μ-loop
