@@ -1,5 +1,5 @@
--- Counting the fields of a line byte by byte.
-use mathlib.Core.Path.{_≡_}
+-- Counting the pieces of a text, and the fields of a line, byte by byte.
+use mathlib.Core.Path.{_≡_, refl}
 use mathlib.Core.Bool.{Bool, true, false, cond, _&&_}
 use mathlib.Core.List.{List, [], _∷_}
 use Prim.Native.Nat.{ℕ, suc, _+_, _≤_, _<_}
@@ -10,6 +10,20 @@ use borrow.Author.Tests.{eq-eqb, ne-eqb}
 use Rattle.meaning.specs.Text.{Bytes, all, between, longer, cut, tab, isField}
 use Rattle.laws.proofs.Text.{Some, one-or-more, cut-some}
 use Rattle.text.proofs.Pieces.{drop-next}
+
+-- How many pieces there are from byte i on
+longer-count : (x : ℕ) {ps : List Bytes} → Some ps → length (longer x ps) ≡ length ps
+longer-count x (one-or-more p ps) = refl
+
+module _ (b : ℕ) (s : Bytes) (i : ℕ) where
+  pub pieces-end : length s ≤ i → length (cut b (drop i s)) ≡ 1
+  pieces-end h = rw (drop-of-length-le s h)
+
+  pub pieces-hit : i < length s → getD s i 0 ≡ b → length (cut b (drop i s)) ≡ suc (length (cut b (drop (i + 1) s)))
+  pieces-hit h e = rw (drop-next s i h, eq-eqb (getD s i 0) b e)
+
+  pub pieces-miss : i < length s → (getD s i 0 ≡ b → ⊥) → length (cut b (drop i s)) ≡ length (cut b (drop (i + 1) s))
+  pieces-miss h n = rw (drop-next s i h, ne-eqb (getD s i 0) b n) (longer-count (getD s i 0) (cut-some b (drop (i + 1) s)))
 
 -- whether the pieces are fields, where the first goes on a field that has bytes already unless it is fresh
 abbrev pub areFields : Bool → List Bytes → Bool

@@ -24,6 +24,22 @@ pub fn end_of(s: &[u8], at: usize, sep: u8) -> usize
     i
 }
 
+// How many pieces the text has: one more than there are bytes `sep`.
+pub fn count_pieces(s: &[u8], sep: u8) -> usize
+    ensures { λ r. ⌜ r ≡ length (cut sep (now (s .entry))) ⌝ }
+{
+    let mut pieces = 1;
+    let mut i = 0;
+    while i < s.len() {
+        let b = s[i];
+        if b == sep {
+            pieces += 1;
+        }
+        i += 1;
+    }
+    pieces
+}
+
 // Whether two texts are equal byte for byte.
 pub fn same(a: &[u8], b: &[u8]) -> bool
     ensures { λ r. ⌜ r ≡ same (now (a .entry)) (now (b .entry)) ⌝ }
