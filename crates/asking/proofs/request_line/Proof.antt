@@ -1,0 +1,33 @@
+-- `request_line` meets its contract: a line of another count of fields is refused, and any other is what its fields give.
+use mathlib.Core.Path.{subst}
+use borrow.Author.Needs.{needs}
+use Rattle.asking.specs.Asked.{AskedAs}
+use Rattle.asking.proofs.FieldWalk.{wrong-count, right-count}
+use Rattle.asking.proofs.request_line.Statement.{statement}
+use Rattle.asking.proofs.request_line.Tie as tie
+
+count-pieces-requires : tie.Need-count-pieces-requires
+count-pieces-requires c κs = search needs
+
+refuse-requires : tie.Need-refuse-requires
+refuse-requires c κs = search needs
+
+returns : tie.Need-returns
+returns c =
+    let args = c .before .before .before .before .before .before .args in
+    let wrong = wrong-count (args .file .now) (args .a) (args .line .now) (c .before .before .before .count-pieces .ensures) (c .before .if1 .taken) in
+    subst (AskedAs (c .refuse .result)) wrong (c .refuse .ensures)
+
+read-fields-requires : tie.Need-read-fields-requires
+read-fields-requires c κs = search needs
+
+returns-2 : tie.Need-returns-2
+returns-2 c =
+    let args = c .before .before .before .before .before .before .args in
+    let right = right-count (args .file .now) (args .a) (args .line .now) (c .before .before .before .count-pieces .ensures) (c .before .if1 .left) in
+    subst (AskedAs (c .read-fields .result)) right (c .read-fields .ensures)
+
+pub request-line-spec : {M : Type 1} → statement M
+request-line-spec =
+    tie.close
+    (tie.spec count-pieces-requires refuse-requires returns read-fields-requires returns-2)

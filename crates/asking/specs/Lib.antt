@@ -1,0 +1,2 @@
+-- What the contracts of a request line cite.
+pub mod Asked
