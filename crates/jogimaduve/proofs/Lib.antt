@@ -1,0 +1,2 @@
+-- Laws that the proofs of the operations cite.
+mod Deciding
