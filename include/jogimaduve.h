@@ -1,0 +1,54 @@
+/* Jogimaduve: access policies of robot arms.
+ *
+ * Every operation takes a policy file as bytes and relies on no earlier call. It keeps nothing, allocates nothing and
+ * may be called from several threads at once. Pointers must not be NULL, also where a length is 0.
+ *
+ * Each answers two numbers. `number` is 0 where the operation did its work; `second` is then its result. Any other
+ * `number` is a refusal:
+ *
+ *   number  second   the policy file, or what goes with it
+ *   1       0        exceeds 16,384 bytes
+ *   2       line     empty line or field, other byte, no last newline, wrong first field or field count
+ *   3       line     bad attribute, value or element name
+ *   4       line     name used before
+ *   5       line     attribute 7, value 17, space over 4,096, element 65
+ *   6       line     attribute behind a tree line, tree line before any attribute, bad depth, place or parent
+ *   7       line     word not allowed for its kind
+ *   8       line     bad target
+ *   9       0        no tree line
+ *   10      place    request line: 0 if the field count is wrong, else the first field that is no value
+ *
+ * Lines and places count from 1.
+ */
+#ifndef JOGIMADUVE_H
+#define JOGIMADUVE_H
+
+#include <stddef.h>
+#include <stdint.h>
+
+#ifdef __cplusplus
+extern "C" {
+#endif
+
+typedef struct {
+    uint32_t number;
+    uint32_t second;
+} jogimaduve_answer;
+
+/* What a request gets: `second` of jogimaduve_decide. */
+enum {
+    JOGIMADUVE_PERMIT = 0,
+    JOGIMADUVE_DENY = 1,
+    JOGIMADUVE_NOT_APPLICABLE = 2,
+    JOGIMADUVE_INDETERMINATE = 3
+};
+
+/* Decides a request: one value name for each attribute of the file, in order, parted by tabs, no newline. */
+jogimaduve_answer jogimaduve_decide(const uint8_t *file, size_t file_length,
+                                    const uint8_t *request, size_t request_length);
+
+#ifdef __cplusplus
+}
+#endif
+
+#endif

@@ -1,0 +1,38 @@
+/* Counts checks; each failure is printed with its line. */
+#ifndef CHECK_H
+#define CHECK_H
+
+#include <stdio.h>
+#include <string.h>
+
+#include "jogimaduve.h"
+
+static int checks_passed;
+static int checks_failed;
+
+static void check(int holds, const char *what, int line) {
+    if (holds) {
+        checks_passed++;
+    } else {
+        checks_failed++;
+        printf("line %d: %s\n", line, what);
+    }
+}
+
+static int checks_done(void) {
+    printf("%d passed, %d failed\n", checks_passed, checks_failed);
+    return checks_failed != 0;
+}
+
+static void answers(jogimaduve_answer got, uint32_t number, uint32_t second, const char *what, int line) {
+    int holds = got.number == number && got.second == second;
+    check(holds, what, line);
+    if (!holds) {
+        printf("    expected %u %u, got %u %u\n", number, second, got.number, got.second);
+    }
+}
+
+/* A text without its ending zero, as bytes and a length. */
+#define TEXT(s) (const uint8_t *)(s), sizeof(s) - 1
+
+#endif
