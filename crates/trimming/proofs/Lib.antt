@@ -1,0 +1,2 @@
+-- The laws that tie trimming on flags to trimming on bytes.
+pub mod Left

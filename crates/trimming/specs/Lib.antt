@@ -1,0 +1,2 @@
+-- What the contracts of trimming cite.
+pub mod Flags
