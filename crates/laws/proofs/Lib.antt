@@ -16,6 +16,7 @@ pub mod Striking
 pub mod Trimming
 pub mod OwnLines
 pub mod RuleLines
+pub mod ElementLines
 pub mod Answers
 pub mod Clean
 pub mod ReportLines
