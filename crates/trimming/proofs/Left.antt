@@ -9,7 +9,7 @@ use lib.ListN.{length, getD, set}
 use lib.Seq.{getD-set-same, getD-set-other}
 use Rattle.meaning.specs.Text.{without}
 use Rattle.laws.proofs.Bools.{Test, passed, failed, test}
-use Rattle.trimming.specs.Flags.{isLeft, leftFrom}
+use Rattle.trimming.specs.Flags.{isLeft, Clear, leftFrom}
 
 -- how many of n places are left, from place i on
 unfoldable pub leftCount : List ℕ → ℕ → ℕ → ℕ
@@ -39,7 +39,7 @@ module _ {A : Type 0} where
   left-agree s t i (x ∷ xs) h = rw (h i (omega arith), left-agree s t (i + 1) xs (λ j l. h j (omega arith)))
 
   -- flags that are all 0 leave everything
-  pub left-all : (s : List ℕ) → ((j : ℕ) → getD s j 0 ≡ 0) → (i : ℕ) (xs : List A) → leftFrom s i xs ≡ xs
+  pub left-all : (s : List ℕ) → Clear s → (i : ℕ) (xs : List A) → leftFrom s i xs ≡ xs
   unfolding leftFrom
   left-all s h i [] = refl
   left-all s h i (x ∷ xs) = rw (h i, left-all s h (i + 1) xs)

@@ -1,2 +1,3 @@
 -- The laws that tie trimming on flags to trimming on bytes.
 pub mod Left
+pub mod Steps

@@ -1,4 +1,5 @@
 -- Trimming on flags: the file stays as it was read, and an element whose flag is not 0 is struck.
+use mathlib.Core.Path.{_≡_}
 use Prim.Native.Nat.{ℕ, zero, suc, _+_}
 use mathlib.Core.Bool.{Bool, false, not, cond, _&&_}
 use mathlib.Core.List.{List, [], _∷_, _++_, map}
@@ -15,6 +16,10 @@ use Rattle.meaning.specs.Claims.{isRule}
 -- place i is left: its flag is 0
 abbrev pub isLeft : List ℕ → ℕ → Bool
 isLeft struck i = eqb (getD struck i 0) 0
+
+-- no place is struck
+abbrev pub Clear : List ℕ → Type 0
+Clear struck = (i : ℕ) → getD struck i 0 ≡ 0
 
 -- what is left of things that stand at place i and behind it
 unfoldable pub leftFrom : {A : Type 0} → List ℕ → ℕ → List A → List A
