@@ -1,14 +1,15 @@
 -- What flags leave of a list: its elements by their places, and what one flag more strikes.
-use mathlib.Core.Path.{_≡_, refl, ap}
+use mathlib.Core.Path.{_≡_, refl, sym, ap, _∙_}
 use Prim.Native.Nat.{ℕ, zero, suc, _+_, _≤_, _<_}
-use native.Mathlib.Nat.{add-zero}
+use native.Mathlib.Nat.{zero-add, add-zero}
 use native.Mathlib.Omega.{arith}
 use mathlib.Core.Bool.{true, false, cond}
-use mathlib.Core.List.{List, [], _∷_, _++_, map}
+use mathlib.Core.List.{List, [], _∷_, _++_, map, append-nil}
 use lib.ListN.{length, getD, set}
 use lib.Seq.{getD-set-same, getD-set-other}
 use Rattle.meaning.specs.Text.{without}
 use Rattle.laws.proofs.Bools.{Test, passed, failed, test}
+use Rattle.laws.proofs.Trimming.{length-without}
 use Rattle.trimming.specs.Flags.{isLeft, Clear, leftFrom}
 
 -- how many of n places are left, from place i on
@@ -118,6 +119,18 @@ module _ {A : Type 0} where
             → without (leftCount struck i (suc m)) (leftFrom struck i (x ∷ xs) ++ ys) ≡ leftFrom (set struck at 1) i (x ∷ xs) ++ ys
         go other (passed y) later = rw (other, y, later)
         go other (failed y) later = rw (other, y, later)
+
+    -- of the whole list
+    pub left-strike : (i : ℕ) (xs : List A) → i < length xs → i < length struck → isLeft struck i ≡ true → without (leftCount struck 0 i) (leftFrom struck 0 xs) ≡ leftFrom (set struck i 1) 0 xs
+    left-strike i xs l b e =
+        ap (without (leftCount struck 0 i)) (sym (append-nil (leftFrom struck 0 xs)))
+        ∙ left-without 0 i i xs [] (sym (zero-add i)) l b e
+        ∙ append-nil (leftFrom (set struck i 1) 0 xs)
+
+    pub left-fewer : (i : ℕ) (xs : List A) → i < length xs → i < length struck → isLeft struck i ≡ true → length (leftFrom struck 0 xs) ≡ suc (length (leftFrom (set struck i 1) 0 xs))
+    left-fewer i xs l b e =
+        length-without (leftCount struck 0 i) (leftFrom struck 0 xs) (left-within 0 i xs l (rw zero-add e))
+        ∙ ap (λ ys. suc (length ys)) (left-strike i xs l b e)
 
 -- a function of each element
 pub left-map : {A B : Type 0} (f : A → B) (struck : List ℕ) (i : ℕ) (xs : List A) → map f (leftFrom struck i xs) ≡ leftFrom struck i (map f xs)

@@ -1,3 +1,5 @@
 -- The laws that tie trimming on flags to trimming on bytes.
 pub mod Left
 pub mod Steps
+pub mod Next
+pub mod Trimmed

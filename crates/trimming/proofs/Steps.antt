@@ -1,11 +1,11 @@
 -- One step on flags and on bytes: a rule that is left and its line, and what is left without it.
 use mathlib.Core.Path.{_≡_, refl, sym, ap, _∙_}
-use Prim.Native.Nat.{ℕ, zero, suc, _+_, _<_}
+use Prim.Native.Nat.{ℕ, zero, suc, _+_, _≤_, _<_}
 use native.Mathlib.Nat.{zero-add, add-zero}
 use native.Mathlib.Omega.{arith}
 use mathlib.Core.Bool.{true, false}
-use mathlib.Core.List.{List, [], _∷_, _++_, map, append-assoc, append-nil}
-use lib.ListN.{length, getD, take, drop, set, length-drop, take-append-drop, length-map}
+use mathlib.Core.List.{List, [], _∷_, _++_, map, append-assoc}
+use lib.ListN.{length, getD, take, drop, set, length-set, length-drop, take-append-drop, length-map}
 use lib.Seq.{length-take-le}
 use Rattle.meaning.specs.declared.Element.{Element}
 use Rattle.meaning.specs.Text.{Bytes, without, front}
@@ -20,12 +20,13 @@ use Rattle.laws.proofs.Lines.{unlines, text-unlines}
 use Rattle.laws.proofs.Striking.{strike-without, strike-read}
 use Rattle.laws.proofs.ElementLines.{file-count, rule-line-at, name-line-at}
 use Rattle.trimming.specs.Flags.{isLeft, Clear, leftFrom, leftPolicy, linesLeft, textLeft, changesAt, firstChangeAt, ruleIn, keptAt, needlessAt}
-use Rattle.trimming.proofs.Left.{leftCount, left-all, left-get, left-without, left-map}
+use Rattle.trimming.proofs.Left.{leftCount, left-all, left-get, left-without, left-strike, left-map}
 
--- The text left is accepted, as the policy left, and its lines are the lines left
+-- The text left is accepted, as the policy left, and its lines are the lines left; each element has a flag
 pub record Stands (f : Bytes) (p : Policy) (struck : List ℕ) : Type 0 where
   pub accepts : read (textLeft f p struck) ≡ given (leftPolicy p struck)
   pub pieces : lines (textLeft f p struck) ≡ linesLeft f p struck ++ ([] ∷ [])
+  pub room : length (p .elements) ≤ length struck
 
 -- the line of place i in the text left
 abbrev pub lineAt : Policy → List ℕ → ℕ → ℕ
@@ -37,14 +38,25 @@ without-behind (x ∷ xs) ys n c e =
     let one : n + c ≡ suc (length xs + c) = omega arith in
     rw one (ap (λ l. x ∷ l) (without-behind xs ys (length xs) c refl))
 
-rule-below : (es : List Element) (i : ℕ) → ruleIn es i ≡ true → i < length es
+pub rule-below : (es : List Element) (i : ℕ) → ruleIn es i ≡ true → i < length es
 rule-below [] i e = contradiction e refl
 rule-below (x ∷ es) zero e = omega arith
 rule-below (x ∷ es) (suc i) e = let l = rule-below es i e in omega arith
 
+-- a rule that is left
+module _ (p : Policy) (struck : List ℕ) (i : ℕ) (kept : keptAt p struck i ≡ true) where
+  pub kept-left : isLeft struck i ≡ true
+  kept-left = and-true (isLeft struck i) (ruleIn (p .elements) i) kept .0
+
+  kept-rule : ruleIn (p .elements) i ≡ true
+  kept-rule = and-true (isLeft struck i) (ruleIn (p .elements) i) kept .1
+
+  pub kept-below : i < length (p .elements)
+  kept-below = rule-below (p .elements) i kept-rule
+
 module _ (f : Bytes) (p : Policy) (h : read f ≡ given p) where
   -- No place is struck: all is left
-  module _ (struck : List ℕ) (clear : Clear struck) where
+  module _ (struck : List ℕ) (clear : Clear struck) (room : length (p .elements) ≤ length struck) where
     lines-whole : linesLeft f p struck ≡ front (lines f)
     lines-whole = rw (left-all struck clear 0 (drop (length (p .attributes)) (front (lines f)))) (take-append-drop (length (p .attributes)) (front (lines f)))
 
@@ -56,6 +68,7 @@ module _ (f : Bytes) (p : Policy) (h : read f ≡ given p) where
     stands-whole = record {
       accepts = ap read text-whole ∙ h ∙ rw (left-all struck clear 0 (p .elements));
       pieces = ap lines text-whole ∙ accepted f p h .text .pieces ∙ ap (λ ls. ls ++ ([] ∷ [])) (sym lines-whole);
+      room = room;
     }
 
   module _ (struck : List ℕ) (s : Stands f p struck) where
@@ -76,15 +89,15 @@ module _ (f : Bytes) (p : Policy) (h : read f ≡ given p) where
     rule-name i l e = name-line-at text (leftPolicy p struck) (s .accepts) (leftCount struck 0 i) ∙ at-line nameOf [] i l e
 
     -- A rule that is left
-    module _ (i : ℕ) (kept : keptAt p struck i ≡ true) (flag : i < length struck) where
-      is-left : isLeft struck i ≡ true
-      is-left = and-true (isLeft struck i) (ruleIn (p .elements) i) kept .0
+    module _ (i : ℕ) (kept : keptAt p struck i ≡ true) where
+      abbrev is-left : isLeft struck i ≡ true
+      is-left = kept-left p struck i kept
 
-      below : i < length (p .elements)
-      below = rule-below (p .elements) i (and-true (isLeft struck i) (ruleIn (p .elements) i) kept .1)
+      abbrev below : i < length (p .elements)
+      below = kept-below p struck i kept
 
-      on-line : isRuleLine text (lineAt p struck i) ≡ true
-      on-line = rule-line i below is-left ∙ and-true (isLeft struck i) (ruleIn (p .elements) i) kept .1
+      pub kept-line : isRuleLine text (lineAt p struck i) ≡ true
+      kept-line = rule-line i below is-left ∙ kept-rule p struck i kept
 
       -- its line struck, and its flag set
       strike-lines : lines (strike (lineAt p struck i) text) ≡ linesLeft f p (set struck i 1) ++ ([] ∷ [])
@@ -93,11 +106,11 @@ module _ (f : Bytes) (p : Policy) (h : read f ≡ given p) where
           let a = length (p .attributes) in
           let own = front (lines f) in
           let counted = file-count f p h in
-          strike-without text (leftPolicy p struck) (s .accepts) k on-line
+          strike-without text (leftPolicy p struck) (s .accepts) k kept-line
           ∙ ap (without k) (s .pieces)
           ∙ ap (without k) (append-assoc (take a own) (leftFrom struck 0 (drop a own)) ([] ∷ []))
           ∙ without-behind (take a own) (leftFrom struck 0 (drop a own) ++ ([] ∷ [])) a (leftCount struck 0 i) (sym (length-take-le a own (omega arith)))
-          ∙ ap (λ ls. take a own ++ ls) (left-without struck 0 i i (drop a own) ([] ∷ []) (sym (zero-add i)) (omega (arith, below, length-drop a own)) flag is-left)
+          ∙ ap (λ ls. take a own ++ ls) (left-without struck 0 i i (drop a own) ([] ∷ []) (sym (zero-add i)) (omega (arith, below, length-drop a own)) (omega (arith, below, s .room)) is-left)
           ∙ sym (append-assoc (take a own) (leftFrom (set struck i 1) 0 (drop a own)) ([] ∷ []))
 
       pub strike-flag : strike (lineAt p struck i) text ≡ textLeft f p (set struck i 1)
@@ -106,20 +119,20 @@ module _ (f : Bytes) (p : Policy) (h : read f ≡ given p) where
 
       policy-left : read (strike (lineAt p struck i) text) ≡ given (leftPolicy p (set struck i 1))
       policy-left =
-          let x = strike-read text (leftPolicy p struck) (s .accepts) (lineAt p struck i) on-line in
+          let x = strike-read text (leftPolicy p struck) (s .accepts) (lineAt p struck i) kept-line in
           let c = leftCount struck 0 i in
           let es = p .elements in
           let others : x .front ++ x .back ≡ leftFrom (set struck i 1) 0 es =
           sym (without-behind (x .front) (x .gone ∷ x .back) c 0 (omega (arith, x .place)))
-          ∙ rw add-zero (ap (without c) (sym (x .whole) ∙ sym (append-nil (leftFrom struck 0 es))))
-          ∙ left-without struck 0 i i es [] (sym (zero-add i)) below flag is-left
-          ∙ append-nil (leftFrom (set struck i 1) 0 es) in
+          ∙ rw add-zero (ap (without c) (sym (x .whole)))
+          ∙ left-strike struck i es below (omega (arith, below, s .room)) is-left in
           x .others ∙ ap (λ l. given (record { attributes = p .attributes; elements = l })) others
 
       pub stands-next : Stands f p (set struck i 1)
       stands-next = record {
         accepts = rw strike-flag at policy-left;
         pieces = rw strike-flag at strike-lines;
+        room = rw (length-set struck i 1) (s .room);
       }
 
       pub change-flag : firstChange text (lineAt p struck i) ≡ firstChangeAt p struck i
@@ -128,4 +141,4 @@ module _ (f : Bytes) (p : Policy) (h : read f ≡ given p) where
 
       pub needless-flag : needless text (lineAt p struck i) ≡ needlessAt p struck i
       unfolding needlessAt
-      needless-flag = rw (on-line, change-flag, kept)
+      needless-flag = rw (kept-line, change-flag, kept)
