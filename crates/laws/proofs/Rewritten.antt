@@ -164,7 +164,7 @@ gathered-append : {A B : Type 0} (f : A → List B) (xs ys : List A) → gathere
 gathered-append f [] ys = refl
 gathered-append f (x ∷ xs) ys = ap (λ zs. f x ++ zs) (gathered-append f xs ys) ∙ sym (append-assoc (f x) (gathered f xs) (gathered f ys))
 
-gathered-map : {A B C : Type 0} (f : B → List C) (g : A → B) (xs : List A) → gathered f (map g xs) ≡ gathered (λ x. f (g x)) xs
+pub gathered-map : {A B C : Type 0} (f : B → List C) (g : A → B) (xs : List A) → gathered f (map g xs) ≡ gathered (λ x. f (g x)) xs
 gathered-map f g [] = refl
 gathered-map f g (x ∷ xs) = ap (λ zs. f (g x) ++ zs) (gathered-map f g xs)
 

@@ -2,4 +2,5 @@
 pub mod Left
 pub mod Steps
 pub mod Next
+pub mod Kept
 pub mod Trimmed

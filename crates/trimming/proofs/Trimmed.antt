@@ -1,5 +1,5 @@
 -- Trimming on flags is the meaning's trimming on bytes.
-use mathlib.Core.Path.{_≡_, refl, ap, _∙_}
+use mathlib.Core.Path.{_≡_, refl, sym, ap, _∙_}
 use Prim.Native.Nat.{ℕ, zero, suc, _≤_}
 use native.Mathlib.Nat.{zero-add}
 use native.Mathlib.Omega.{arith}
@@ -7,17 +7,18 @@ use mathlib.Core.Bool.{true}
 use mathlib.Core.List.{List, _∷_, map}
 use mathlib.Core.Option.{Option, none, some, Option·map}
 use lib.ListN.{length, set}
-use Rattle.meaning.specs.Text.{Bytes}
+use Rattle.meaning.specs.Text.{Bytes, gathered}
 use Rattle.meaning.specs.Model.{Policy, given}
 use Rattle.meaning.specs.Reading.{read}
-use Rattle.meaning.specs.Trimming.{isRuleLine, nameAt, trimmed}
-use Rattle.meaning.specs.Report.{nameIn}
+use Rattle.meaning.specs.Trimming.{isRuleLine, nameAt, ruleLines, trimmed}
+use Rattle.meaning.specs.Report.{nameIn, keptLine}
 use Rattle.meaning.specs.Claims.{Trims, none-left, last-struck}
-use Rattle.laws.proofs.Trimming.{next-none, next-last, trimmed-steps, steps-settle}
-use Rattle.trimming.specs.Flags.{Clear, leftFrom, leftPolicy, textLeft, nextAt, trimmingAt}
+use Rattle.laws.proofs.Trimming.{next-none, next-last, rule-needed, trimmed-steps, steps-end, steps-settle}
+use Rattle.trimming.specs.Flags.{Clear, leftFrom, leftPolicy, textLeft, firstChangeAt, keptAt, nextAt, trimmingAt, keptPlaces, keptLineAt}
 use Rattle.trimming.proofs.Left.{left-all, left-within, left-fewer}
-use Rattle.trimming.proofs.Steps.{Stands, lineAt, kept-left, kept-below, text-whole, stands-whole, rule-name, strike-flag, stands-next}
+use Rattle.trimming.proofs.Steps.{Stands, lineAt, kept-left, kept-below, text-whole, stands-whole, rule-name, kept-line, strike-flag, stands-next, change-flag}
 use Rattle.trimming.proofs.Next.{rule-place, next-flag, next-kept}
+use Rattle.trimming.proofs.Kept.{kept-lines}
 
 -- From flags that stand, trimming takes the paper's steps to flags that stand
 pub record Ends (f : Bytes) (p : Policy) (n : ℕ) (struck : List ℕ) : Type 0 where
@@ -71,3 +72,17 @@ module _ (f : Bytes) (p : Policy) (h : read f ≡ given p) where
     trimmed-flags =
         let (a, b) = steps-settle (trimmed-steps f p h) (rw (text-whole f p h struck clear room) at (ends .steps)) in
         λ i. record { text = b i; struck = a i }
+
+    -- The rules left at the end have their `K` lines, each with a request
+    abbrev end : List ℕ
+    end = trimmingAt n p struck .flags
+
+    pub kept-flags : gathered (keptLine (trimmed f .text)) (ruleLines (trimmed f .text)) ≡ gathered (keptLineAt p end) (keptPlaces p end)
+    kept-flags = ap (λ t. gathered (keptLine (t .text)) (ruleLines (t .text))) trimmed-flags ∙ kept-lines f p h end trimmed-stands
+
+    pub kept-shown : (i : ℕ) → keptAt p end i ≡ true → (m : ℕ) × (firstChangeAt p end i ≡ some m)
+    kept-shown i kept =
+        let k = lineAt p end i in
+        let s = trimmed-stands in
+        let (q, m, left, e, change) = rule-needed (textLeft f p end) (leftPolicy p end) (s .accepts) k (kept-line f p h end s i kept) (steps-end (ends .steps) k) in
+        (m, sym (change-flag f p h end s i kept) ∙ e)

@@ -7,10 +7,11 @@ use mathlib.Core.Option.{Option, none, some}
 use lib.Dec.{eqb}
 use lib.ListN.{length, getD, take, drop, set}
 use Rattle.meaning.specs.declared.Element.{Element}
-use Rattle.meaning.specs.Text.{Bytes, isNone, front, gathered, firstFrom, lastBelow, newline}
+use Rattle.meaning.specs.Text.{Bytes, bytes, keep, front, isNone, gathered, ifSome, counting, firstFrom, lastBelow, newline, line, decimal}
 use Rattle.meaning.specs.Model.{Policy, space}
 use Rattle.meaning.specs.Deciding.{sameOutcome, outcome}
 use Rattle.meaning.specs.Trimming.{lines}
+use Rattle.meaning.specs.Report.{nameIn}
 use Rattle.meaning.specs.Claims.{isRule}
 
 -- place i is left: its flag is 0
@@ -81,3 +82,10 @@ onwardAt (some i) struck next = placeFirst i (next i)
 unfoldable pub trimmingAt : ℕ → Policy → List ℕ → Flagged
 trimmingAt zero p struck = record { flags = struck; places = [] }
 trimmingAt (suc n) p struck = onwardAt (nextAt p struck) struck (λ i. trimmingAt n p (set struck i 1))
+
+-- the rules that are left, in file order, and the `K` line of each
+abbrev pub keptPlaces : Policy → List ℕ → List ℕ
+keptPlaces p struck = keep (keptAt p struck) (counting 0 (length (p .elements)))
+
+abbrev pub keptLineAt : Policy → List ℕ → ℕ → Bytes
+keptLineAt p struck i = ifSome (firstChangeAt p struck i) (λ n. line (bytes "K" ∷ nameIn (p .elements) i ∷ decimal n ∷ []))
