@@ -149,7 +149,7 @@ unfolding nearest
 empty-stands = record { count = refl; last = refl; kinds = λ d l. getD-replicate 8 d 0 0 l }
 
 -- A decision looks at neither kinds nor names: at elements as a table has them it is the same
-abbrev bare : Element → Element
+abbrev pub bare : Element → Element
 bare e = record { kind = rule; depth = e .depth; name = replicate 16 0; len = 0; word = e .word; masks = e .masks }
 
 module _ (q : List ℕ) where
@@ -157,15 +157,15 @@ module _ (q : List ℕ) where
   replies-bare d [] = refl
   replies-bare d (e ∷ es) = rw (replies-bare d es, replies-bare (suc d) es)
 
-  decision-bare : (es : List Element) → firstDecision (matches q) (map bare es) ≡ firstDecision (matches q) es
+  pub decision-bare : (es : List Element) → firstDecision (matches q) (map bare es) ≡ firstDecision (matches q) es
   decision-bare [] = refl
   decision-bare (e ∷ es) = rw (replies-bare (suc (e .depth)) es)
 
-map-reverse : {A B : Type 0} (f : A → B) (xs : List A) → map f (reverse xs) ≡ reverse (map f xs)
+pub map-reverse : {A B : Type 0} (f : A → B) (xs : List A) → map f (reverse xs) ≡ reverse (map f xs)
 map-reverse f [] = refl
 map-reverse f (x ∷ xs) = rw (reverse-cons x xs, reverse-cons (f x) (map f xs), map-append f (reverse xs) (x ∷ []), map-reverse f xs)
 
-elements-bare : (f : Bytes) (table places : List ℕ) (n : ℕ) → map bare (elementsTo f table places n) ≡ before table n
+pub elements-bare : (f : Bytes) (table places : List ℕ) (n : ℕ) → map bare (elementsTo f table places n) ≡ before table n
 unfolding elementsTo elementIn before elementAt
 elements-bare f table places zero = refl
 elements-bare f table places (suc n) = rw (elements-bare f table places n)
@@ -180,7 +180,7 @@ module _ (table struck : List ℕ) where
       let here = eq-eqb (getD struck i 0) 0 (live i (omega arith)) in
       rw (here, left-more (i + 1) n (λ k l. live k (omega arith)), next)
 
-  all-left : (n : ℕ) → ((k : ℕ) → k < n → getD struck k 0 ≡ 0) → left table struck 0 n ≡ reverse (before table n)
+  pub all-left : (n : ℕ) → ((k : ℕ) → k < n → getD struck k 0 ≡ 0) → left table struck 0 n ≡ reverse (before table n)
   unfolding before left
   all-left zero live = refl
   all-left (suc n) live =

@@ -4,3 +4,4 @@ pub mod Steps
 pub mod Next
 pub mod Kept
 pub mod Trimmed
+pub mod Table
