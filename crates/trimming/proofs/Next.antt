@@ -22,6 +22,16 @@ use Rattle.trimming.specs.Flags.{isLeft, leftFrom, leftPolicy, textLeft,
 use Rattle.trimming.proofs.Left.{leftCount, count-rises, left-place}
 use Rattle.trimming.proofs.Steps.{Stands, lineAt, rule-below, rule-line, kept-left, kept-below, kept-line, needless-flag}
 
+-- A needless rule is left, and so is the next one to strike
+module _ (p : Policy) (struck : List ℕ) where
+  needless-kept : (i : ℕ) → needlessAt p struck i ≡ true → keptAt p struck i ≡ true
+  unfolding needlessAt
+  needless-kept i n = and-true (keptAt p struck i) (isNone (firstChangeAt p struck i)) n .0
+
+  pub next-kept : (i : ℕ) → nextAt p struck ≡ some i → keptAt p struck i ≡ true
+  unfolding nextAt
+  next-kept i e = needless-kept i (last-some (needlessAt p struck) (length (p .elements)) i e .holds)
+
 module _ (f : Bytes) (p : Policy) (h : read f ≡ given p) (struck : List ℕ) (s : Stands f p struck) where
   abbrev text : Bytes
   text = textLeft f p struck
@@ -63,10 +73,6 @@ module _ (f : Bytes) (p : Policy) (h : read f ≡ given p) (struck : List ℕ) (
       let x = rule-place k (and-true (isRuleLine text k) (isNone (firstChange text k)) n .0) in
       (x, sym (needless-flag f p h struck s (x .place) (x .kept)) ∙ rw (x .line) n)
 
-  needless-kept : (i : ℕ) → needlessAt p struck i ≡ true → keptAt p struck i ≡ true
-  unfolding needlessAt
-  needless-kept i n = and-true (keptAt p struck i) (isNone (firstChangeAt p struck i)) n .0
-
   -- The next rule to strike is the same
   next-none-left : lastBelow (needlessAt p struck) (length (p .elements)) ≡ none → nextStruck text ≡ none
   next-none-left e = last-absent (needless text) (length (lines text)) (λ k l. go k (test (needless text k)))
@@ -79,7 +85,7 @@ module _ (f : Bytes) (p : Policy) (h : read f ≡ given p) (struck : List ℕ) (
 
   next-some-left : (i : ℕ) → Last (needlessAt p struck) (length (p .elements)) i → nextStruck text ≡ some (lineAt p struck i)
   next-some-left i l =
-      let kept = needless-kept i (l .holds) in
+      let kept = needless-kept p struck i (l .holds) in
       last-is (needless text) (length (lines text)) (lineAt p struck i) (record {
         below = rule-within text (lineAt p struck i) (kept-line f p h struck s i kept);
         holds = needless-flag f p h struck s i kept ∙ l .holds;
@@ -100,7 +106,3 @@ module _ (f : Bytes) (p : Policy) (h : read f ≡ given p) (struck : List ℕ) (
       go : (o : Option ℕ) → lastBelow (needlessAt p struck) (length (p .elements)) ≡ o → nextStruck text ≡ Option·map (lineAt p struck) o
       go none e = next-none-left e
       go (some i) e = next-some-left i (last-some (needlessAt p struck) (length (p .elements)) i e)
-
-  pub next-kept : (i : ℕ) → nextAt p struck ≡ some i → keptAt p struck i ≡ true
-  unfolding nextAt
-  next-kept i e = needless-kept i (last-some (needlessAt p struck) (length (p .elements)) i e .holds)

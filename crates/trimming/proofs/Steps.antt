@@ -32,12 +32,14 @@ pub record Stands (f : Bytes) (p : Policy) (struck : List ℕ) : Type 0 where
 abbrev pub lineAt : Policy → List ℕ → ℕ → ℕ
 lineAt p struck i = length (p .attributes) + leftCount struck 0 i
 
+-- a list without an element of its second part
 without-behind : {A : Type 0} (xs ys : List A) (n c : ℕ) → n ≡ length xs → without (n + c) (xs ++ ys) ≡ xs ++ without c ys
 without-behind [] ys n c e = rw (e, zero-add)
 without-behind (x ∷ xs) ys n c e =
     let one : n + c ≡ suc (length xs + c) = omega arith in
     rw one (ap (λ l. x ∷ l) (without-behind xs ys (length xs) c refl))
 
+-- a rule has a place
 pub rule-below : (es : List Element) (i : ℕ) → ruleIn es i ≡ true → i < length es
 rule-below [] i e = contradiction e refl
 rule-below (x ∷ es) zero e = omega arith
@@ -56,7 +58,7 @@ module _ (p : Policy) (struck : List ℕ) (i : ℕ) (kept : keptAt p struck i �
 
 module _ (f : Bytes) (p : Policy) (h : read f ≡ given p) where
   -- No place is struck: all is left
-  module _ (struck : List ℕ) (clear : Clear struck) (room : length (p .elements) ≤ length struck) where
+  module _ (struck : List ℕ) (clear : Clear struck) where
     lines-whole : linesLeft f p struck ≡ front (lines f)
     lines-whole = rw (left-all struck clear 0 (drop (length (p .attributes)) (front (lines f)))) (take-append-drop (length (p .attributes)) (front (lines f)))
 
@@ -64,8 +66,8 @@ module _ (f : Bytes) (p : Policy) (h : read f ≡ given p) where
     unfolding textLeft
     text-whole = ap unlines lines-whole ∙ sym (text-unlines f (front (lines f)) (accepted f p h .text .pieces))
 
-    pub stands-whole : Stands f p struck
-    stands-whole = record {
+    pub stands-whole : length (p .elements) ≤ length struck → Stands f p struck
+    stands-whole room = record {
       accepts = ap read text-whole ∙ h ∙ rw (left-all struck clear 0 (p .elements));
       pieces = ap lines text-whole ∙ accepted f p h .text .pieces ∙ ap (λ ls. ls ++ ([] ∷ [])) (sym lines-whole);
       room = room;
@@ -135,6 +137,7 @@ module _ (f : Bytes) (p : Policy) (h : read f ≡ given p) where
         room = rw (length-set struck i 1) (s .room);
       }
 
+      -- the first request that changes, and whether it is needless
       pub change-flag : firstChange text (lineAt p struck i) ≡ firstChangeAt p struck i
       unfolding firstChange firstChangeAt changesAt
       change-flag = rw (s .accepts, strike-flag, stands-next .accepts)

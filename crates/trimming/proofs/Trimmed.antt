@@ -39,7 +39,7 @@ module _ (f : Bytes) (p : Policy) (h : read f ≡ given p) where
   next-step n struck s i e later =
       let text = textLeft f p struck in
       let es = p .elements in
-      let kept = next-kept f p h struck s i e in
+      let kept = next-kept p struck i e in
       let k = lineAt p struck i in
       let (x, y) = next-last text (leftPolicy p struck) (s .accepts) k (next-flag f p h struck s ∙ ap (Option·map (lineAt p struck)) e) in
       let t = trimmingAt n p (set struck i 1) in
@@ -55,7 +55,7 @@ module _ (f : Bytes) (p : Policy) (h : read f ≡ given p) where
       go : (o : Option ℕ) → nextAt p struck ≡ o → ((i : ℕ) → Stands f p (set struck i 1) → length (leftFrom (set struck i 1) 0 (p .elements)) ≤ n → Ends f p n (set struck i 1)) → Ends f p (suc n) struck
       go none e later = record { steps = rw e (none-left (textLeft f p struck) (next-none (textLeft f p struck) (next-flag f p h struck s ∙ ap (Option·map (lineAt p struck)) e))); stands = rw e s }
       go (some i) e later =
-          let kept = next-kept f p h struck s i e in
+          let kept = next-kept p struck i e in
           let below = kept-below p struck i kept in
           let fewer = left-fewer struck i (p .elements) below (omega (arith, s .room)) (kept-left p struck i kept) in
           next-step n struck s i e (later i (stands-next f p h struck s i kept) (omega arith))
@@ -70,7 +70,7 @@ module _ (f : Bytes) (p : Policy) (h : read f ≡ given p) where
 
     pub trimmed-flags : trimmed f ≡ record { text = textLeft f p (trimmingAt n p struck .flags); struck = map (nameIn (p .elements)) (trimmingAt n p struck .places) }
     trimmed-flags =
-        let (a, b) = steps-settle (trimmed-steps f p h) (rw (text-whole f p h struck clear room) at (ends .steps)) in
+        let (a, b) = steps-settle (trimmed-steps f p h) (rw (text-whole f p h struck clear) at (ends .steps)) in
         λ i. record { text = b i; struck = a i }
 
     -- The rules left at the end have their `K` lines, each with a request
