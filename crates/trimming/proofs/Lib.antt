@@ -5,3 +5,4 @@ pub mod Next
 pub mod Kept
 pub mod Trimmed
 pub mod Table
+pub mod Placed
