@@ -1,0 +1,3 @@
+-- What the contracts of flags cite.
+pub mod Decided
+pub mod Ready

@@ -1,0 +1,57 @@
+// Which rules trimming strikes, over a lent table of elements and a flag for each: one that is not 0 strikes its element.
+use meaning::Decision;
+use requests::Request;
+ghost use mathlib.Core.Path.{_≡_};
+ghost use mathlib.Core.List.{_++_};
+ghost use Prim.Native.Nat.{_≤_};
+ghost use lib.ListN.{length, getD, drop};
+ghost use Rattle.meaning.specs.Deciding.{decisionNumber, matches, firstDecision};
+ghost use Rattle.requests.specs.Values.{valuesOf};
+ghost use Rattle.decisions.specs.Table.{left, Room};
+ghost use Rattle.flags.specs.Decided.{numbers};
+ghost use Rattle.flags.specs.Ready.{countsOf, Ready};
+
+// A policy's shape: `n` elements, the value counts of `len` attributes, and their product, the number of requests.
+pub struct Shape {
+    pub n: usize,
+    pub counts: [usize; 6],
+    pub len: usize,
+    pub space: usize,
+}
+
+fn number(d: Decision) -> u8
+    ensures { λ r. ⌜ r ≡ decisionNumber d ⌝ }
+{
+    match d {
+        Decision::Permit => 0,
+        Decision::Deny => 1,
+        Decision::NotApplicable => 2,
+        Decision::Indeterminate => 3,
+    }
+}
+
+// The number of the decision that the request gets.
+fn outcome(table: &[u16], struck: &[u8], n: usize, q: Request) -> u8
+    requires { ⌜ Room (now table) (now struck) n 1 (q .len) × (getD (now struck) 0 0 ≡ 0) ⌝ }
+    ensures { λ r. ⌜ r ≡ decisionNumber (firstDecision (matches (valuesOf q)) (left (now (table .entry)) (now (struck .entry)) 0 n)) ⌝ }
+{
+    number(decisions::decide(table, struck, n, q))
+}
+
+// Lays down the number of each request's decision; what lies behind them stays.
+pub fn decide_all(table: &[u16], struck: &[u8], shape: Shape, decided: &mut [u8])
+    requires { ⌜ Ready (now table) (now struck) shape × (shape .space ≤ length (now decided)) ⌝ }
+    ensures { λ _. ⌜ now (decided .exit) ≡ numbers (now (table .entry)) (shape .n) (countsOf shape) (now (struck .entry)) ++ drop (shape .space) (now (decided .entry)) ⌝ }
+{
+    let n = shape.n;
+    let counts = shape.counts;
+    let len = shape.len;
+    let space = shape.space;
+    let mut q = requests::request_of(0, counts, len);
+    let mut m = 0;
+    while m < space {
+        decided[m] = outcome(table, struck, n, q);
+        q = q.next(counts);
+        m += 1;
+    }
+}
