@@ -5,10 +5,11 @@ ghost use mathlib.Core.Path.{_≡_};
 ghost use mathlib.Core.List.{_++_};
 ghost use Prim.Native.Nat.{_≤_};
 ghost use lib.ListN.{length, getD, drop};
+ghost use Rattle.meaning.specs.Text.{firstFrom};
 ghost use Rattle.meaning.specs.Deciding.{decisionNumber, matches, firstDecision};
 ghost use Rattle.requests.specs.Values.{valuesOf};
-ghost use Rattle.decisions.specs.Table.{left, Room};
-ghost use Rattle.flags.specs.Decided.{numbers};
+ghost use Rattle.decisions.specs.Table.{left, placeOr, Room};
+ghost use Rattle.flags.specs.Decided.{numbers, differsAt};
 ghost use Rattle.flags.specs.Ready.{countsOf, Ready};
 
 // A policy's shape: `n` elements, the value counts of `len` attributes, and their product, the number of requests.
@@ -54,4 +55,25 @@ pub fn decide_all(table: &[u16], struck: &[u8], shape: Shape, decided: &mut [u8]
         q = q.next(counts);
         m += 1;
     }
+}
+
+// The first request that gets another decision than the one laid down, or the number of requests.
+pub fn first_change(table: &[u16], struck: &[u8], shape: Shape, decided: &[u8]) -> usize
+    requires { ⌜ Ready (now table) (now struck) shape × (shape .space ≤ length (now decided)) ⌝ }
+    ensures { λ r. ⌜ r ≡ placeOr (shape .space) (firstFrom (differsAt (now (table .entry)) (shape .n) (countsOf shape) (now (decided .entry)) (now (struck .entry))) 0 (shape .space)) ⌝ }
+{
+    let n = shape.n;
+    let counts = shape.counts;
+    let len = shape.len;
+    let space = shape.space;
+    let mut q = requests::request_of(0, counts, len);
+    let mut first = 0;
+    while first < space {
+        if outcome(table, struck, n, q) != decided[first] {
+            return first;
+        }
+        q = q.next(counts);
+        first += 1;
+    }
+    space
 }
