@@ -1,3 +1,4 @@
 -- The laws that the functions' proofs cite.
 pub mod Walking
 pub mod Searching
+pub mod Trying

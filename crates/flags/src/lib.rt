@@ -3,14 +3,14 @@ use meaning::Decision;
 use requests::Request;
 ghost use mathlib.Core.Path.{_≡_};
 ghost use mathlib.Core.List.{_++_};
-ghost use Prim.Native.Nat.{_≤_};
+ghost use Prim.Native.Nat.{_*_, _≤_, _<_};
 ghost use lib.ListN.{length, getD, drop};
-ghost use Rattle.meaning.specs.Text.{firstFrom};
+ghost use Rattle.meaning.specs.Text.{isNone, firstFrom};
 ghost use Rattle.meaning.specs.Deciding.{decisionNumber, matches, firstDecision};
 ghost use Rattle.requests.specs.Values.{valuesOf};
 ghost use Rattle.decisions.specs.Table.{left, placeOr, Room};
-ghost use Rattle.flags.specs.Decided.{numbers, differsAt};
-ghost use Rattle.flags.specs.Ready.{countsOf, Ready};
+ghost use Rattle.flags.specs.Decided.{ruleLeft, numbers, differsAt, needlessAt};
+ghost use Rattle.flags.specs.Ready.{countsOf, Ready, Holds};
 
 // A policy's shape: `n` elements, the value counts of `len` attributes, and their product, the number of requests.
 pub struct Shape {
@@ -18,6 +18,12 @@ pub struct Shape {
     pub counts: [usize; 6],
     pub len: usize,
     pub space: usize,
+}
+
+// Whether a rule is needless, and a request to try first the next time.
+pub struct Tried {
+    pub needless: bool,
+    pub shown: usize,
 }
 
 fn number(d: Decision) -> u8
@@ -76,4 +82,72 @@ pub fn first_change(table: &[u16], struck: &[u8], shape: Shape, decided: &[u8]) 
         first += 1;
     }
     space
+}
+
+// Whether element i is a rule that is not struck.
+fn is_left(table: &[u16], struck: &[u8], i: usize) -> bool
+    requires { ⌜ (8 * i < length (now table)) × (i < length (now struck)) ⌝ }
+    ensures { λ r. ⌜ r ≡ ruleLeft (now (table .entry)) (now (struck .entry)) i ⌝ }
+{
+    if struck[i] == 0 {
+        table[8 * i] < 2
+    } else {
+        false
+    }
+}
+
+// Whether every request gets the decision laid down, the hint tried first.
+fn alike(table: &[u16], struck: &[u8], shape: Shape, decided: &[u8], hint: usize) -> Tried
+    requires { ⌜ Ready (now table) (now struck) shape × (shape .space ≤ length (now decided)) ⌝ }
+    ensures { λ r. ⌜ (r .needless ≡ isNone (firstFrom (differsAt (now (table .entry)) (shape .n) (countsOf shape) (now (decided .entry)) (now (struck .entry))) 0 (shape .space))) × (r .shown < shape .space) ⌝ }
+{
+    let n = shape.n;
+    let counts = shape.counts;
+    let len = shape.len;
+    let space = shape.space;
+    if hint < space {
+        let q = requests::request_of(hint, counts, len);
+        if outcome(table, struck, n, q) != decided[hint] {
+            return Tried {
+                needless: false,
+                shown: hint,
+            };
+        }
+    }
+    let first = first_change(table, struck, shape, decided);
+    if first == space {
+        Tried {
+            needless: true,
+            shown: 0,
+        }
+    } else {
+        Tried {
+            needless: false,
+            shown: first,
+        }
+    }
+}
+
+// Whether element i is a rule without which every request gets the same decision; those with it are laid down.
+pub fn needless(
+    table: &[u16],
+    struck: &mut [u8],
+    shape: Shape,
+    decided: &[u8],
+    i: usize,
+    hint: usize,
+) -> Tried
+    requires { ⌜ Ready (now table) (now struck) shape × Holds (now table) (now struck) (now decided) shape × (i < shape .n) ⌝ }
+    ensures { λ r. ⌜ (r .needless ≡ needlessAt (now (table .entry)) (shape .n) (countsOf shape) (now (struck .entry)) i) × (r .shown < shape .space) × (now (struck .exit) ≡ now (struck .entry)) ⌝ }
+{
+    if !is_left(table, struck, i) {
+        return Tried {
+            needless: false,
+            shown: 0,
+        };
+    }
+    struck[i] = 1;
+    let tried = alike(table, struck, shape, decided, hint);
+    struck[i] = 0;
+    tried
 }

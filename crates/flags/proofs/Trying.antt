@@ -1,0 +1,96 @@
+-- Whether a rule is needless, by the decisions without it against those laid down.
+use Prim.Native.Nat.{ℕ, zero, suc, _+_, _*_, _≤_, _<_, zero-le}
+use mathlib.Core.Path.{_≡_, refl, sym, ap, ap₂, _∙_}
+use mathlib.Core.Bool.{Bool, true, false, not}
+use mathlib.Core.List.{List}
+use mathlib.Core.Option.{Option, none, some}
+use native.Mathlib.Omega.{arith}
+use lib.Dec.{eqb, ltb}
+use lib.ListN.{length, getD, set, length-set}
+use lib.Seq.{getD-set-other, set-set, set-getD}
+use borrow.Author.Tests.{eqb-true, ltb-true}
+use Rattle.meaning.specs.Text.{isNone, firstFrom}
+use Rattle.meaning.specs.Model.{product}
+use Rattle.meaning.specs.Deciding.{decisionNumber}
+use Rattle.laws.proofs.Bools.{contradiction, and-true}
+use Rattle.laws.proofs.Search.{first-some, first-none}
+use Rattle.decisions.specs.Table.{placeOr}
+use Rattle.flags.specs.declared.Shape.{Shape}
+use Rattle.flags.specs.Decided.{ruleLeft, decidedAt, differsAt, changesAt, firstChangeAt, needlessAt}
+use Rattle.flags.specs.Ready.{countsOf, Ready, Holds}
+
+-- Whether a search finds nothing, by the place that it gives
+module _ (p : ℕ → Bool) (size r : ℕ) where
+  pub none-found : r ≡ placeOr size (firstFrom p 0 size) → r ≡ size → isNone (firstFrom p 0 size) ≡ true
+  none-found found end = go (firstFrom p 0 size) refl
+    where
+      go : (o : Option ℕ) → firstFrom p 0 size ≡ o → isNone (firstFrom p 0 size) ≡ true
+      go none e = ap isNone e
+      go (some m) e = let at : r ≡ m = found ∙ ap (placeOr size) e in let no : ⊥ = omega (arith, first-some p 0 size m e .high) in absurd no
+
+  pub one-found : r ≡ placeOr size (firstFrom p 0 size) → (r ≡ size → ⊥) → (isNone (firstFrom p 0 size) ≡ false) × (r < size)
+  one-found found inside = go (firstFrom p 0 size) refl
+    where
+      go : (o : Option ℕ) → firstFrom p 0 size ≡ o → (isNone (firstFrom p 0 size) ≡ false) × (r < size)
+      go none e = absurd (inside (found ∙ ap (placeOr size) e))
+      go (some m) e = let at : r ≡ m = found ∙ ap (placeOr size) e in (ap isNone e, omega (arith, first-some p 0 size m e .high))
+
+  -- and by a number that passes
+  pub one-shown : r < size → p r ≡ true → isNone (firstFrom p 0 size) ≡ false
+  one-shown l passes = go (firstFrom p 0 size) refl
+    where
+      go : (o : Option ℕ) → firstFrom p 0 size ≡ o → isNone (firstFrom p 0 size) ≡ false
+      go none e = contradiction passes (first-none p 0 size e r zero-le (omega arith))
+      go (some m) e = ap isNone e
+
+-- tests that agree on the numbers searched find the same
+pub first-alike : (p q : ℕ → Bool) (m k : ℕ) → ((r : ℕ) → m ≤ r → r < m + k → p r ≡ q r) → firstFrom p m k ≡ firstFrom q m k
+first-alike p q m zero h = refl
+first-alike p q m (suc k) h = rw (h m (omega arith) (omega arith), first-alike p q (suc m) k (λ r low high. h r (omega arith) (omega arith)))
+
+-- A rule that is left is not the first element
+module _ (t struck : List ℕ) (i : ℕ) (rule : ruleLeft t struck i ≡ true) where
+  rule-flag : getD struck i 0 ≡ 0
+  rule-flag = eqb-true (getD struck i 0) 0 (and-true (eqb (getD struck i 0) 0) (ltb (getD t (8 * i) 0) 2) rule .0)
+
+  rule-word : getD t (8 * i) 0 < 2
+  rule-word = ltb-true (getD t (8 * i) 0) 2 (and-true (eqb (getD struck i 0) 0) (ltb (getD t (8 * i) 0) 2) rule .1)
+
+  rule-later : 2 ≤ getD t 0 0 → i ≡ 0 → ⊥
+  rule-later root first = let word : getD t (8 * 0) 0 < 2 = rw first at rule-word in omega arith
+
+  -- it can be struck
+  pub ready-struck : (s : Shape) → Ready t struck s → Ready t (set struck i 1) s
+  ready-struck s ready =
+      record {
+        rows = ready .rows;
+        flags = omega (arith, length-set struck i 1, ready .flags);
+        some = ready .some;
+        few = ready .few;
+        root = ready .root;
+        stays = getD-set-other struck i 0 1 0 (λ first. rule-later (ready .root) (sym first)) ∙ ready .stays;
+        attributes = ready .attributes;
+        all = ready .all;
+        positive = ready .positive;
+        small = ready .small;
+      }
+
+  -- and its flag set back
+  pub set-back : set (set struck i 1) i 0 ≡ struck
+  set-back = set-set struck i 1 0 ∙ ap (set struck i) (sym rule-flag) ∙ set-getD struck i 0
+
+  -- needless, by the decisions laid down
+  module _ (s : Shape) (decided : List ℕ) (ready : Ready t struck s) (holds : Holds t struck decided s) where
+    pub changes-differs : (m : ℕ) → m < s .space → differsAt t (s .n) (countsOf s) decided (set struck i 1) m ≡ changesAt t (s .n) (countsOf s) struck i m
+    unfolding differsAt changesAt
+    changes-differs m l = ap (λ d. not (eqb d (decisionNumber (decidedAt t (s .n) (countsOf s) (set struck i 1) m)))) (holds .numbered m l)
+
+    pub needless-rule : (b : Bool) → b ≡ isNone (firstFrom (differsAt t (s .n) (countsOf s) decided (set struck i 1)) 0 (s .space)) → b ≡ needlessAt t (s .n) (countsOf s) struck i
+    unfolding needlessAt firstChangeAt
+    needless-rule b e =
+        let same = first-alike (differsAt t (s .n) (countsOf s) decided (set struck i 1)) (changesAt t (s .n) (countsOf s) struck i) 0 (s .space) (λ m low high. changes-differs m (omega arith)) in
+        rw (rule, ready .all) (e ∙ ap isNone same)
+
+pub needless-other : (t : List ℕ) (n : ℕ) (counts struck : List ℕ) (i : ℕ) → ruleLeft t struck i ≡ false → false ≡ needlessAt t n counts struck i
+unfolding needlessAt
+needless-other t n counts struck i other = rw other

@@ -1,0 +1,58 @@
+-- `needless`: the flag is set for the comparison, and set back. Assumes nothing.
+use mathlib.Core.Path.{refl, sym, _∙_}
+use native.Mathlib.Omega.{arith}
+use borrow.Author.Tests.{not-true, not-false}
+use lib.ListN.{length-set}
+use Rattle.flags.specs.Ready.{countsOf}
+use Rattle.flags.proofs.Trying.{ready-struck, set-back, needless-rule, needless-other}
+use borrow.Author.Needs.{needs}
+use Rattle.flags.proofs.needless.Statement.{statement}
+use Rattle.flags.proofs.needless.Tie as tie
+
+is-left-requires : tie.Need-is-left-requires
+is-left-requires c κs = search needs
+
+same-length : tie.Need-same-length
+same-length c = search needs
+
+returns : tie.Need-returns
+returns c =
+    let start = c .before .before .before .before .before .before in
+    let other = sym (c .before .is-left .ensures) ∙ not-true _ (c .if1 .taken) in
+    (needless-other (start .args .table .now) (start .args .shape .n) (countsOf (start .args .shape)) (start .args .struck .now) (start .args .i) other, start .pre .0 .positive, refl)
+
+slice-write-struck : tie.Need-slice-write-struck
+slice-write-struck c = search needs
+
+alike-requires : tie.Need-alike-requires
+alike-requires c κs =
+    let start = c .before .before .before .before .before .before .before in
+    let rule = sym (c .before .before .is-left .ensures) ∙ not-false _ (c .before .if1 .left) in
+    (ready-struck (start .args .table .now) (start .args .struck .now) (start .args .i) rule (start .args .shape) (start .pre .0), start .pre .1 .enough)
+
+slice-write-struck-2 : tie.Need-slice-write-struck-2
+slice-write-struck-2 c = simp length-set (omega arith)
+
+same-length-2 : tie.Need-same-length-2
+same-length-2 c = search needs
+
+returns-2 : tie.Need-returns-2
+returns-2 c =
+    let start = c .before .before .before .before .before .before .before .before in
+    let t = start .args .table .now in
+    let struck = start .args .struck .now in
+    let rule = sym (c .before .before .before .is-left .ensures) ∙ not-false _ (c .before .before .if1 .left) in
+    (needless-rule t struck (start .args .i) rule (start .args .shape) (start .args .decided .now) (start .pre .0) (start .pre .1) _ (c .alike .ensures .0), c .alike .ensures .1, set-back t struck (start .args .i) rule)
+
+pub needless-spec : {M : Type 1} → statement M
+needless-spec =
+    tie.close
+    (tie.spec
+    is-left-requires
+    same-length
+    returns
+    slice-write-struck
+    alike-requires
+    slice-write-struck-2
+    same-length-2
+    returns-2)
