@@ -8,7 +8,7 @@ use native.Mathlib.Numerals.{add-one}
 use native.Mathlib.Omega.{arith}
 use lib.ListN.{getD}
 use borrow.Author.Tests.{eq-eqb, ne-eqb}
-use Rattle.meaning.specs.Text.{firstFrom}
+use Rattle.meaning.specs.Text.{firstFrom, lastBelow}
 use Rattle.meaning.specs.Deciding.{decisionNumber}
 use Rattle.flags.specs.Decided.{decidedAt, differsAt}
 
@@ -22,6 +22,19 @@ module _ (p : ℕ → Bool) (m n : ℕ) where
 
   pub first-nowhere : m ≡ n → firstFrom p m (n - m) ≡ none
   first-nowhere e = let no-more : n - m ≡ 0 = omega arith in rw no-more
+
+-- the last number that passes, below i
+module _ (p : ℕ → Bool) where
+  pub last-here : (i : ℕ) → 0 < i → p (i - 1) ≡ true → lastBelow p i ≡ some (i - 1)
+  last-here zero l e = let no : ⊥ = omega arith in absurd no
+  last-here (suc k) l e = let last : suc k - 1 ≡ k = omega arith in rw (last, rw last at e)
+
+  pub last-earlier : (i : ℕ) → 0 < i → p (i - 1) ≡ false → lastBelow p i ≡ lastBelow p (i - 1)
+  last-earlier zero l e = let no : ⊥ = omega arith in absurd no
+  last-earlier (suc k) l e = let last : suc k - 1 ≡ k = omega arith in rw (last, rw last at e)
+
+  pub last-nowhere : (i : ℕ) → i ≡ 0 → lastBelow p i ≡ none
+  last-nowhere i e = rw e
 
 -- d is the number of the decision that request m gets
 module _ (t : List ℕ) (n : ℕ) (counts decided struck : List ℕ) (m d : ℕ) (is : d ≡ decisionNumber (decidedAt t n counts struck m)) where

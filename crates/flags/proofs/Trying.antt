@@ -94,3 +94,10 @@ module _ (t struck : List ℕ) (i : ℕ) (rule : ruleLeft t struck i ≡ true) w
 pub needless-other : (t : List ℕ) (n : ℕ) (counts struck : List ℕ) (i : ℕ) → ruleLeft t struck i ≡ false → false ≡ needlessAt t n counts struck i
 unfolding needlessAt
 needless-other t n counts struck i other = rw other
+
+-- Flags that are those of the start
+pub asks : {t first struck decided : List ℕ} {s : Shape} → struck ≡ first → Ready t first s → Holds t first decided s → Ready t struck s × Holds t struck decided s
+asks same ready holds = rw same (ready, holds)
+
+pub tested : (t : List ℕ) (n : ℕ) (counts : List ℕ) {first struck : List ℕ} (i : ℕ) {b answer : Bool} → struck ≡ first → b ≡ needlessAt t n counts struck i → b ≡ answer → needlessAt t n counts first i ≡ answer
+tested t n counts i same is told = ap (λ flags. needlessAt t n counts flags i) (sym same) ∙ sym is ∙ told

@@ -9,7 +9,7 @@ ghost use Rattle.meaning.specs.Text.{isNone, firstFrom};
 ghost use Rattle.meaning.specs.Deciding.{decisionNumber, matches, firstDecision};
 ghost use Rattle.requests.specs.Values.{valuesOf};
 ghost use Rattle.decisions.specs.Table.{left, placeOr, Room};
-ghost use Rattle.flags.specs.Decided.{ruleLeft, numbers, differsAt, needlessAt};
+ghost use Rattle.flags.specs.Decided.{ruleLeft, numbers, differsAt, needlessAt, nextAt};
 ghost use Rattle.flags.specs.Ready.{countsOf, Ready, Holds};
 
 // A policy's shape: `n` elements, the value counts of `len` attributes, and their product, the number of requests.
@@ -150,4 +150,28 @@ pub fn needless(
     let tried = alike(table, struck, shape, decided, hint);
     struck[i] = 0;
     tried
+}
+
+// The last needless rule, or n. A rule's hint is a request whose decision changed without it when it was tried last.
+pub fn next_rule(
+    table: &[u16],
+    struck: &mut [u8],
+    shape: Shape,
+    decided: &[u8],
+    hints: &mut [u16],
+) -> usize
+    requires { ⌜ Ready (now table) (now struck) shape × Holds (now table) (now struck) (now decided) shape × (shape .n ≤ length (now hints)) ⌝ }
+    ensures { λ r. ⌜ (r ≡ placeOr (shape .n) (nextAt (now (table .entry)) (shape .n) (countsOf shape) (now (struck .entry)))) × (now (struck .exit) ≡ now (struck .entry)) ⌝ }
+{
+    let n = shape.n;
+    let mut i = n;
+    while 0 < i {
+        i -= 1;
+        let tried = needless(table, struck, shape, decided, i, hints[i] as usize);
+        if tried.needless {
+            return i;
+        }
+        hints[i] = tried.shown as u16;
+    }
+    n
 }

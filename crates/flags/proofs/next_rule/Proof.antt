@@ -1,0 +1,115 @@
+-- `next_rule`: the last needless rule below the place looked at is the last of all. Assumes nothing.
+use Prim.Native.Nat.{_-_, _≤_}
+use mathlib.Core.Path.{_≡_, refl, sym, ap, _∙_}
+use native.Mathlib.Omega.{arith}
+use borrow.Author.Needs.{needs}
+use lib.ListN.{length, length-set}
+use Rattle.meaning.specs.Text.{lastBelow}
+use Rattle.decisions.specs.Table.{placeOr}
+use Rattle.flags.specs.Decided.{needlessAt, nextAt}
+use Rattle.flags.specs.Ready.{countsOf}
+use Rattle.flags.proofs.Searching.{last-here, last-earlier, last-nowhere}
+use Rattle.flags.proofs.Trying.{asks, tested}
+use Rattle.flags.proofs.next_rule.Statement.{statement}
+use Rattle.flags.proofs.next_rule.Tie as tie
+
+abbrev Inv-loop : tie.InvT-loop
+Inv-loop table struck₀ shape decided hints₀ n i₀ struck hints i =
+    let test = needlessAt table (shape .n) (countsOf shape) struck₀ in
+    (i ≤ n) × (struck ≡ struck₀) × (length hints ≡ length hints₀) × (lastBelow test n ≡ lastBelow test i)
+
+abbrev μ-loop : tie.MeasureT-loop
+μ-loop table struck₀ shape decided hints₀ n i₀ struck hints i = i
+
+loop-holds : tie.Need-loop-holds Inv-loop μ-loop
+loop-holds c = (omega arith, refl, refl, refl)
+
+sub-i : tie.Need-sub-i Inv-loop μ-loop
+sub-i c = search needs
+
+mul-needless : tie.Need-mul-needless Inv-loop μ-loop
+mul-needless c = search needs
+
+slice-read-needless : tie.Need-slice-read-needless Inv-loop μ-loop
+slice-read-needless c = search needs
+
+cast-needless : tie.Need-cast-needless Inv-loop μ-loop
+cast-needless c = omega (arith, c .slice-known3 .given (c .before .before .before .loop .i - 1))
+
+needless-requires : tie.Need-needless-requires Inv-loop μ-loop
+needless-requires c κs =
+    let start = c .before .before .before .before .before .before .before .before in
+    let (ready, holds) = asks (c .before .before .before .loop .inv .1) (start .pre .0) (start .pre .1) in
+    (ready, holds, omega arith)
+
+same-length : tie.Need-same-length Inv-loop μ-loop
+same-length c = ap length (c .before .before .before .needless .ensures .2 ∙ c .before .before .before .before .before .before .before .loop .inv .1)
+
+same-length-2 : tie.Need-same-length-2 Inv-loop μ-loop
+same-length-2 c = search needs
+
+returns : tie.Need-returns Inv-loop μ-loop
+unfolding nextAt
+returns c =
+    let start = c .before .before .before .before .before .before .before .before .before .before .before .before in
+    let turn = c .before .before .before .before .before .before .before .loop in
+    let tried = c .before .before .before .needless .ensures in
+    let here = tested (start .args .table .now) (start .args .shape .n) (countsOf (start .args .shape)) _ (turn .inv .1) (tried .0) (c .if1 .taken) in
+    (sym (ap (placeOr (start .args .shape .n)) (turn .inv .3 ∙ last-here _ (turn .i) (omega arith) here)), tried .2 ∙ turn .inv .1)
+
+cast-hints : tie.Need-cast-hints Inv-loop μ-loop
+cast-hints c = let start = c .before .before .before .before .before .before .before .before .before .before .before .before .before in omega (arith, c .before .before .before .before .needless .ensures .1, start .pre .0 .small)
+
+mul-hints : tie.Need-mul-hints Inv-loop μ-loop
+mul-hints c = search needs
+
+slice-write-hints : tie.Need-slice-write-hints Inv-loop μ-loop
+slice-write-hints c = search needs
+
+loop-less : tie.Need-loop-less Inv-loop μ-loop
+loop-less c = search needs
+
+loop-again : tie.Need-loop-again Inv-loop μ-loop
+loop-again c =
+    let start = c .before .before .before .before .before .before .before .before .before .before .before .before .before in
+    let turn = c .before .before .before .before .before .before .before .before .loop in
+    let tried = c .before .before .before .before .needless .ensures in
+    let needed = tested (start .args .table .now) (start .args .shape .n) (countsOf (start .args .shape)) _ (turn .inv .1) (tried .0) (c .before .if1 .left) in
+    (omega arith, tried .2 ∙ turn .inv .1, rw length-set (turn .inv .2), turn .inv .3 ∙ last-earlier _ (turn .i) (omega arith) needed)
+
+same-length-3 : tie.Need-same-length-3 Inv-loop μ-loop
+same-length-3 c = ap length (c .before .loop .inv .1)
+
+same-length-4 : tie.Need-same-length-4 Inv-loop μ-loop
+same-length-4 c = search needs
+
+returns-2 : tie.Need-returns-2 Inv-loop μ-loop
+unfolding nextAt
+returns-2 c =
+    let start = c .before .before .before .before .before .before in
+    let turn = c .before .loop in
+    (sym (ap (placeOr (start .args .shape .n)) (turn .inv .3 ∙ last-nowhere _ (turn .i) (omega arith))), turn .inv .1)
+
+pub next-rule-spec : {M : Type 1} → statement M
+next-rule-spec =
+    tie.close
+    (tie.spec
+    Inv-loop
+    μ-loop
+    loop-holds
+    sub-i
+    mul-needless
+    slice-read-needless
+    cast-needless
+    needless-requires
+    same-length
+    same-length-2
+    returns
+    cast-hints
+    mul-hints
+    slice-write-hints
+    loop-less
+    loop-again
+    same-length-3
+    same-length-4
+    returns-2)
