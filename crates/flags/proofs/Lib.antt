@@ -2,3 +2,4 @@
 pub mod Walking
 pub mod Searching
 pub mod Trying
+pub mod Strikes

@@ -48,48 +48,50 @@ pub first-alike : (p q : ℕ → Bool) (m k : ℕ) → ((r : ℕ) → m ≤ r �
 first-alike p q m zero h = refl
 first-alike p q m (suc k) h = rw (h m (omega arith) (omega arith), first-alike p q (suc m) k (λ r low high. h r (omega arith) (omega arith)))
 
--- A rule that is left is not the first element
+-- Element i, which is not the first, is struck
+pub ready-set : {t struck : List ℕ} {s : Shape} (i : ℕ) → (i ≡ 0 → ⊥) → Ready t struck s → Ready t (set struck i 1) s
+ready-set {t} {struck} {s} i later ready =
+    record {
+      rows = ready .rows;
+      flags = omega (arith, length-set struck i 1, ready .flags);
+      some = ready .some;
+      few = ready .few;
+      root = ready .root;
+      stays = getD-set-other struck i 0 1 0 (λ first. later (sym first)) ∙ ready .stays;
+      attributes = ready .attributes;
+      all = ready .all;
+      positive = ready .positive;
+      small = ready .small;
+    }
+
+-- and its flag set back
+pub set-back : (struck : List ℕ) (i flag : ℕ) → getD struck i 0 ≡ flag → set (set struck i 1) i flag ≡ struck
+set-back struck i flag e = set-set struck i 1 flag ∙ ap (set struck i) (sym e) ∙ set-getD struck i 0
+
+-- What gets another decision than the one laid down is what changes without element i
+module _ (t struck decided : List ℕ) (s : Shape) (i : ℕ) (ready : Ready t struck s) (holds : Holds t struck decided s) where
+  differs-changes : (m : ℕ) → m < s .space → differsAt t (s .n) (countsOf s) decided (set struck i 1) m ≡ changesAt t (s .n) (countsOf s) struck i m
+  unfolding differsAt changesAt
+  differs-changes m l = ap (λ d. not (eqb d (decisionNumber (decidedAt t (s .n) (countsOf s) (set struck i 1) m)))) (holds .numbered m l)
+
+  pub first-changes : firstFrom (differsAt t (s .n) (countsOf s) decided (set struck i 1)) 0 (s .space) ≡ firstChangeAt t (s .n) (countsOf s) struck i
+  unfolding firstChangeAt
+  first-changes = rw (ready .all) (first-alike _ _ 0 (s .space) (λ m low high. differs-changes m (omega arith)))
+
+  pub needless-rule : (b : Bool) → ruleLeft t struck i ≡ true → b ≡ isNone (firstFrom (differsAt t (s .n) (countsOf s) decided (set struck i 1)) 0 (s .space)) → b ≡ needlessAt t (s .n) (countsOf s) struck i
+  unfolding needlessAt
+  needless-rule b rule e = rw rule (e ∙ ap isNone first-changes)
+
+-- A rule that is left has the flag 0, and is not the first element
 module _ (t struck : List ℕ) (i : ℕ) (rule : ruleLeft t struck i ≡ true) where
-  rule-flag : getD struck i 0 ≡ 0
+  pub rule-flag : getD struck i 0 ≡ 0
   rule-flag = eqb-true (getD struck i 0) 0 (and-true (eqb (getD struck i 0) 0) (ltb (getD t (8 * i) 0) 2) rule .0)
 
   rule-word : getD t (8 * i) 0 < 2
   rule-word = ltb-true (getD t (8 * i) 0) 2 (and-true (eqb (getD struck i 0) 0) (ltb (getD t (8 * i) 0) 2) rule .1)
 
-  rule-later : 2 ≤ getD t 0 0 → i ≡ 0 → ⊥
+  pub rule-later : 2 ≤ getD t 0 0 → i ≡ 0 → ⊥
   rule-later root first = let word : getD t (8 * 0) 0 < 2 = rw first at rule-word in omega arith
-
-  -- it can be struck
-  pub ready-struck : (s : Shape) → Ready t struck s → Ready t (set struck i 1) s
-  ready-struck s ready =
-      record {
-        rows = ready .rows;
-        flags = omega (arith, length-set struck i 1, ready .flags);
-        some = ready .some;
-        few = ready .few;
-        root = ready .root;
-        stays = getD-set-other struck i 0 1 0 (λ first. rule-later (ready .root) (sym first)) ∙ ready .stays;
-        attributes = ready .attributes;
-        all = ready .all;
-        positive = ready .positive;
-        small = ready .small;
-      }
-
-  -- and its flag set back
-  pub set-back : set (set struck i 1) i 0 ≡ struck
-  set-back = set-set struck i 1 0 ∙ ap (set struck i) (sym rule-flag) ∙ set-getD struck i 0
-
-  -- needless, by the decisions laid down
-  module _ (s : Shape) (decided : List ℕ) (ready : Ready t struck s) (holds : Holds t struck decided s) where
-    pub changes-differs : (m : ℕ) → m < s .space → differsAt t (s .n) (countsOf s) decided (set struck i 1) m ≡ changesAt t (s .n) (countsOf s) struck i m
-    unfolding differsAt changesAt
-    changes-differs m l = ap (λ d. not (eqb d (decisionNumber (decidedAt t (s .n) (countsOf s) (set struck i 1) m)))) (holds .numbered m l)
-
-    pub needless-rule : (b : Bool) → b ≡ isNone (firstFrom (differsAt t (s .n) (countsOf s) decided (set struck i 1)) 0 (s .space)) → b ≡ needlessAt t (s .n) (countsOf s) struck i
-    unfolding needlessAt firstChangeAt
-    needless-rule b e =
-        let same = first-alike (differsAt t (s .n) (countsOf s) decided (set struck i 1)) (changesAt t (s .n) (countsOf s) struck i) 0 (s .space) (λ m low high. changes-differs m (omega arith)) in
-        rw (rule, ready .all) (e ∙ ap isNone same)
 
 pub needless-other : (t : List ℕ) (n : ℕ) (counts struck : List ℕ) (i : ℕ) → ruleLeft t struck i ≡ false → false ≡ needlessAt t n counts struck i
 unfolding needlessAt

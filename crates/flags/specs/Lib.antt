@@ -1,3 +1,4 @@
 -- What the contracts of flags cite.
 pub mod Decided
 pub mod Ready
+pub mod Trims

@@ -9,8 +9,9 @@ ghost use Rattle.meaning.specs.Text.{isNone, firstFrom};
 ghost use Rattle.meaning.specs.Deciding.{decisionNumber, matches, firstDecision};
 ghost use Rattle.requests.specs.Values.{valuesOf};
 ghost use Rattle.decisions.specs.Table.{left, placeOr, Room};
-ghost use Rattle.flags.specs.Decided.{ruleLeft, numbers, differsAt, needlessAt, nextAt};
+ghost use Rattle.flags.specs.Decided.{ruleLeft, numbers, differsAt, firstChangeAt, needlessAt, nextAt};
 ghost use Rattle.flags.specs.Ready.{countsOf, Ready, Holds};
+ghost use Rattle.flags.specs.Trims.{Trims};
 
 // A policy's shape: `n` elements, the value counts of `len` attributes, and their product, the number of requests.
 pub struct Shape {
@@ -174,4 +175,48 @@ pub fn next_rule(
         hints[i] = tried.shown as u16;
     }
     n
+}
+
+// Strikes the last needless rule while there is one. The places struck are laid down in order; how many, is the result.
+pub fn trim_flags(
+    table: &[u16],
+    struck: &mut [u8],
+    shape: Shape,
+    decided: &[u8],
+    hints: &mut [u16],
+    order: &mut [u8],
+) -> usize
+    requires { ⌜ Ready (now table) (now struck) shape × Holds (now table) (now struck) (now decided) shape × (shape .n ≤ length (now hints)) × (shape .n ≤ length (now order)) ⌝ }
+    ensures { λ r. ⌜ Trims (now (table .entry)) (now (decided .entry)) shape (now (struck .entry)) (now (struck .exit)) (now (order .entry)) (now (order .exit)) r ⌝ }
+{
+    let n = shape.n;
+    let mut count = 0;
+    while count < n {
+        let next = next_rule(table, struck, shape, decided, hints);
+        if next == n {
+            return count;
+        }
+        struck[next] = 1;
+        order[count] = next as u8;
+        count += 1;
+    }
+    count
+}
+
+// The first request whose decision changes without the rule, or the number of requests.
+pub fn needed_by(
+    table: &[u16],
+    struck: &mut [u8],
+    shape: Shape,
+    decided: &[u8],
+    rule: usize,
+) -> usize
+    requires { ⌜ Ready (now table) (now struck) shape × Holds (now table) (now struck) (now decided) shape × (0 < rule) × (rule < shape .n) ⌝ }
+    ensures { λ r. ⌜ (r ≡ placeOr (shape .space) (firstChangeAt (now (table .entry)) (shape .n) (countsOf shape) (now (struck .entry)) rule)) × (now (struck .exit) ≡ now (struck .entry)) ⌝ }
+{
+    let flag = struck[rule];
+    struck[rule] = 1;
+    let shown = first_change(table, struck, shape, decided);
+    struck[rule] = flag;
+    shown
 }

@@ -4,7 +4,7 @@ use native.Mathlib.Omega.{arith}
 use borrow.Author.Tests.{not-true, not-false}
 use lib.ListN.{length-set}
 use Rattle.flags.specs.Ready.{countsOf}
-use Rattle.flags.proofs.Trying.{ready-struck, set-back, needless-rule, needless-other}
+use Rattle.flags.proofs.Trying.{ready-set, set-back, needless-rule, rule-flag, rule-later, needless-other}
 use borrow.Author.Needs.{needs}
 use Rattle.flags.proofs.needless.Statement.{statement}
 use Rattle.flags.proofs.needless.Tie as tie
@@ -28,7 +28,7 @@ alike-requires : tie.Need-alike-requires
 alike-requires c κs =
     let start = c .before .before .before .before .before .before .before in
     let rule = sym (c .before .before .is-left .ensures) ∙ not-false _ (c .before .if1 .left) in
-    (ready-struck (start .args .table .now) (start .args .struck .now) (start .args .i) rule (start .args .shape) (start .pre .0), start .pre .1 .enough)
+    (ready-set (start .args .i) (rule-later (start .args .table .now) (start .args .struck .now) (start .args .i) rule (start .pre .0 .root)) (start .pre .0), start .pre .1 .enough)
 
 slice-write-struck-2 : tie.Need-slice-write-struck-2
 slice-write-struck-2 c = simp length-set (omega arith)
@@ -42,7 +42,8 @@ returns-2 c =
     let t = start .args .table .now in
     let struck = start .args .struck .now in
     let rule = sym (c .before .before .before .is-left .ensures) ∙ not-false _ (c .before .before .if1 .left) in
-    (needless-rule t struck (start .args .i) rule (start .args .shape) (start .args .decided .now) (start .pre .0) (start .pre .1) _ (c .alike .ensures .0), c .alike .ensures .1, set-back t struck (start .args .i) rule)
+    let i = start .args .i in
+    (needless-rule t struck (start .args .decided .now) (start .args .shape) i (start .pre .0) (start .pre .1) _ rule (c .alike .ensures .0), c .alike .ensures .1, set-back struck i 0 (rule-flag t struck i rule))
 
 pub needless-spec : {M : Type 1} → statement M
 needless-spec =

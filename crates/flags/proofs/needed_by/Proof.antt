@@ -1,0 +1,43 @@
+-- `needed_by`: the flag is set for the search, and set back. Assumes nothing.
+use mathlib.Core.Path.{refl, ap, _∙_}
+use native.Mathlib.Omega.{arith}
+use lib.ListN.{length-set}
+use Rattle.decisions.specs.Table.{placeOr}
+use Rattle.flags.proofs.Trying.{ready-set, set-back, first-changes}
+use borrow.Author.Needs.{needs}
+use Rattle.flags.proofs.needed_by.Statement.{statement}
+use Rattle.flags.proofs.needed_by.Tie as tie
+
+slice-read-flag : tie.Need-slice-read-flag
+slice-read-flag c = search needs
+
+slice-write-struck : tie.Need-slice-write-struck
+slice-write-struck c = search needs
+
+first-change-requires : tie.Need-first-change-requires
+first-change-requires c κs =
+    let start = c .before .before .before .before .before in
+    (ready-set (start .args .rule) (λ first. omega arith) (start .pre .0), start .pre .1 .enough)
+
+slice-write-struck-2 : tie.Need-slice-write-struck-2
+slice-write-struck-2 c = simp length-set (omega arith)
+
+same-length : tie.Need-same-length
+same-length c = search needs
+
+returns : tie.Need-returns
+returns c =
+    let start = c .before .before .before .before .before .before in
+    let changes = first-changes (start .args .table .now) (start .args .struck .now) (start .args .decided .now) (start .args .shape) (start .args .rule) (start .pre .0) (start .pre .1) in
+    (c .first-change .ensures ∙ ap (placeOr (start .args .shape .space)) changes, set-back (start .args .struck .now) (start .args .rule) _ refl)
+
+pub needed-by-spec : {M : Type 1} → statement M
+needed-by-spec =
+    tie.close
+    (tie.spec
+    slice-read-flag
+    slice-write-struck
+    first-change-requires
+    slice-write-struck-2
+    same-length
+    returns)
