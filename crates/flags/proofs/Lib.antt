@@ -3,3 +3,4 @@ pub mod Walking
 pub mod Searching
 pub mod Trying
 pub mod Strikes
+pub mod Enough

@@ -1,7 +1,7 @@
 -- One rule struck after the other: the flags and the places laid down so far, and what is still to come.
 use Prim.Native.Nat.{ℕ, zero, suc, _+_, _-_, _≤_, _<_, zero-le}
 use mathlib.Core.Path.{_≡_, refl, sym, ap, _∙_}
-use mathlib.Core.Bool.{Bool, true, false}
+use mathlib.Core.Bool.{true}
 use mathlib.Core.List.{List, [], _++_}
 use mathlib.Core.Option.{Option, none, some}
 use native.Mathlib.Nat.{zero-add, add-zero}
@@ -12,13 +12,13 @@ use lib.Seq.{sets, sets-eq}
 use borrow.Author.Tests.{not-false}
 use Rattle.meaning.specs.Text.{isNone}
 use Rattle.meaning.specs.Model.{product}
-use Rattle.meaning.specs.Deciding.{decisionNumber, sameOutcome}
+use Rattle.meaning.specs.Deciding.{decisionNumber}
 use Rattle.laws.proofs.Bools.{and-true, contradiction}
 use Rattle.laws.proofs.Search.{first-none, last-some}
 use Rattle.laws.proofs.Outcomes.{same-outcome}
 use Rattle.decisions.specs.Table.{placeOr}
 use Rattle.flags.specs.declared.Shape.{Shape}
-use Rattle.flags.specs.Decided.{ruleLeft, Struck, decidedAt, changesAt, firstChangeAt, needlessAt, nextAt, trimmingAt}
+use Rattle.flags.specs.Decided.{ruleLeft, decidedAt, changesAt, firstChangeAt, needlessAt, nextAt, trimmingAt}
 use Rattle.flags.specs.Ready.{countsOf, Ready, Holds}
 use Rattle.flags.specs.Trims.{Trims}
 use Rattle.flags.proofs.Trying.{ready-set, rule-later}

@@ -1,16 +1,15 @@
 -- Whether a rule is needless, by the decisions without it against those laid down.
 use Prim.Native.Nat.{ℕ, zero, suc, _+_, _*_, _≤_, _<_, zero-le}
-use mathlib.Core.Path.{_≡_, refl, sym, ap, ap₂, _∙_}
+use mathlib.Core.Path.{_≡_, refl, sym, ap, _∙_}
 use mathlib.Core.Bool.{Bool, true, false, not}
 use mathlib.Core.List.{List}
 use mathlib.Core.Option.{Option, none, some}
 use native.Mathlib.Omega.{arith}
 use lib.Dec.{eqb, ltb}
-use lib.ListN.{length, getD, set, length-set}
+use lib.ListN.{getD, set, length-set}
 use lib.Seq.{getD-set-other, set-set, set-getD}
 use borrow.Author.Tests.{eqb-true, ltb-true}
 use Rattle.meaning.specs.Text.{isNone, firstFrom}
-use Rattle.meaning.specs.Model.{product}
 use Rattle.meaning.specs.Deciding.{decisionNumber}
 use Rattle.laws.proofs.Bools.{contradiction, and-true}
 use Rattle.laws.proofs.Search.{first-some, first-none}

@@ -2,10 +2,10 @@
 use Prim.Native.Nat.{ℕ, zero, suc, _+_, _-_, _≤_, _<_}
 use mathlib.Core.Path.{_≡_, refl, ap, ap₂, _∙_}
 use mathlib.Core.List.{List, _++_}
-use native.Mathlib.Nat.{zero-add}
+use native.Mathlib.Nat.{zero-add, add-zero}
 use native.Mathlib.Numerals.{add-one}
 use native.Mathlib.Omega.{arith}
-use lib.ListN.{length, take, drop, set}
+use lib.ListN.{length, take, drop, getD, set, length-append, List·getD-append}
 use lib.Seq.{sets, sets-eq}
 use Rattle.meaning.specs.Model.{product}
 use Rattle.meaning.specs.Deciding.{decisionNumber, requestOf, nextRequest, matches, firstDecision}
@@ -16,7 +16,7 @@ use Rattle.requests.proofs.Laws.{counts-positive}
 use Rattle.decisions.specs.Table.{left, Room}
 use Rattle.flags.specs.declared.Shape.{Shape}
 use Rattle.flags.specs.Decided.{decidedAt, numbersFrom, numbers}
-use Rattle.flags.specs.Ready.{countsOf, Ready}
+use Rattle.flags.specs.Ready.{countsOf, Ready, Holds}
 
 -- q is request m, as long as there is one
 pub record Walk (counts : List ℕ) (len space : ℕ) (q : Request) (m : ℕ) : Type 0 where
@@ -47,6 +47,12 @@ module _ (t struck : List ℕ) (s : Shape) (q : Request) (m : ℕ) (ready : Read
   unfolding decidedAt
   walk-decided d l e = e ∙ rw (walk .values l)
 
+-- the number of one request
+numbers-at : (t : List ℕ) (n : ℕ) (counts struck : List ℕ) (m k r : ℕ) → r < k → getD (numbersFrom t n counts struck m k) r 0 ≡ decisionNumber (decidedAt t n counts struck (m + r))
+numbers-at t n counts struck m zero r l = let no : ⊥ = omega arith in absurd no
+numbers-at t n counts struck m (suc k) zero l = rw add-zero
+numbers-at t n counts struck m (suc k) (suc r) l = let at : m + suc r ≡ suc m + r = omega arith in rw at (numbers-at t n counts struck (suc m) k r (omega arith))
+
 -- The numbers laid over d from place m on, up to the last request
 module _ (t : List ℕ) (n : ℕ) (counts struck : List ℕ) where
   abbrev pub laid : List ℕ → ℕ → ℕ → List ℕ
@@ -67,3 +73,15 @@ module _ (t : List ℕ) (n : ℕ) (counts struck : List ℕ) where
       let size : length (numbersFrom t n counts struck 0 space) ≡ space = length-numbers 0 space in
       let over : laid first space 0 ≡ numbersFrom t n counts struck 0 space ++ drop (0 + length (numbersFrom t n counts struck 0 space)) first = rw whole (sets-eq (numbersFrom t n counts struck 0 space) first 0 (omega arith)) in
       rw all (rw none at e ∙ rw (size, zero-add) at over)
+
+-- What `decide_all` leaves is what the tests of a rule ask for
+pub numbers-hold : (t struck decided behind : List ℕ) (s : Shape) → Ready t struck s → decided ≡ numbers t (s .n) (countsOf s) struck ++ behind → Holds t struck decided s
+unfolding numbers
+numbers-hold t struck decided behind s ready e =
+    let size = length-numbers t (s .n) (countsOf s) struck 0 (product (countsOf s)) in
+    record {
+      enough = rw e (omega (arith, length-append (numbersFrom t (s .n) (countsOf s) struck 0 (product (countsOf s))) behind, size, ready .all));
+      numbered = λ m l.
+          rw (e, List·getD-append (numbersFrom t (s .n) (countsOf s) struck 0 (product (countsOf s))) behind 0 m (omega (arith, size, ready .all)))
+          (rw zero-add at (numbers-at t (s .n) (countsOf s) struck 0 (product (countsOf s)) m (omega (arith, ready .all))));
+    }
