@@ -73,9 +73,12 @@ module _ (t struck decided : List ℕ) (s : Shape) (i : ℕ) (ready : Ready t st
   unfolding differsAt changesAt
   differs-changes m l = ap (λ d. not (eqb d (decisionNumber (decidedAt t (s .n) (countsOf s) (set struck i 1) m)))) (holds .numbered m l)
 
-  pub first-changes : firstFrom (differsAt t (s .n) (countsOf s) decided (set struck i 1)) 0 (s .space) ≡ firstChangeAt t (s .n) (countsOf s) struck i
+  first-changes : firstFrom (differsAt t (s .n) (countsOf s) decided (set struck i 1)) 0 (s .space) ≡ firstChangeAt t (s .n) (countsOf s) struck i
   unfolding firstChangeAt
   first-changes = rw (ready .all) (first-alike _ _ 0 (s .space) (λ m low high. differs-changes m (omega arith)))
+
+  pub first-change-is : (r : ℕ) → r ≡ placeOr (s .space) (firstFrom (differsAt t (s .n) (countsOf s) decided (set struck i 1)) 0 (s .space)) → r ≡ placeOr (s .space) (firstChangeAt t (s .n) (countsOf s) struck i)
+  first-change-is r e = e ∙ ap (placeOr (s .space)) first-changes
 
   pub needless-rule : (b : Bool) → ruleLeft t struck i ≡ true → b ≡ isNone (firstFrom (differsAt t (s .n) (countsOf s) decided (set struck i 1)) 0 (s .space)) → b ≡ needlessAt t (s .n) (countsOf s) struck i
   unfolding needlessAt

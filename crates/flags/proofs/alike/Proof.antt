@@ -1,5 +1,6 @@
 -- `alike`: a request that gets another decision, or the search over all. Assumes nothing.
 use mathlib.Core.Path.{sym}
+use Rattle.flags.specs.Decided.{differsAt}
 use Rattle.flags.specs.Ready.{countsOf}
 use Rattle.flags.proofs.Walking.{walk-of, walk-decided}
 use Rattle.flags.proofs.Searching.{differs}
@@ -27,7 +28,7 @@ returns c =
     let inside = c .before .before .before .before .if1 .taken in
     let walk = walk-of (shape .space) hint (c .before .before .before .request-of .ensures) in
     let decided = walk-decided t struck shape _ hint (start .pre .0) walk _ inside (c .before .before .outcome .ensures) in
-    (sym (one-shown _ (shape .space) hint inside (differs t (shape .n) (countsOf shape) (start .args .decided .now) struck hint _ decided (c .if2 .taken))), inside)
+    (sym (one-shown (differsAt t (shape .n) (countsOf shape) (start .args .decided .now) struck) (shape .space) hint inside (differs t (shape .n) (countsOf shape) (start .args .decided .now) struck hint _ decided (c .if2 .taken))), inside)
 
 first-change-requires : tie.Need-first-change-requires
 first-change-requires c κs = search needs
@@ -35,12 +36,12 @@ first-change-requires c κs = search needs
 returns-2 : tie.Need-returns-2
 returns-2 c =
     let start = c .before .before .before .before .before .before .before in
-    (sym (none-found _ (start .args .shape .space) _ (c .before .first-change .ensures) (c .if3 .taken)), start .pre .0 .positive)
+    (sym (none-found (differsAt (start .args .table .now) (start .args .shape .n) (countsOf (start .args .shape)) (start .args .decided .now) (start .args .struck .now)) (start .args .shape .space) _ (c .before .first-change .ensures) (c .if3 .taken)), start .pre .0 .positive)
 
 returns-3 : tie.Need-returns-3
 returns-3 c =
     let start = c .before .before .before .before .before .before .before in
-    let found = one-found _ (start .args .shape .space) _ (c .before .first-change .ensures) (c .if3 .left) in
+    let found = one-found (differsAt (start .args .table .now) (start .args .shape .n) (countsOf (start .args .shape)) (start .args .decided .now) (start .args .struck .now)) (start .args .shape .space) _ (c .before .first-change .ensures) (c .if3 .left) in
     (sym (found .0), found .1)
 
 pub alike-spec : {M : Type 1} → statement M

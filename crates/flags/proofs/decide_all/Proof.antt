@@ -5,6 +5,7 @@ use mathlib.Core.Path.{_≡_, refl, _∙_}
 use native.Mathlib.Omega.{arith}
 use borrow.Author.Needs.{needs}
 use lib.ListN.{length, take, length-set}
+use Rattle.flags.specs.Ready.{countsOf}
 use Rattle.flags.proofs.Walking.{Walk, walk-of, walk-next, walk-room, walk-decided, laid, laid-next, laid-all}
 use Rattle.flags.proofs.decide_all.Statement.{statement}
 use Rattle.flags.proofs.decide_all.Tie as tie
@@ -52,7 +53,7 @@ loop-again c =
       omega arith,
       rw length-set (turn .inv .1),
       walk-next t struck shape _ _ ready walk _ more (c .next .ensures),
-      laid-next t (shape .n) (take (shape .len) (shape .counts)) struck (turn .decided) (shape .space) (turn .m) _ more (walk-decided t struck shape _ _ ready walk _ more (c .before .outcome .ensures)) ∙ turn .inv .3,
+      laid-next t (shape .n) (countsOf shape) struck (turn .decided) (shape .space) (turn .m) _ more (walk-decided t struck shape _ _ ready walk _ more (c .before .outcome .ensures)) ∙ turn .inv .3,
     )
 
 same-length : tie.Need-same-length Inv-loop μ-loop
@@ -63,7 +64,7 @@ returns c =
     let start = c .before .before .before .before .before .before .before in
     let turn = c .before .loop in
     let shape = start .args .shape in
-    laid-all (start .args .table .now) (shape .n) (take (shape .len) (shape .counts)) (start .args .struck .now) (start .args .decided .now) (turn .decided) (shape .space) (turn .m) (start .pre .0 .all) (start .pre .1) (omega arith) (turn .inv .3)
+    laid-all (start .args .table .now) (shape .n) (countsOf shape) (start .args .struck .now) (start .args .decided .now) (turn .decided) (shape .space) (turn .m) (start .pre .0 .all) (start .pre .1) (omega arith) (turn .inv .3)
 
 pub decide-all-spec : {M : Type 1} → statement M
 decide-all-spec =

@@ -8,6 +8,7 @@ use lib.ListN.{take}
 use Rattle.meaning.specs.Text.{firstFrom}
 use Rattle.decisions.specs.Table.{placeOr}
 use Rattle.flags.specs.Decided.{differsAt}
+use Rattle.flags.specs.Ready.{countsOf}
 use Rattle.flags.proofs.Walking.{Walk, walk-of, walk-next, walk-room, walk-decided}
 use Rattle.flags.proofs.Searching.{first-here, first-later, first-nowhere, differs, agrees}
 use Rattle.flags.proofs.first_change.Statement.{statement}
@@ -44,7 +45,7 @@ returns c =
     let struck = start .args .struck .now in
     let shape = start .args .shape in
     let decided = walk-decided t struck shape _ _ (start .pre .0) (turn .inv .1) _ more (c .before .before .outcome .ensures) in
-    let here = first-here _ (turn .first) (shape .space) more (differs t (shape .n) (take (shape .len) (shape .counts)) (start .args .decided .now) struck _ _ decided (c .if1 .taken)) in
+    let here = first-here (differsAt t (shape .n) (countsOf shape) (start .args .decided .now) struck) (turn .first) (shape .space) more (differs t (shape .n) (countsOf shape) (start .args .decided .now) struck _ _ decided (c .if1 .taken)) in
     sym (ap (placeOr (shape .space)) (turn .inv .2 ∙ here))
 
 next-requires : tie.Need-next-requires Inv-loop μ-loop
@@ -67,7 +68,7 @@ loop-again c =
     let ready = start .pre .0 in
     let walk = turn .inv .1 in
     let decided = walk-decided t struck shape _ _ ready walk _ more (c .before .before .before .outcome .ensures) in
-    let later = first-later _ (turn .first) (shape .space) more (agrees t (shape .n) (take (shape .len) (shape .counts)) (start .args .decided .now) struck _ _ decided (c .before .if1 .left)) in
+    let later = first-later (differsAt t (shape .n) (countsOf shape) (start .args .decided .now) struck) (turn .first) (shape .space) more (agrees t (shape .n) (countsOf shape) (start .args .decided .now) struck _ _ decided (c .before .if1 .left)) in
     (omega arith, walk-next t struck shape _ _ ready walk _ more (c .next .ensures), turn .inv .2 ∙ later)
 
 returns-2 : tie.Need-returns-2 Inv-loop μ-loop

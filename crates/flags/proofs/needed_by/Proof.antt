@@ -1,9 +1,8 @@
 -- `needed_by`: the flag is set for the search, and set back. Assumes nothing.
-use mathlib.Core.Path.{refl, ap, _∙_}
+use mathlib.Core.Path.{refl}
 use native.Mathlib.Omega.{arith}
 use lib.ListN.{length-set}
-use Rattle.decisions.specs.Table.{placeOr}
-use Rattle.flags.proofs.Trying.{ready-set, set-back, first-changes}
+use Rattle.flags.proofs.Trying.{ready-set, set-back, first-change-is}
 use borrow.Author.Needs.{needs}
 use Rattle.flags.proofs.needed_by.Statement.{statement}
 use Rattle.flags.proofs.needed_by.Tie as tie
@@ -28,8 +27,9 @@ same-length c = search needs
 returns : tie.Need-returns
 returns c =
     let start = c .before .before .before .before .before .before in
-    let changes = first-changes (start .args .table .now) (start .args .struck .now) (start .args .decided .now) (start .args .shape) (start .args .rule) (start .pre .0) (start .pre .1) in
-    (c .first-change .ensures ∙ ap (placeOr (start .args .shape .space)) changes, set-back (start .args .struck .now) (start .args .rule) _ refl)
+    let struck = start .args .struck .now in
+    let rule = start .args .rule in
+    (first-change-is (start .args .table .now) struck (start .args .decided .now) (start .args .shape) rule (start .pre .0) (start .pre .1) _ (c .first-change .ensures), set-back struck rule _ refl)
 
 pub needed-by-spec : {M : Type 1} → statement M
 needed-by-spec =
