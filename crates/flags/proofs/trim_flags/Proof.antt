@@ -42,10 +42,11 @@ returns c =
     strikes-end t shape _ _ _ _ _ (turn .inv .6) _ _ (found .1) end (turn .inv .0) (start .pre .3) (turn .inv .4) (turn .inv .5)
 
 -- the rule that is struck
-struck-rule : (c : tie.Else1 Inv-loop μ-loop) → Next (c .before .before .before .before .before .before .before .before .before .before .before .before .before .before .before .args .table .now) (c .before .before .before .before .before .before .before .before .before .before .before .before .before .before .before .args .shape .n) (countsOf (c .before .before .before .before .before .before .before .before .before .before .before .before .before .before .before .args .shape)) (c .before .before .before .before .before .before .before .before .before .loop .struck) (c .before .before .before .before .before .next-rule .result)
+struck-rule : (c : tie.Else1 Inv-loop μ-loop)
+    → let args = c .before .before .before .before .before .before .before .before .before .before .before .before .before .before .before .args in Next (args .table .now) (args .shape .n) (countsOf (args .shape)) (c .before .before .before .before .before .before .before .before .before .loop .struck) (c .before .before .before .before .before .next-rule .result)
 struck-rule c =
-    let shape = c .before .before .before .before .before .before .before .before .before .before .before .before .before .before .before .args .shape in
-    next-found (c .before .before .before .before .before .before .before .before .before .before .before .before .before .before .before .args .table .now) (shape .n) (countsOf shape) (c .before .before .before .before .before .before .before .before .before .loop .struck) _ (c .before .before .before .before .before .next-rule .ensures .0) (c .if1 .left)
+    let args = c .before .before .before .before .before .before .before .before .before .before .before .before .before .before .before .args in
+    next-found (args .table .now) (args .shape .n) (countsOf (args .shape)) (c .before .before .before .before .before .before .before .before .before .loop .struck) _ (c .before .before .before .before .before .next-rule .ensures .0) (c .if1 .left)
 
 slice-write-struck : tie.Need-slice-write-struck Inv-loop μ-loop
 slice-write-struck c = omega (arith, struck-rule c .below, ap length (c .before .before .before .before .before .next-rule .ensures .1), c .before .before .before .before .before .before .before .before .before .loop .inv .4 .flags)
