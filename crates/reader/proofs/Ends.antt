@@ -52,7 +52,7 @@ module _ (f table places : List ℕ) (st : State) (end : ℕ) (ready : Ready f t
   ending r = ReadAs f table places r (cond (eqb (st .at) end) (finished (readSofar f table places st)) (refused 2 (st .line)))
 
   abbrev told : ℕ → ℕ → Reading
-  told n m = record { number = n; second = m; attributes = st .attributes; elements = st .tree .len }
+  told n m = record { number = n; second = m; attributes = st .attributes; space = st .space; elements = st .tree .len }
 
   -- bytes behind the last newline
   pub left-over : (st .at ≡ end → ⊥) → st .line ≤ 16385 → ending (told 2 (st .line))
@@ -68,6 +68,7 @@ module _ (f table places : List ℕ) (st : State) (end : ℕ) (ready : Ready f t
     number = refl;
     attributes = refl;
     elements = refl;
+    space-is = ready .begun .space-is;
     spaced = ready .begun .attributes;
     some = omega arith;
     rooms = ready .rooms;

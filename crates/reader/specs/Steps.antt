@@ -92,6 +92,7 @@ pub record Holds (f table places : List ℕ) (r : Reading) (p : Policy) : Type 0
   pub number : r .number ≡ 0
   pub attributes : p .attributes ≡ attributesOf f (r .attributes)
   pub elements : p .elements ≡ reverse (elementsTo f table places (r .elements))
+  pub space-is : r .space ≡ space (attributesOf f (r .attributes))
   pub spaced : Spaced f (r .attributes)
   pub some : 1 ≤ r .elements
   pub rooms : Rooms f table places (r .elements)

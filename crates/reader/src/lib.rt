@@ -47,6 +47,7 @@ pub struct Reading {
     pub number: usize,
     pub second: usize,
     pub attributes: Attributes,
+    pub space: usize,
     pub elements: usize,
 }
 
@@ -316,11 +317,13 @@ fn finish(st: State, end: usize) -> Reading
     let attributes = st.attributes;
     let tree = st.tree;
     let elements = tree.len;
+    let space = st.space;
     if st.at != end {
         return Reading {
             number: 2,
             second: st.line,
             attributes,
+            space,
             elements,
         };
     }
@@ -329,6 +332,7 @@ fn finish(st: State, end: usize) -> Reading
             number: 9,
             second: 0,
             attributes,
+            space,
             elements,
         };
     }
@@ -336,6 +340,7 @@ fn finish(st: State, end: usize) -> Reading
         number: 0,
         second: 0,
         attributes,
+        space,
         elements,
     }
 }
@@ -352,6 +357,7 @@ pub fn read(file: &[u8], table: &mut [u16], places: &mut [usize]) -> Reading
             number: 1,
             second: 0,
             attributes,
+            space: 1,
             elements: 0,
         };
     }
@@ -370,6 +376,7 @@ pub fn read(file: &[u8], table: &mut [u16], places: &mut [usize]) -> Reading
                 number: refusal,
                 second: line,
                 attributes,
+                space: 1,
                 elements: 0,
             };
         }
