@@ -27,3 +27,4 @@ pub mod Children
 pub mod Parents
 pub mod Conflicts
 pub mod Promises
+pub mod ElementKinds
