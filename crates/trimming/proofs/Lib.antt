@@ -1,4 +1,4 @@
--- The laws that tie trimming on flags to trimming on bytes.
+-- The laws that tie trimming on flags to trimming on bytes, and what the functions need of the text left.
 pub mod Left
 pub mod Steps
 pub mod Next
@@ -6,3 +6,4 @@ pub mod Kept
 pub mod Trimmed
 pub mod Table
 pub mod Placed
+pub mod Copying

@@ -1,1 +1,34 @@
-// Trimming on flags: the definitions in specs/ and the laws in proofs/. There is no code yet.
+// The text of the lines left, by the places of the elements and their flags; specs/ and proofs/ say what trimming on flags is.
+ghost use mathlib.Core.Path.{_≡_};
+ghost use Prim.Native.Nat.{_≤_, _<_};
+ghost use lib.ListN.{length};
+ghost use Rattle.trimming.specs.Copied.{copied, Copies, Piece};
+
+// Where what is left of element i's line ends: behind its newline, or where it starts if it is struck.
+fn piece_end(file: &[u8], places: &[usize], struck: &[u8], n: usize, i: usize) -> usize
+    requires { ⌜ Copies (now file) (now places) (now struck) n × (i < n) ⌝ }
+    ensures { λ r. ⌜ Piece (now (file .entry)) (now (places .entry)) (now (struck .entry)) n i r ⌝ }
+{
+    if struck[i] != 0 {
+        return places[2 * i];
+    }
+    if i + 1 < n {
+        return places[2 * (i + 1)];
+    }
+    file.len()
+}
+
+// How long the text of the lines left is.
+pub fn text_length(file: &[u8], places: &[usize], struck: &[u8], n: usize) -> usize
+    requires { ⌜ Copies (now file) (now places) (now struck) n ⌝ }
+    ensures { λ r. ⌜ r ≡ length (copied (now (file .entry)) (now (places .entry)) (now (struck .entry)) n) ⌝ }
+    ensures within { λ r. ⌜ r ≤ length (now (file .entry)) ⌝ }
+{
+    let mut len = places[0];
+    let mut i = 0;
+    while i < n {
+        len += piece_end(file, places, struck, n, i) - places[2 * i];
+        i += 1;
+    }
+    len
+}
