@@ -1,17 +1,19 @@
 -- The text of the lines left, line by line: where each line lies, and what it adds to the text.
 use mathlib.Core.Path.{_≡_, sym, ap, _∙_}
 use Prim.Native.Nat.{ℕ, suc, _+_, _-_, _≤_, _<_}
+use native.Mathlib.Nat.{zero-add}
 use native.Mathlib.Omega.{arith}
 use mathlib.Core.Bool.{cond}
 use mathlib.Core.List.{List, [], _++_}
 use lib.Dec.{ltb}
-use lib.ListN.{length, drop, getD, length-append, length-drop}
+use lib.ListN.{length, take, drop, getD, length-append, length-drop}
 use lib.Seq.{length-take-le}
 use borrow.Author.Tests.{ltb-true, lt-ltb, le-ltb, eq-eqb, ne-eqb}
 use Rattle.meaning.specs.Text.{Bytes}
 use Rattle.laws.proofs.Bools.{Test, passed, failed, test}
 use Rattle.layout.specs.Places.{part, startOf}
 use Rattle.trimming.specs.Copied.{lineEnd, pieceAt, copiedFrom, copied, Copies, Piece}
+use Rattle.trimming.proofs.Laying.{Laid, laid-none, laid-next}
 
 length-part : (f : Bytes) (a b : ℕ) → b ≤ length f → length (part f a b) ≡ b - a
 length-part f a b l = length-take-le (b - a) (drop a f) (omega (arith, length-drop a f))
@@ -82,3 +84,20 @@ module _ (f : Bytes) (places struck : List ℕ) (n : ℕ) where
 
   pub length-rest : (i e : ℕ) → i < n → Piece f places struck n i e → length (rest i) ≡ (e - startOf places i) + length (rest (i + 1))
   length-rest i e l p = ap length (rest-piece i e l p) ∙ length-append (part f (startOf places i) e) (rest (i + 1)) ∙ rw (length-piece i e p)
+
+  -- The text laid up to element i: the bytes before the first element's line, and then piece by piece
+  module _ (whole : Bytes) where
+    abbrev pub LaidTo : Bytes → ℕ → ℕ → Type 0
+    LaidTo out at i = Laid (copied f places struck n) whole out (rest i) at
+
+    pub laid-head : Copies f places struck n → (out : Bytes) → length (copied f places struck n) ≤ length whole → let head = part f 0 (startOf places 0) in out ≡ take 0 whole ++ head ++ drop (0 + length head) whole → LaidTo out (startOf places 0) 0
+    laid-head h out l e =
+        let text = copied f places struck n in
+        let start = startOf places 0 in
+        let head = part f 0 start in
+        rw zero-add at (laid-next text whole whole 0 head (rest 0) out start (sym (length-head h)) e (laid-none text whole (head ++ rest 0) l copied-rest))
+
+    pub laid-piece : (i end : ℕ) → i < n → Piece f places struck n i end → (out next : Bytes) (at : ℕ) → let piece = part f (startOf places i) end in next ≡ take at out ++ piece ++ drop (at + length piece) out → LaidTo out at i → LaidTo next (at + (end - startOf places i)) (i + 1)
+    laid-piece i end l p out next at e laid =
+        let start = startOf places i in
+        laid-next (copied f places struck n) whole out at (part f start end) (rest (i + 1)) next (end - start) (sym (length-piece i end p)) e (rw (rest-piece i end l p) at laid)

@@ -1,4 +1,4 @@
--- The laws that tie trimming on flags to trimming on bytes, and what the functions need of the text left.
+-- The laws that tie trimming on flags to trimming on bytes, and what the functions need to lay the text left.
 pub mod Left
 pub mod Steps
 pub mod Next
@@ -6,4 +6,5 @@ pub mod Kept
 pub mod Trimmed
 pub mod Table
 pub mod Placed
+pub mod Laying
 pub mod Copying
