@@ -8,3 +8,4 @@ pub mod Table
 pub mod Placed
 pub mod Laying
 pub mod Copying
+pub mod Tabled
