@@ -20,55 +20,37 @@ use Rattle.layout.proofs.Laws.{decided}
 use Rattle.asking.specs.declared.Asked.{Asked}
 use Rattle.asking.specs.Asked.{AskedAs}
 use Rattle.reader.specs.declared.Reading.{Reading}
-use Rattle.reader.specs.Steps.{Holds, ReadAs}
+use Rattle.reader.specs.Steps.{ReadAs}
+use Rattle.jogimaduve.proofs.FileRead.{file-refused, file-read}
 
 abbrev told : ℕ → ℕ → Answer
 told n m = record { number = n; second = m }
 
 module _ (f table places : List ℕ) (r : Reading) (is-read : ReadAs f table places r (read f)) where
-  -- a file that is refused, with numbers that are small
-  pub file-refused : (request : Bytes) → (r .number ≡ 0 → ⊥) → told (r .number) (r .second) ≡ decideAnswer f request
+  -- a file that is refused
+  pub refusal-answered : (request : Bytes) → (r .number ≡ 0 → ⊥) → told (r .number) (r .second) ≡ decideAnswer f request
   unfolding decideFile
-  file-refused request h = go (read f) refl is-read
-    where
-      go : (x : Result Policy) → read f ≡ x → ReadAs f table places r x → told (r .number) (r .second) ≡ decideAnswer f request
-      go (refused n m) e t = rw e (λ i. told (t .number i) (t .second i))
-      go (given p) e t = absurd (h (t .number))
-
-  pub small-numbers : (r .number ≡ 0 → ⊥) → (r .number ≤ 9) × (r .second ≤ 16385)
-  small-numbers h = go (read f) is-read
-    where
-      go : (x : Result Policy) → ReadAs f table places r x → (r .number ≤ 9) × (r .second ≤ 16385)
-      go (refused n m) t = (omega (arith, t .number, t .low), omega (arith, t .second, t .small))
-      go (given p) t = absurd (h (t .number))
-
-  -- a file that is read
-  pub file-read : r .number ≡ 0 → (p : Policy) × (read f ≡ given p) × Holds f table places r p
-  file-read z = go (read f) refl is-read
-    where
-      go : (x : Result Policy) → read f ≡ x → ReadAs f table places r x → (p : Policy) × (read f ≡ given p) × Holds f table places r p
-      go (refused n m) e t = absurd (omega (arith, t .number, t .not-zero))
-      go (given p) e t = (p, e, t)
+  refusal-answered request h = rw (file-refused f table places r is-read h)
 
   module _ (z : r .number ≡ 0) (request : Bytes) (a : Asked) (asks : AskedAs a (requestLine (attributesOf f (r .attributes)) request)) where
     -- the same of the policy's attributes
-    asked-policy : AskedAs a (requestLine (file-read z .0 .attributes) request)
-    asked-policy = subst (λ attrs. AskedAs a (requestLine attrs request)) (sym (file-read z .2 .attributes)) asks
+    asked-policy : AskedAs a (requestLine (file-read f table places r is-read z .0 .attributes) request)
+    asked-policy = subst (λ attrs. AskedAs a (requestLine attrs request)) (sym (file-read f table places r is-read z .2 .attributes)) asks
 
-    answer-is : decideAnswer f request ≡ answered decisionNumber (requestLine (file-read z .0 .attributes) request then λ q. given (decide (file-read z .0) q))
+    answer-is : decideAnswer f request ≡ answered decisionNumber (requestLine (file-read f table places r is-read z .0 .attributes) request then λ q. given (decide (file-read f table places r is-read z .0) q))
     unfolding decideFile
-    answer-is = rw (file-read z .1)
+    answer-is = rw (file-read f table places r is-read z .1)
 
     -- a request line that is refused
     pub request-refused : a .good ≡ false → told 10 (a .place) ≡ decideAnswer f request
-    request-refused b = go (requestLine (file-read z .0 .attributes) request) asked-policy ∙ sym answer-is
+    request-refused b = go (requestLine (file-read f table places r is-read z .0 .attributes) request) asked-policy ∙ sym answer-is
       where
-        go : (x : Result Request) → AskedAs a x → told 10 (a .place) ≡ answered decisionNumber (x then λ q. given (decide (file-read z .0) q))
+        go : (x : Result Request) → AskedAs a x → told 10 (a .place) ≡ answered decisionNumber (x then λ q. given (decide (file-read f table places r is-read z .0) q))
         go (refused n m) t = λ i. told (sym (t .number) i) (t .place i)
         go (given q) t = contradiction (t .good) b
 
     pub small-place : a .good ≡ false → a .place ≤ 6
-    small-place b = go (requestLine (file-read z .0 .attributes) request) asked-policy
+    small-place b = go (requestLine (file-read f table places r is-read z .0 .attributes) request) asked-policy
       where
         go : (x : Result Request) → AskedAs a x → a .place ≤ 6
         go (refused n m) t = omega (arith, t .place, t .low)
@@ -76,7 +58,7 @@ module _ (f table places : List ℕ) (r : Reading) (is-read : ReadAs f table pla
 
     -- a request that is decided
     pub request-few : a .good ≡ true → a .request .len ≤ 6
-    request-few g = go (requestLine (file-read z .0 .attributes) request) asked-policy
+    request-few g = go (requestLine (file-read f table places r is-read z .0 .attributes) request) asked-policy
       where
         go : (x : Result Request) → AskedAs a x → a .request .len ≤ 6
         go (refused n m) t = contradiction g (t .bad)
@@ -84,10 +66,10 @@ module _ (f table places : List ℕ) (r : Reading) (is-read : ReadAs f table pla
 
     pub request-decided : a .good ≡ true → (struck : List ℕ) → ((k : ℕ) → k < r .elements → getD struck k 0 ≡ 0) → (d : Decision) → d ≡ firstDecision (matches (valuesOf (a .request))) (left table struck 0 (r .elements))
         → (n : ℕ) → n ≡ decisionNumber d → told 0 n ≡ decideAnswer f request
-    request-decided g struck zeros d is n numbered = go (requestLine (file-read z .0 .attributes) request) asked-policy ∙ sym answer-is
+    request-decided g struck zeros d is n numbered = go (requestLine (file-read f table places r is-read z .0 .attributes) request) asked-policy ∙ sym answer-is
       where
-        go : (x : Result Request) → AskedAs a x → told 0 n ≡ answered decisionNumber (x then λ q. given (decide (file-read z .0) q))
+        go : (x : Result Request) → AskedAs a x → told 0 n ≡ answered decisionNumber (x then λ q. given (decide (file-read f table places r is-read z .0) q))
         go (refused k m) t = contradiction g (t .bad)
         go (given q) t =
-            let same : d ≡ decide (file-read z .0) q = is ∙ decided f table places struck (r .elements) (file-read z .0) (valuesOf (a .request)) (file-read z .2 .elements) zeros ∙ ap (decide (file-read z .0)) (t .values) in
+            let same : d ≡ decide (file-read f table places r is-read z .0) q = is ∙ decided f table places struck (r .elements) (file-read f table places r is-read z .0) (valuesOf (a .request)) (file-read f table places r is-read z .2 .elements) zeros ∙ ap (decide (file-read f table places r is-read z .0)) (t .values) in
             λ i. told 0 ((numbered ∙ ap decisionNumber same) i)

@@ -1,2 +1,5 @@
 -- Laws that the proofs of the operations cite.
+mod FileRead
 mod Deciding
+mod Shaping
+mod Trimming

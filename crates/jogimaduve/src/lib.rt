@@ -1,9 +1,13 @@
 // The operations for C callers.
+use flags::Shape;
 use meaning::Answer;
 use meaning::Decision;
 ghost use mathlib.Core.Path.{_≡_};
 ghost use Rattle.meaning.specs.Deciding.{decisionNumber};
-ghost use Rattle.meaning.specs.Operations.{decideAnswer};
+ghost use lib.ListN.{length};
+ghost use Rattle.meaning.specs.Operations.{decideAnswer, trimAnswer, trimLent};
+ghost use Rattle.flags.specs.Decided.{trimmingAt};
+ghost use Rattle.flags.specs.Ready.{countsOf, Ready};
 
 fn decision_number(d: Decision) -> u32
     ensures { λ r. ⌜ r ≡ decisionNumber d ⌝ }
@@ -45,5 +49,58 @@ pub extern "C" fn jogimaduve_decide(file: &[u8], request: &[u8]) -> Answer
     Answer {
         number: 0,
         second: decision_number(decision),
+    }
+}
+
+// Strikes every rule that trimming strikes.
+fn strike(table: &[u16], struck: &mut [u8], shape: Shape)
+    requires { ⌜ Ready (now table) (now struck) shape ⌝ }
+    ensures { λ _. ⌜ now (struck .exit) ≡ trimmingAt (now (table .entry)) (shape .n) (countsOf shape) (shape .n) (now (struck .entry)) .flags ⌝ }
+{
+    let mut decided = [0u8; 4096];
+    flags::decide_all(table, struck, shape, &mut decided);
+    let mut hints = [0u16; 64];
+    let mut order = [0u8; 64];
+    flags::trim_flags(table, struck, shape, &decided, &mut hints, &mut order);
+}
+
+// The trimmed text of a policy file, in a lent buffer.
+#[no_mangle]
+pub extern "C" fn jogimaduve_trim(file: &[u8], out: &mut [u8]) -> Answer
+    ensures { λ r. ⌜ r ≡ trimAnswer (now (file .entry)) (now (out .entry)) ⌝ }
+    ensures { λ r. ⌜ now (out .exit) ≡ trimLent (now (file .entry)) (now (out .entry)) ⌝ }
+{
+    let mut table = [0u16; 512];
+    let mut places = [0usize; 128];
+    let reading = reader::read(file, &mut table, &mut places);
+    let number = reading.number;
+    if number != 0 {
+        return Answer {
+            number: number as u32,
+            second: reading.second as u32,
+        };
+    }
+    let n = reading.elements;
+    let attributes = reading.attributes;
+    let counts = attributes.counts;
+    let shape = Shape {
+        n,
+        counts,
+        len: attributes.len,
+        space: reading.space,
+    };
+    let mut struck = [0u8; 64];
+    strike(&table, &mut struck, shape);
+    let needed = trimming::text_length(file, &places, &struck, n);
+    if out.len() < needed {
+        return Answer {
+            number: 11,
+            second: needed as u32,
+        };
+    }
+    trimming::copy_text(file, &places, &struck, n, out);
+    Answer {
+        number: 0,
+        second: needed as u32,
     }
 }

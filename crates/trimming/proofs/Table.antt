@@ -28,7 +28,7 @@ left-again table struck i (suc n) = rw (left-again table struck (i + 1) n)
 
 -- elements that were read, by their places
 module _ (f : Bytes) (table places : List ℕ) where
-  elements-length : (n : ℕ) → length (elementsTo f table places n) ≡ n
+  pub elements-length : (n : ℕ) → length (elementsTo f table places n) ≡ n
   unfolding elementsTo
   elements-length zero = refl
   elements-length (suc n) = ap suc (elements-length n)

@@ -1,13 +1,13 @@
 -- Trimming over a table and flags is trimming over the policy that was read into the table.
 use mathlib.Core.Path.{_≡_, refl, sym, ap, ap₂, _∙_}
-use Prim.Native.Nat.{ℕ, zero, suc, _*_, _<_}
+use Prim.Native.Nat.{ℕ, zero, suc, _*_, _≤_, _<_}
 use native.Mathlib.Omega.{arith}
 use mathlib.Core.Bool.{Bool, true, false, _&&_, cond}
 use mathlib.Core.List.{List, [], _∷_, map, reverse}
 use mathlib.Core.Option.{Option, none, some}
 use lib.Dec.{ltb}
 use lib.ListN.{length, getD, set}
-use borrow.Author.Tests.{le-ltb}
+use borrow.Author.Tests.{le-ltb, ltb-false}
 use Rattle.meaning.specs.declared.Element.{Element}
 use Rattle.meaning.specs.Text.{Bytes, isNone, firstFrom, lastBelow}
 use Rattle.meaning.specs.Model.{Policy, sizes, product, given}
@@ -55,12 +55,15 @@ module _ (f : Bytes) (p : Policy) (h : read f ≡ given p) (table places : List 
   first-change-is struck i = λ j. firstFrom (λ m. change-is struck i m j) 0 (product (sizes-are j))
 
   -- a rule that is left, a needless one, and the next to strike
-  pub rule-is : (struck : List ℕ) (i : ℕ) → i < n → table-level.ruleLeft table struck i ≡ keptAt p struck i
+  effect-is : (i : ℕ) → i < n → ltb (getD table (8 * i) 0) 2 ≡ ruleIn (p .elements) i
   unfolding elementIn elementAt
-  rule-is struck i l =
-      let effect : isEffect (wordAt (getD table (8 * i) 0)) ≡ ruleIn (p .elements) i =
-      sym (element-at f table places n p is (λ e. isEffect (e .word)) false i l) ∙ ap (λ bs. getD bs i false) (words-alike (p .elements) (kinds f p h .words-fit)) in
-      ap (λ b. isLeft struck i && b) (effect-number (getD table (8 * i) 0) ∙ effect)
+  effect-is i l = effect-number (getD table (8 * i) 0) ∙ sym (element-at f table places n p is (λ e. isEffect (e .word)) false i l) ∙ ap (λ bs. getD bs i false) (words-alike (p .elements) (kinds f p h .words-fit))
+
+  pub root-word : 0 < n → 2 ≤ getD table 0 0
+  root-word l = ltb-false (getD table 0 0) 2 (effect-is 0 l ∙ kinds f p h .root)
+
+  rule-is : (struck : List ℕ) (i : ℕ) → i < n → table-level.ruleLeft table struck i ≡ keptAt p struck i
+  rule-is struck i l = ap (λ b. isLeft struck i && b) (effect-is i l)
 
   needless-is : (struck : List ℕ) (i : ℕ) → i < n → table-level.needlessAt table n counts struck i ≡ needlessAt p struck i
   unfolding table-level.needlessAt needlessAt

@@ -5,7 +5,8 @@ use Prim.Native.Nat.{_≤_}
 use lib.ListN.{getD-replicate}
 use borrow.Author.Needs.{needs}
 use borrow.Author.Tests.{not-true, not-false}
-use Rattle.jogimaduve.proofs.Deciding.{file-refused, small-numbers, file-read, request-refused, small-place, request-few, request-decided}
+use Rattle.jogimaduve.proofs.FileRead.{small-numbers, file-read}
+use Rattle.jogimaduve.proofs.Deciding.{refusal-answered, request-refused, small-place, request-few, request-decided}
 use Rattle.jogimaduve.proofs.jogimaduve_decide.Statement.{statement}
 use Rattle.jogimaduve.proofs.jogimaduve_decide.Tie as tie
 
@@ -25,7 +26,7 @@ cast-t18 : tie.Need-cast-t18
 cast-t18 c = let small = small-numbers _ _ _ _ (c .before .before .before .before .read .ensures) (c .before .if1 .taken) in omega (arith, small .0, small .1)
 
 returns : tie.Need-returns
-returns c = file-refused _ _ _ _ (c .before .before .before .before .read .ensures) _ (c .before .if1 .taken)
+returns c = refusal-answered _ _ _ _ (c .before .before .before .before .read .ensures) _ (c .before .if1 .taken)
 
 request-line-requires : tie.Need-request-line-requires
 request-line-requires c κs = file-read _ _ _ _ (c .before .before .before .before .read .ensures) (c .before .if1 .left) .2 .spaced .standing

@@ -1,0 +1,108 @@
+-- What a file that was read gives to trimming: the shape of its policy, and where its lines start.
+use mathlib.Core.Path.{_≡_, refl, sym, ap, ap₂, _∙_, subst}
+use Prim.Native.Nat.{ℕ, zero, suc, _+_, _-_, _≤_, _<_}
+use native.Mathlib.Nat.{le-trans}
+use native.Mathlib.Omega.{arith}
+use mathlib.Core.List.{List, [], _∷_, map}
+use lib.ListN.{length, take, drop, getD, length-reverse}
+use lib.Seq.{drop-cons}
+use Rattle.meaning.specs.Text.{Bytes, cut, tab}
+use Rattle.meaning.specs.Model.{Policy, choices, sizes, product, given}
+use Rattle.meaning.specs.Reading.{read}
+use Rattle.laws.proofs.Text.{Some, one-or-more, cut-some}
+use Rattle.laws.proofs.Bounds.{bounded}
+use Rattle.laws.proofs.Requests.{product-pos}
+use Rattle.laws.proofs.Answers.{positive}
+use Rattle.flags.specs.declared.Shape.{Shape}
+use Rattle.flags.specs.Ready.{countsOf, Ready}
+use Rattle.layout.specs.declared.Attributes.{Attributes}
+use Rattle.layout.specs.Places.{part, elementsTo, attributesFrom, attributesOf, AllStanding, lineStart}
+use Rattle.layout.proofs.Laws.{attributes-length}
+use Rattle.trimming.specs.Copied.{Copies}
+use Rattle.trimming.proofs.Table.{elements-length}
+use Rattle.trimming.proofs.Tabled.{root-word}
+use Rattle.reader.specs.declared.Reading.{Reading}
+use Rattle.reader.specs.Steps.{Holds}
+
+-- The counts of the attributes are those of their values
+some-piece : {ps : List Bytes} → Some ps → 1 ≤ length ps
+some-piece (one-or-more p ps) = omega arith
+
+get-inside : (xs : List ℕ) (i : ℕ) → 1 ≤ getD xs i 0 → i < length xs
+get-inside [] i l = absurd (omega arith)
+get-inside (x ∷ xs) zero l = omega arith
+get-inside (x ∷ xs) (suc i) l = let inside = get-inside xs i l in omega arith
+
+module _ (f : Bytes) (a : Attributes) (standing : AllStanding f a) where
+  count-at : (i : ℕ) → i < a .len → 1 ≤ getD (a .counts) i 0
+  count-at i l = rw (standing .each i l .count) (some-piece (cut-some tab (part f (getD (a .values) i 0) (getD (a .ends) i 0))))
+
+  counts-from : (i k : ℕ) → i + k ≤ a .len → take k (drop i (a .counts)) ≡ map choices (attributesFrom f a i k)
+  unfolding attributesFrom
+  counts-from i zero l = refl
+  counts-from i (suc k) l =
+      let here : i < a .len = omega arith in
+      let next : suc i ≡ i + 1 = omega arith in
+      ap (take (suc k)) (drop-cons (a .counts) i 0 (get-inside (a .counts) i (count-at i here)))
+      ∙ ap₂ (λ x xs. x ∷ xs) (standing .each i here .count) (ap (λ m. take k (drop m (a .counts))) next ∙ counts-from (i + 1) k (omega arith))
+
+  pub counts-are : take (a .len) (a .counts) ≡ sizes (attributesOf f a)
+  counts-are = counts-from 0 (a .len) (omega arith)
+
+-- Lines start one behind the other
+start-rises : (f : Bytes) (k : ℕ) → lineStart f k ≤ lineStart f (suc k)
+unfolding lineStart
+start-rises f k = omega arith
+
+start-below : (f : Bytes) (k d : ℕ) → lineStart f k ≤ lineStart f (k + d)
+start-below f k zero = let same-place : k + 0 ≡ k = omega arith in rw same-place (omega arith)
+start-below f k (suc d) =
+    let later : k + suc d ≡ suc (k + d) = omega arith in
+    rw later (le-trans (start-below f k d) (start-rises f (k + d)))
+
+module _ (f table places : List ℕ) (r : Reading) (p : Policy) (h : read f ≡ given p) (holds : Holds f table places r p) where
+  pub elements-are : length (p .elements) ≡ r .elements
+  elements-are = ap length (holds .elements) ∙ length-reverse (elementsTo f table places (r .elements)) ∙ elements-length f table places (r .elements)
+
+  pub attributes-are : length (p .attributes) ≡ r .attributes .len
+  attributes-are = ap length (holds .attributes) ∙ attributes-length f (r .attributes)
+
+  abbrev pub shapeOf : Shape
+  shapeOf = record { n = r .elements; counts = r .attributes .counts; len = r .attributes .len; space = r .space }
+
+  pub sizes-are : countsOf shapeOf ≡ sizes (p .attributes)
+  sizes-are = counts-are f (r .attributes) (holds .spaced .standing) ∙ ap sizes (sym (holds .attributes))
+
+  pub few : r .elements ≤ 64
+  few = omega (arith, bounded f p h .few-elements, elements-are)
+
+  space-is : product (countsOf shapeOf) ≡ r .space
+  space-is = ap product sizes-are ∙ ap (λ attrs. product (sizes attrs)) (holds .attributes) ∙ sym (holds .space-is)
+
+  pub ready : (struck : List ℕ) → 64 ≤ length struck → getD struck 0 0 ≡ 0 → Ready table struck shapeOf
+  ready struck room first =
+      record {
+        rows = omega (arith, holds .rooms .rows, few);
+        flags = omega (arith, few);
+        some = holds .some;
+        few = few;
+        root = root-word f p h table places (r .elements) (holds .elements) elements-are (countsOf shapeOf) sizes-are (holds .some);
+        stays = first;
+        attributes = holds .spaced .standing .few;
+        all = space-is;
+        positive = subst (λ m. 0 < m) space-is (rw sizes-are (product-pos (sizes (p .attributes)) (positive (p .attributes) (bounded f p h .attributes-good))));
+        small = rw (holds .space-is) (holds .spaced .small);
+      }
+
+  pub copies : (struck : List ℕ) → 64 ≤ length struck → Copies f places struck (r .elements)
+  copies struck room =
+      let a = r .attributes .len in
+      record {
+        some = holds .some;
+        room = holds .rooms .named .room;
+        flags = omega (arith, few);
+        rising = λ i l. let next : a + (i + 1) ≡ suc (a + i) = omega arith in
+            rw (holds .lined .starts i (omega arith), holds .lined .starts (i + 1) l, next) (start-rises f (a + i));
+        inside = λ i l. let whole : a + i + (r .elements - i) ≡ a + r .elements = omega arith in
+            rw (holds .lined .starts i l, holds .lined .next) (subst (λ m. lineStart f (a + i) ≤ lineStart f m) whole (start-below f (a + i) (r .elements - i)));
+      }
