@@ -17,8 +17,9 @@
  *   8       line     bad target
  *   9       0        no tree line
  *   10      place    request line: 0 if the field count is wrong, else the first field that is no value
+ *   11      bytes    the lent buffer is too short: so many bytes are needed
  *
- * Lines and places count from 1.
+ * Lines and places count from 1. A refused operation leaves lent memory as it was.
  */
 #ifndef JOGIMADUVE_H
 #define JOGIMADUVE_H
@@ -46,6 +47,10 @@ enum {
 /* Decides a request: one value name for each attribute of the file, in order, parted by tabs, no newline. */
 jogimaduve_answer jogimaduve_decide(const uint8_t *file, size_t file_length,
                                     const uint8_t *request, size_t request_length);
+
+/* Strikes the rules that do no work: the file's lines less theirs go into the buffer, and `second` is the length of that
+ * text, never more than the file's. It decides every request as the file does. Bytes behind the text stay as they were. */
+jogimaduve_answer jogimaduve_trim(const uint8_t *file, size_t file_length, uint8_t *buffer, size_t buffer_length);
 
 #ifdef __cplusplus
 }

@@ -1,0 +1,90 @@
+/* jogimaduve_trim: the text, the bytes behind it, short buffers, refusals. */
+#include "check.h"
+
+#define ONE "A\tx\ta\n"
+#define BARE ONE "P\t0\ttop\tdeny-overrides\t*\n"
+#define THREE                                                                                  \
+    "A\tx\ta\tb\tc\nP\t0\ttop\tfirst-applicable\t*\nR\t1\tr1\tpermit\ta\nR\t1\tr2\tdeny\ta,b\n" \
+    "R\t1\tr3\tpermit\ta,c\n"
+#define HEAD                                                                                           \
+    "A\trole\ttech\tguest\nA\tact\tjog\tteach\nP\t0\tcell\tfirst-applicable\t*\t*\n"                   \
+    "R\t1\tr1\tpermit\ttech\t*\nR\t1\tr2\tdeny\tguest\tteach\n"
+/* r2 does work while r1 is there: it goes only when the search starts again */
+#define AGAIN_TOP "A\tx\ta\tb\nS\t0\ttop\tfirst-applicable\t*\nP\t1\tp0\tdeny-overrides\tb\n"
+#define AGAIN_REST "P\t1\tp1\tfirst-applicable\t*\nR\t2\tr3\tdeny\t*\n"
+
+#define ROOM 20000
+#define FILLED 0xa5
+
+static uint8_t buffer[ROOM];
+
+/* Every byte of the buffer from a place on is as it was. */
+static int untouched(size_t from) {
+    for (size_t i = from; i < ROOM; i++) {
+        if (buffer[i] != FILLED) return 0;
+    }
+    return 1;
+}
+
+static void trims(const uint8_t *file, size_t size, const uint8_t *text, size_t length, const char *what, int line) {
+    /* room to spare, exactly enough, one byte less, none */
+    memset(buffer, FILLED, ROOM);
+    answers(jogimaduve_trim(file, size, buffer, ROOM), 0, (uint32_t)length, what, line);
+    check(memcmp(buffer, text, length) == 0 && untouched(length), what, line);
+    memset(buffer, FILLED, ROOM);
+    answers(jogimaduve_trim(file, size, buffer, length), 0, (uint32_t)length, what, line);
+    check(memcmp(buffer, text, length) == 0 && untouched(length), what, line);
+    memset(buffer, FILLED, ROOM);
+    answers(jogimaduve_trim(file, size, buffer, length - 1), 11, (uint32_t)length, what, line);
+    answers(jogimaduve_trim(file, size, buffer, 0), 11, (uint32_t)length, what, line);
+    check(untouched(0), what, line);
+    /* trimmed again, the same */
+    answers(jogimaduve_trim(text, length, buffer, ROOM), 0, (uint32_t)length, what, line);
+    check(memcmp(buffer, text, length) == 0 && untouched(length), what, line);
+}
+
+#define TRIMS(file, text) trims(TEXT(file), TEXT(text), #file, __LINE__)
+
+static void refuses(const uint8_t *file, size_t size, uint32_t number, uint32_t second, const char *what, int line) {
+    memset(buffer, FILLED, ROOM);
+    answers(jogimaduve_trim(file, size, buffer, ROOM), number, second, what, line);
+    check(untouched(0), what, line);
+}
+
+#define REFUSES(file, number, second) refuses(TEXT(file), number, second, #file, __LINE__)
+
+/* The most that a file can ask: 64 elements, 62 of them rules that each do work, and 4,096 requests. */
+static void largest(void) {
+    static char file[16384];
+    size_t size = 0;
+    for (char name = 'x'; name <= 'z'; name++) {
+        size += (size_t)sprintf(file + size, "A\t%c", name);
+        for (char value = 'a'; value <= 'p'; value++) size += (size_t)sprintf(file + size, "\t%c", value);
+        size += (size_t)sprintf(file + size, "\n");
+    }
+    size += (size_t)sprintf(file + size, "S\t0\ttop\tdeny-overrides\t*\t*\t*\nP\t1\tp\tfirst-applicable\t*\t*\t*\n");
+    for (int rule = 0; rule < 62; rule++) {
+        size += (size_t)sprintf(file + size, "R\t2\tr%d\t%s\t%c\t%c\t*\n", rule, rule % 2 == 0 ? "permit" : "deny", 'a' + rule % 16, 'a' + rule / 16);
+    }
+    trims((const uint8_t *)file, size, (const uint8_t *)file, size, "62 rules that do work", __LINE__);
+}
+
+int main(void) {
+    TRIMS(HEAD "R\t1\tr3\tdeny\t*\tteach\nR\t1\tr4\tpermit\ttech\tjog\n", HEAD);
+    TRIMS(BARE "R\t1\tr1\tpermit\t*\nR\t1\tr2\tpermit\t*\n", BARE "R\t1\tr1\tpermit\t*\n");
+    TRIMS(THREE "R\t1\tr4\tdeny\tb\n", THREE);
+    TRIMS(BARE, BARE);
+    TRIMS(THREE, THREE);
+    TRIMS(BARE "R\t1\tr1\tdeny\t*\nR\t1\tr2\tpermit\t*\nR\t1\tr3\tpermit\t*\nR\t1\tr4\tdeny\t*\n", BARE "R\t1\tr1\tdeny\t*\n");
+    TRIMS(AGAIN_TOP "R\t2\tr1\tpermit\t*\nR\t2\tr2\tdeny\tb\n" AGAIN_REST, AGAIN_TOP AGAIN_REST);
+    largest();
+    REFUSES("", 9, 0);
+    REFUSES("\n", 2, 1);
+    REFUSES(BARE "R\t1\tr1\tpermit\t*", 2, 3);
+    REFUSES(BARE "R\t1\tr1\tpermit\ta\n", 8, 3);
+    static uint8_t long_file[16385];
+    memset(long_file, 'A', sizeof long_file);
+    refuses(long_file, sizeof long_file, 1, 0, "16,385 bytes", __LINE__);
+    refuses(long_file, sizeof long_file - 1, 2, 1, "16,384 bytes", __LINE__);
+    return checks_done();
+}
