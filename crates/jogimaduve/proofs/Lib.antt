@@ -3,3 +3,4 @@ mod FileRead
 mod Deciding
 mod Shaping
 mod Trimming
+mod Demand3
