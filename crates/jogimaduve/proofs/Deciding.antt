@@ -1,5 +1,5 @@
 -- The answer to a request, from what was read of the file and of the request line.
-use mathlib.Core.Path.{_≡_, refl, sym, ap, _∙_, subst}
+use mathlib.Core.Path.{_≡_, sym, ap, _∙_, subst}
 use Prim.Native.Nat.{ℕ, _≤_, _<_}
 use native.Mathlib.Omega.{arith}
 use mathlib.Core.Bool.{true, false}
@@ -7,7 +7,7 @@ use mathlib.Core.List.{List}
 use lib.ListN.{getD}
 use Rattle.meaning.specs.declared.Decision.{Decision}
 use Rattle.meaning.specs.Text.{Bytes}
-use Rattle.meaning.specs.Model.{Policy, Result, refused, given, _then_}
+use Rattle.meaning.specs.Model.{Result, refused, given, _then_}
 use Rattle.meaning.specs.Reading.{read}
 use Rattle.meaning.specs.Deciding.{Request, requestLine, decisionNumber, matches, firstDecision, decide, decideFile}
 use Rattle.meaning.specs.declared.Answer.{Answer}

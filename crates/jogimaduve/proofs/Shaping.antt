@@ -6,7 +6,7 @@ use native.Mathlib.Omega.{arith}
 use mathlib.Core.List.{List, [], _∷_, map}
 use lib.ListN.{length, take, drop, getD, length-reverse}
 use lib.Seq.{drop-cons}
-use Rattle.meaning.specs.Text.{Bytes, cut, tab}
+use Rattle.meaning.specs.Text.{Bytes, tab}
 use Rattle.meaning.specs.Model.{Policy, choices, sizes, product, given}
 use Rattle.meaning.specs.Reading.{read}
 use Rattle.laws.proofs.Text.{Some, one-or-more, cut-some}

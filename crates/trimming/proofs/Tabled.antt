@@ -2,7 +2,7 @@
 use mathlib.Core.Path.{_≡_, refl, sym, ap, ap₂, _∙_}
 use Prim.Native.Nat.{ℕ, zero, suc, _*_, _≤_, _<_}
 use native.Mathlib.Omega.{arith}
-use mathlib.Core.Bool.{Bool, true, false, _&&_, cond}
+use mathlib.Core.Bool.{Bool, false, _&&_, cond}
 use mathlib.Core.List.{List, [], _∷_, map, reverse}
 use mathlib.Core.Option.{Option, none, some}
 use lib.Dec.{ltb}
@@ -12,13 +12,13 @@ use Rattle.meaning.specs.declared.Element.{Element}
 use Rattle.meaning.specs.Text.{Bytes, isNone, firstFrom, lastBelow}
 use Rattle.meaning.specs.Model.{Policy, sizes, product, given}
 use Rattle.meaning.specs.Reading.{read}
-use Rattle.meaning.specs.Deciding.{requestOf, sameOutcome, outcome, decide}
+use Rattle.meaning.specs.Deciding.{requestOf, outcome, decide}
 use Rattle.meaning.specs.Claims.{All, isRule}
 use Rattle.laws.proofs.ElementKinds.{isEffect, WordFits, kinds}
 use Rattle.decisions.specs.Table.{wordAt, elementAt}
 use Rattle.flags.specs.Decided as table-level
 use Rattle.layout.specs.Places.{elementIn, elementsTo}
-use Rattle.trimming.specs.Flags.{isLeft, leftPolicy, changesAt, firstChangeAt, ruleIn, keptAt, needlessAt, nextAt, Flagged, onwardAt, trimmingAt}
+use Rattle.trimming.specs.Flags.{isLeft, leftPolicy, changesAt, firstChangeAt, ruleIn, keptAt, needlessAt, nextAt, trimmingAt}
 use Rattle.trimming.proofs.Table.{decided-left, element-at}
 
 -- an effect, by the number of its word
@@ -74,15 +74,12 @@ module _ (f : Bytes) (p : Policy) (h : read f ≡ given p) (table places : List 
   next-is struck = last-alike (table-level.needlessAt table n counts struck) (needlessAt p struck) n (needless-is struck) ∙ ap (lastBelow (needlessAt p struck)) (sym size)
 
   -- the same flags at the end, and the same places struck
-  abbrev flagged : table-level.Struck → Flagged
-  flagged s = record { flags = s .flags; places = s .order }
-
-  pub trimming-is : (k : ℕ) (struck : List ℕ) → flagged (table-level.trimmingAt table n counts k struck) ≡ trimmingAt k p struck
+  pub trimming-is : (k : ℕ) (struck : List ℕ) → table-level.trimmingAt table n counts k struck ≡ trimmingAt k p struck
   unfolding table-level.trimmingAt trimmingAt
   trimming-is zero struck = refl
   trimming-is (suc k) struck = rw (next-is struck) (go (nextAt p struck) (λ i. trimming-is k (set struck i 1)))
     where
-      go : (o : Option ℕ) → ((i : ℕ) → flagged (table-level.trimmingAt table n counts k (set struck i 1)) ≡ trimmingAt k p (set struck i 1))
-          → flagged (table-level.onward o struck (λ i. table-level.trimmingAt table n counts k (set struck i 1))) ≡ onwardAt o struck (λ i. trimmingAt k p (set struck i 1))
+      go : (o : Option ℕ) → ((i : ℕ) → table-level.trimmingAt table n counts k (set struck i 1) ≡ trimmingAt k p (set struck i 1))
+          → table-level.onward o struck (λ i. table-level.trimmingAt table n counts k (set struck i 1)) ≡ table-level.onward o struck (λ i. trimmingAt k p (set struck i 1))
       go none later = refl
-      go (some i) later = ap (λ t. record { flags = t .flags; places = i ∷ t .places }) (later i)
+      go (some i) later = ap (table-level.struckFirst i) (later i)

@@ -22,7 +22,7 @@ use Rattle.trimming.proofs.Kept.{kept-lines}
 
 -- From flags that stand, trimming takes the paper's steps to flags that stand
 pub record Ends (f : Bytes) (p : Policy) (n : ℕ) (struck : List ℕ) : Type 0 where
-  pub steps : Trims (textLeft f p struck) (map (nameIn (p .elements)) (trimmingAt n p struck .places)) (textLeft f p (trimmingAt n p struck .flags))
+  pub steps : Trims (textLeft f p struck) (map (nameIn (p .elements)) (trimmingAt n p struck .order)) (textLeft f p (trimmingAt n p struck .flags))
   pub stands : Stands f p (trimmingAt n p struck .flags)
 
 module _ (f : Bytes) (p : Policy) (h : read f ≡ given p) where
@@ -43,7 +43,7 @@ module _ (f : Bytes) (p : Policy) (h : read f ≡ given p) where
       let k = lineAt p struck i in
       let (x, y) = next-last text (leftPolicy p struck) (s .accepts) k (next-flag f p h struck s ∙ ap (Option·map (lineAt p struck)) e) in
       let t = trimmingAt n p (set struck i 1) in
-      let struck-first : Trims text (nameAt text k ∷ map (nameIn es) (t .places)) (textLeft f p (t .flags)) = last-struck text k (map (nameIn es) (t .places)) (textLeft f p (t .flags)) x y (rw (strike-flag f p h struck s i kept) (later .steps)) in
+      let struck-first : Trims text (nameAt text k ∷ map (nameIn es) (t .order)) (textLeft f p (t .flags)) = last-struck text k (map (nameIn es) (t .order)) (textLeft f p (t .flags)) x y (rw (strike-flag f p h struck s i kept) (later .steps)) in
       let named = rule-name f p h struck s i (kept-below p struck i kept) (kept-left p struck i kept) in
       record { steps = rw e (rw named at struck-first); stands = rw e (later .stands) }
 
@@ -68,7 +68,7 @@ module _ (f : Bytes) (p : Policy) (h : read f ≡ given p) where
     pub trimmed-stands : Stands f p (trimmingAt n p struck .flags)
     trimmed-stands = ends .stands
 
-    pub trimmed-flags : trimmed f ≡ record { text = textLeft f p (trimmingAt n p struck .flags); struck = map (nameIn (p .elements)) (trimmingAt n p struck .places) }
+    pub trimmed-flags : trimmed f ≡ record { text = textLeft f p (trimmingAt n p struck .flags); struck = map (nameIn (p .elements)) (trimmingAt n p struck .order) }
     trimmed-flags =
         let (a, b) = steps-settle (trimmed-steps f p h) (rw (text-whole f p h struck clear) at (ends .steps)) in
         λ i. record { text = b i; struck = a i }

@@ -3,7 +3,7 @@ use mathlib.Core.Path.{_≡_}
 use Prim.Native.Nat.{ℕ, zero, suc, _+_}
 use mathlib.Core.Bool.{Bool, false, not, cond, _&&_}
 use mathlib.Core.List.{List, [], _∷_, _++_, map}
-use mathlib.Core.Option.{Option, none, some}
+use mathlib.Core.Option.{Option}
 use lib.Dec.{eqb}
 use lib.ListN.{length, getD, take, drop, set}
 use Rattle.meaning.specs.declared.Element.{Element}
@@ -13,6 +13,7 @@ use Rattle.meaning.specs.Deciding.{sameOutcome, outcome}
 use Rattle.meaning.specs.Trimming.{lines}
 use Rattle.meaning.specs.Report.{nameIn}
 use Rattle.meaning.specs.Claims.{isRule}
+use Rattle.flags.specs.Decided.{Struck, onward}
 
 -- place i is left: its flag is 0
 abbrev pub isLeft : List ℕ → ℕ → Bool
@@ -66,22 +67,10 @@ needlessAt p struck i = keptAt p struck i && isNone (firstChangeAt p struck i)
 unfoldable pub nextAt : Policy → List ℕ → Option ℕ
 nextAt p struck = lastBelow (needlessAt p struck) (length (p .elements))
 
--- the flags at the end, and the places in the order struck
-pub record Flagged : Type 0 where
-  pub flags : List ℕ
-  pub places : List ℕ
-
-abbrev pub placeFirst : ℕ → Flagged → Flagged
-placeFirst i t = record { flags = t .flags; places = i ∷ t .places }
-
-abbrev pub onwardAt : Option ℕ → List ℕ → (ℕ → Flagged) → Flagged
-onwardAt none struck next = record { flags = struck; places = [] }
-onwardAt (some i) struck next = placeFirst i (next i)
-
 -- while there is one, the next rule is struck: at most n times
-unfoldable pub trimmingAt : ℕ → Policy → List ℕ → Flagged
-trimmingAt zero p struck = record { flags = struck; places = [] }
-trimmingAt (suc n) p struck = onwardAt (nextAt p struck) struck (λ i. trimmingAt n p (set struck i 1))
+unfoldable pub trimmingAt : ℕ → Policy → List ℕ → Struck
+trimmingAt zero p struck = record { flags = struck; order = [] }
+trimmingAt (suc n) p struck = onward (nextAt p struck) struck (λ i. trimmingAt n p (set struck i 1))
 
 -- the rules that are left, in file order, and the `K` line of each
 abbrev pub keptPlaces : Policy → List ℕ → List ℕ
