@@ -65,7 +65,8 @@ fn depth_at(table: &[u16], i: usize) -> usize
     wide(table[8 * i + 1])
 }
 
-fn number(d: Decision) -> usize
+// A decision's number.
+pub fn number(d: Decision) -> usize
     ensures { λ r. ⌜ (r ≡ decisionNumber d) × (r < 4) ⌝ }
 {
     match d {

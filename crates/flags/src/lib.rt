@@ -1,5 +1,4 @@
 // Which rules trimming strikes, over a lent table of elements and a flag for each: one that is not 0 strikes its element.
-use meaning::Decision;
 use requests::Request;
 ghost use mathlib.Core.Path.{_≡_};
 ghost use mathlib.Core.List.{_++_};
@@ -27,23 +26,12 @@ pub struct Tried {
     pub shown: usize,
 }
 
-fn number(d: Decision) -> u8
-    ensures { λ r. ⌜ r ≡ decisionNumber d ⌝ }
-{
-    match d {
-        Decision::Permit => 0,
-        Decision::Deny => 1,
-        Decision::NotApplicable => 2,
-        Decision::Indeterminate => 3,
-    }
-}
-
 // The number of the decision that the request gets.
 fn outcome(table: &[u16], struck: &[u8], n: usize, q: Request) -> u8
     requires { ⌜ Room (now table) (now struck) n 1 (q .len) × (getD (now struck) 0 0 ≡ 0) ⌝ }
     ensures { λ r. ⌜ r ≡ decisionNumber (firstDecision (matches (valuesOf q)) (left (now (table .entry)) (now (struck .entry)) 0 n)) ⌝ }
 {
-    number(decisions::decide(table, struck, n, q))
+    decisions::number(decisions::decide(table, struck, n, q)) as u8
 }
 
 // Lays down the number of each request's decision; what lies behind them stays.

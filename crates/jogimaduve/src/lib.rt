@@ -1,24 +1,10 @@
 // The operations for C callers.
 use flags::Shape;
 use meaning::Answer;
-use meaning::Decision;
 ghost use mathlib.Core.Path.{_≡_};
-ghost use Rattle.meaning.specs.Deciding.{decisionNumber};
-ghost use lib.ListN.{length};
 ghost use Rattle.meaning.specs.Operations.{decideAnswer, trimAnswer, trimLent};
 ghost use Rattle.flags.specs.Decided.{trimmingAt};
 ghost use Rattle.flags.specs.Ready.{countsOf, Ready};
-
-fn decision_number(d: Decision) -> u32
-    ensures { λ r. ⌜ r ≡ decisionNumber d ⌝ }
-{
-    match d {
-        Decision::Permit => 0,
-        Decision::Deny => 1,
-        Decision::NotApplicable => 2,
-        Decision::Indeterminate => 3,
-    }
-}
 
 // What a policy file decides on a request line.
 #[no_mangle]
@@ -48,7 +34,7 @@ pub extern "C" fn jogimaduve_decide(file: &[u8], request: &[u8]) -> Answer
     let decision = decisions::decide(&table, &struck, reading.elements, q);
     Answer {
         number: 0,
-        second: decision_number(decision),
+        second: decisions::number(decision) as u32,
     }
 }
 

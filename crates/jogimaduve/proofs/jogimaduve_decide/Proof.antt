@@ -58,8 +58,11 @@ decide-requires c κs =
     let elements : reading .result .elements ≤ 64 = omega (arith, holds .rooms .named .room) in
     (record { rows = omega (arith, holds .rooms .rows, elements); flags = elements; place = holds .some; few = few }, refl)
 
-decision-number-requires : tie.Need-decision-number-requires
-decision-number-requires c κs = search needs
+number-requires : tie.Need-number-requires
+number-requires c κs = search needs
+
+cast-t25 : tie.Need-cast-t25
+cast-t25 c = omega (arith, c .number .ensures .1)
 
 returns-3 : tie.Need-returns-3
 returns-3 c =
@@ -67,7 +70,7 @@ returns-3 c =
     let read-well = c .before .before .before .before .before .before .before .before .before .if1 .left in
     let asked = c .before .before .before .before .before .before .before .request-line in
     let holds = file-read _ _ _ _ (reading .ensures) read-well .2 in
-    request-decided _ _ _ _ (reading .ensures) read-well _ (asked .result) (asked .ensures) (not-false _ (c .before .before .before .before .before .if2 .left)) _ (λ k l. getD-replicate 64 k 0 0 (omega (arith, l, holds .rooms .named .room))) _ (c .before .decide .ensures) _ (c .decision-number .ensures)
+    request-decided _ _ _ _ (reading .ensures) read-well _ (asked .result) (asked .ensures) (not-false _ (c .before .before .before .before .before .if2 .left)) _ (λ k l. getD-replicate 64 k 0 0 (omega (arith, l, holds .rooms .named .room))) _ (c .before .decide .ensures) _ (c .number .ensures .0)
 
 pub jogimaduve-decide-spec : {M : Type 1} → statement M
 jogimaduve-decide-spec =
@@ -85,5 +88,6 @@ jogimaduve-decide-spec =
     slice-aggregate-decide
     slice-aggregate-decide-2
     decide-requires
-    decision-number-requires
+    number-requires
+    cast-t25
     returns-3)
