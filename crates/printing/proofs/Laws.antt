@@ -1,0 +1,44 @@
+-- Texts laid one behind the other, behind a buffer's end, and over its start; lines by their fields.
+use mathlib.Core.Path.{_≡_, refl, sym, ap, _∙_}
+use mathlib.Core.List.{List, [], _∷_, _++_, append-assoc}
+use Prim.Native.Nat.{ℕ, zero, suc, _+_, _≤_, _<_}
+use native.Mathlib.Nat.{add-zero, add-suc, suc-add}
+use native.Mathlib.Numerals.{add-one}
+use native.Mathlib.Omega.{arith}
+use lib.ListN.{length, take, drop, getD, set, length-append}
+use lib.Seq.{sets, sets-eq, set-out, drop-cons}
+use Rattle.meaning.specs.Text.{Bytes, newline, tab, line}
+use Rattle.printing.specs.Wrote.{Wrote}
+
+sets-append : (l : List ℕ) (i : ℕ) (xs ys : List ℕ) → sets l i (xs ++ ys) ≡ sets (sets l i xs) (i + length xs) ys
+sets-append l i [] ys = rw (add-zero i)
+sets-append l i (x ∷ xs) ys = rw (add-suc i (length xs), ← suc-add i (length xs)) (sets-append (set l i x) (suc i) xs ys)
+
+-- nothing is stored behind the end
+pub sets-out : (l : List ℕ) (i : ℕ) (xs : List ℕ) → length l ≤ i → sets l i xs ≡ l
+sets-out l i [] h = refl
+sets-out l i (x ∷ xs) h = ap (λ m. sets m (suc i) xs) (set-out l i x h) ∙ sets-out l (suc i) xs (omega arith)
+
+-- one byte more of those that are left
+pub sets-next : (l xs : List ℕ) (n i : ℕ) → i < length xs → sets (set l n (getD xs i 0)) (n + 1) (drop (i + 1) xs) ≡ sets l n (drop i xs)
+sets-next l xs n i h = rw (add-one n, add-one i, drop-cons xs i 0)
+
+-- one text behind the other, and no text
+pub then : {x y z s t : List ℕ} {n m k : ℕ} → Wrote x n s y m → Wrote y m t z k → Wrote x n (s ++ t) z k
+then {x} {y} {z} {s} {t} {n} {m} {k} p q =
+    record {
+      moved = omega (arith, p .moved, q .moved, length-append s t);
+      laid = rw (q .laid, p .laid, p .moved, sets-append x n s t);
+    }
+
+pub nothing : (x : List ℕ) (n : ℕ) → Wrote x n [] x n
+nothing x n = record { moved = omega arith; laid = refl }
+
+-- a text that is laid over the start of a buffer that holds it
+pub at-start : {x t y : List ℕ} {m : ℕ} → Wrote x 0 t y m → length t ≤ length x → y ≡ t ++ drop (length t) x
+at-start {x} {t} {y} {m} w h = let here : 0 + length t ≡ length t = omega arith in w .laid ∙ sets-eq t x 0 (omega arith) ∙ rw here
+
+-- a line's first field, its tab, and the line of the other fields
+pub line-next : (a b : Bytes) (fs : List Bytes) → (a ++ (tab ∷ [])) ++ line (b ∷ fs) ≡ line (a ∷ b ∷ fs)
+line-next a b [] = append-assoc a (tab ∷ []) (b ++ (newline ∷ [])) ∙ sym (append-assoc a (tab ∷ b) (newline ∷ []))
+line-next a b (c ∷ fs) = append-assoc a (tab ∷ []) (line (b ∷ c ∷ fs)) ∙ sym (append-assoc a _ (newline ∷ []))

@@ -1,0 +1,2 @@
+-- What the contracts of printing cite.
+pub mod Wrote
