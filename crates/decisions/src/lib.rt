@@ -44,7 +44,8 @@ const NEXT: [[[Decision; 4]; 4]; 3] = [
     ],
 ];
 
-fn wide(x: u16) -> usize
+// A number of the table as a usize.
+pub fn wide(x: u16) -> usize
     ensures { λ r. ⌜ (r ≡ x) × (r < 65536) ⌝ }
 {
     x as usize

@@ -10,12 +10,13 @@ use lib.ListN.{getD, set, length-set}
 use lib.Seq.{getD-set-other, set-set, set-getD}
 use borrow.Author.Tests.{eqb-true, ltb-true}
 use Rattle.meaning.specs.Text.{isNone, firstFrom}
+use Rattle.meaning.specs.Model.{product}
 use Rattle.meaning.specs.Deciding.{decisionNumber}
 use Rattle.laws.proofs.Bools.{contradiction, and-true}
 use Rattle.laws.proofs.Search.{first-some, first-none}
 use Rattle.decisions.specs.Table.{placeOr}
 use Rattle.flags.specs.declared.Shape.{Shape}
-use Rattle.flags.specs.Decided.{ruleLeft, decidedAt, differsAt, changesAt, firstChangeAt, needlessAt}
+use Rattle.flags.specs.Decided.{ruleLeft, decidedAt, differsAt, changesAt, firstChangeAt, shownAt, needlessAt}
 use Rattle.flags.specs.Ready.{countsOf, Ready, Holds}
 
 -- Whether a search finds nothing, by the place that it gives
@@ -98,6 +99,16 @@ module _ (t struck : List ℕ) (i : ℕ) (rule : ruleLeft t struck i ≡ true) w
 pub needless-other : (t : List ℕ) (n : ℕ) (counts struck : List ℕ) (i : ℕ) → ruleLeft t struck i ≡ false → false ≡ needlessAt t n counts struck i
 unfolding needlessAt
 needless-other t n counts struck i other = rw other
+
+-- The request shown for element i
+module _ (t struck : List ℕ) (s : Shape) (i : ℕ) (all : product (countsOf s) ≡ s .space) where
+  pub shown-rule : (r : ℕ) → ruleLeft t struck i ≡ true → r ≡ placeOr (s .space) (firstChangeAt t (s .n) (countsOf s) struck i) → r ≡ shownAt t (s .n) (countsOf s) struck i
+  unfolding shownAt
+  shown-rule r rule e = rw (rule, all) e
+
+  pub shown-other : ruleLeft t struck i ≡ false → s .space ≡ shownAt t (s .n) (countsOf s) struck i
+  unfolding shownAt
+  shown-other other = rw other (sym all)
 
 -- Flags that are those of the start
 pub asks : {t first struck decided : List ℕ} {s : Shape} → struck ≡ first → Ready t first s → Holds t first decided s → Ready t struck s × Holds t struck decided s

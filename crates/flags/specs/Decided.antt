@@ -1,6 +1,6 @@
 -- Decisions, needless rules and trimming, over a table of elements and a flag for each: an element whose flag is not 0 is struck.
 use Prim.Native.Nat.{ℕ, zero, suc, _*_}
-use mathlib.Core.Bool.{Bool, not, _&&_}
+use mathlib.Core.Bool.{Bool, not, cond, _&&_}
 use mathlib.Core.List.{List, [], _∷_, map}
 use mathlib.Core.Option.{Option, none, some}
 use lib.Dec.{eqb, ltb}
@@ -8,7 +8,7 @@ use lib.ListN.{getD, set}
 use Rattle.meaning.specs.Text.{isNone, counting, firstFrom, lastBelow}
 use Rattle.meaning.specs.Model.{product}
 use Rattle.meaning.specs.Deciding.{Outcome, decisionNumber, requestOf, matches, firstDecision, sameOutcome}
-use Rattle.decisions.specs.Table.{left}
+use Rattle.decisions.specs.Table.{left, placeOr}
 
 -- element i is a rule that is left: its flag is 0, and its word an effect
 abbrev pub ruleLeft : List ℕ → List ℕ → ℕ → Bool
@@ -49,6 +49,10 @@ module _ (t : List ℕ) (n : ℕ) (counts : List ℕ) where
 
   unfoldable pub firstChangeAt : List ℕ → ℕ → Option ℕ
   firstChangeAt struck i = firstFrom (changesAt struck i) 0 (product counts)
+
+  -- that request for a rule that is left; the number of requests where there is none, and for every other element
+  unfoldable pub shownAt : List ℕ → ℕ → ℕ
+  shownAt struck i = cond (ruleLeft t struck i) (placeOr (product counts) (firstChangeAt struck i)) (product counts)
 
   -- a rule that is left and without which every request gets the same decision
   unfoldable pub needlessAt : List ℕ → ℕ → Bool

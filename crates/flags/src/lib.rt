@@ -1,14 +1,14 @@
 // Which rules trimming strikes, over a lent table of elements and a flag for each: one that is not 0 strikes its element.
 use requests::Request;
 ghost use mathlib.Core.Path.{_≡_};
-ghost use mathlib.Core.List.{_++_};
+ghost use mathlib.Core.List.{_++_, map};
 ghost use Prim.Native.Nat.{_*_, _≤_, _<_};
 ghost use lib.ListN.{length, getD, drop};
-ghost use Rattle.meaning.specs.Text.{isNone, firstFrom};
+ghost use Rattle.meaning.specs.Text.{isNone, counting, firstFrom};
 ghost use Rattle.meaning.specs.Deciding.{decisionNumber, matches, firstDecision};
 ghost use Rattle.requests.specs.Values.{valuesOf};
 ghost use Rattle.decisions.specs.Table.{left, placeOr, Room};
-ghost use Rattle.flags.specs.Decided.{ruleLeft, numbers, differsAt, firstChangeAt, needlessAt, nextAt};
+ghost use Rattle.flags.specs.Decided.{ruleLeft, numbers, differsAt, firstChangeAt, shownAt, needlessAt, nextAt};
 ghost use Rattle.flags.specs.Ready.{countsOf, Ready, Holds};
 ghost use Rattle.flags.specs.Trims.{Trims};
 
@@ -207,4 +207,34 @@ pub fn needed_by(
     let shown = first_change(table, struck, shape, decided);
     struck[rule] = flag;
     shown
+}
+
+// The same for every element, the number of requests for one that is no rule left.
+fn shown_by(table: &[u16], struck: &mut [u8], shape: Shape, decided: &[u8], i: usize) -> usize
+    requires { ⌜ Ready (now table) (now struck) shape × Holds (now table) (now struck) (now decided) shape × (i < shape .n) ⌝ }
+    ensures { λ r. ⌜ (r ≡ shownAt (now (table .entry)) (shape .n) (countsOf shape) (now (struck .entry)) i) × (now (struck .exit) ≡ now (struck .entry)) ⌝ }
+{
+    if !is_left(table, struck, i) {
+        return shape.space;
+    }
+    needed_by(table, struck, shape, decided, i)
+}
+
+// Lays down for each rule left the first request whose decision changes without it, the number of requests where there is none and for every other element. What lies behind them stays.
+pub fn needed_all(
+    table: &[u16],
+    struck: &mut [u8],
+    shape: Shape,
+    decided: &[u8],
+    shown: &mut [usize],
+)
+    requires { ⌜ Ready (now table) (now struck) shape × Holds (now table) (now struck) (now decided) shape × (shape .n ≤ length (now shown)) ⌝ }
+    ensures { λ _. ⌜ (now (shown .exit) ≡ map (shownAt (now (table .entry)) (shape .n) (countsOf shape) (now (struck .entry))) (counting 0 (shape .n)) ++ drop (shape .n) (now (shown .entry))) × (now (struck .exit) ≡ now (struck .entry)) ⌝ }
+{
+    let n = shape.n;
+    let mut i = 0;
+    while i < n {
+        shown[i] = shown_by(table, struck, shape, decided, i);
+        i += 1;
+    }
 }

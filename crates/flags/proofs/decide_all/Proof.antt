@@ -1,18 +1,17 @@
 -- `decide_all`: the numbers from request m on, laid over the slice as it is, give what all give over the slice as it was.
 -- Assumes nothing.
 use Prim.Native.Nat.{_-_, _≤_}
-use mathlib.Core.Path.{_≡_, refl, _∙_}
 use native.Mathlib.Omega.{arith}
 use borrow.Author.Needs.{needs}
-use lib.ListN.{length, take, length-set}
-use Rattle.flags.specs.Ready.{countsOf}
-use Rattle.flags.proofs.Walking.{Walk, walk-of, walk-next, walk-room, walk-decided, laid, laid-next, laid-all}
+use lib.ListN.{take}
+use Rattle.flags.proofs.Laying.{Lays, lays-none, lays-next}
+use Rattle.flags.proofs.Walking.{Walk, walk-of, walk-next, walk-room, walk-decided, numberAt, numbers-laid}
 use Rattle.flags.proofs.decide_all.Statement.{statement}
 use Rattle.flags.proofs.decide_all.Tie as tie
 
 abbrev Inv-loop : tie.InvT-loop
 Inv-loop table struck decided₀ n counts len space q₀ m₀ decided q m =
-    (m ≤ space) × (length decided ≡ length decided₀) × Walk counts len space q m × (laid table n (take len counts) struck decided space m ≡ laid table n (take len counts) struck decided₀ space 0)
+    (m ≤ space) × Walk counts len space q m × Lays (numberAt table n (take len counts) struck) space decided₀ decided m
 
 abbrev μ-loop : tie.MeasureT-loop
 μ-loop table struck decided₀ n counts len space q₀ m₀ decided q m = space - m
@@ -21,18 +20,18 @@ request-of-requires : tie.Need-request-of-requires Inv-loop μ-loop
 request-of-requires c κs = let ready = c .before .before .before .before .pre .0 in omega (arith, ready .all, ready .positive)
 
 loop-holds : tie.Need-loop-holds Inv-loop μ-loop
-loop-holds c = (omega arith, refl, walk-of _ 0 (c .request-of .ensures), refl)
+loop-holds c = (omega arith, walk-of _ 0 (c .request-of .ensures), lays-none _ _ _)
 
 outcome-requires : tie.Need-outcome-requires Inv-loop μ-loop
 outcome-requires c κs =
     let start = c .before .before .before .before .before .before .before in
-    (walk-room (start .args .table .now) (start .args .struck .now) (start .args .shape) _ _ (start .pre .0) (c .before .loop .inv .2), start .pre .0 .stays)
+    (walk-room (start .args .table .now) (start .args .struck .now) (start .args .shape) _ _ (start .pre .0) (c .before .loop .inv .1), start .pre .0 .stays)
 
 slice-write-decided : tie.Need-slice-write-decided Inv-loop μ-loop
 slice-write-decided c = search needs
 
 next-requires : tie.Need-next-requires Inv-loop μ-loop
-next-requires c κs = c .before .before .loop .inv .2 .fitting
+next-requires c κs = c .before .before .loop .inv .1 .fitting
 
 add-m : tie.Need-add-m Inv-loop μ-loop
 add-m c = search needs
@@ -49,11 +48,10 @@ loop-again c =
     let struck = start .args .struck .now in
     let shape = start .args .shape in
     let ready = start .pre .0 in
-    let walk = turn .inv .2 in (
+    let walk = turn .inv .1 in (
       omega arith,
-      rw length-set (turn .inv .1),
       walk-next t struck shape _ _ ready walk _ more (c .next .ensures),
-      laid-next t (shape .n) (countsOf shape) struck (turn .decided) (shape .space) (turn .m) _ more (walk-decided t struck shape _ _ ready walk _ more (c .before .outcome .ensures)) ∙ turn .inv .3,
+      lays-next _ _ more (walk-decided t struck shape _ _ ready walk _ more (c .before .outcome .ensures)) (turn .inv .2),
     )
 
 same-length : tie.Need-same-length Inv-loop μ-loop
@@ -64,7 +62,7 @@ returns c =
     let start = c .before .before .before .before .before .before .before in
     let turn = c .before .loop in
     let shape = start .args .shape in
-    laid-all (start .args .table .now) (shape .n) (countsOf shape) (start .args .struck .now) (start .args .decided .now) (turn .decided) (shape .space) (turn .m) (start .pre .0 .all) (start .pre .1) (omega arith) (turn .inv .3)
+    numbers-laid _ _ _ _ _ _ (shape .space) (turn .m) (start .pre .0 .all) (start .pre .1) (omega arith) (turn .inv .2)
 
 pub decide-all-spec : {M : Type 1} → statement M
 decide-all-spec =

@@ -1,0 +1,5 @@
+-- The laws that the functions' proofs cite, and those of the words that callers cite.
+pub mod Marks
+pub mod Making
+pub mod Sizing
+mod PairSteps

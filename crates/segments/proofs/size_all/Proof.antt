@@ -1,0 +1,79 @@
+-- `size_all`: each request is counted at the first one of its segment. Assumes nothing.
+use Prim.Native.Nat.{_-_, _≤_}
+use native.Mathlib.Omega.{arith}
+use borrow.Author.Needs.{needs}
+use lib.ListN.{length-set}
+use Rattle.segments.proofs.Sizing.{first-of, Sized, sized-none, counted-most, sized-next, sized-all}
+use Rattle.segments.proofs.size_all.Statement.{statement}
+use Rattle.segments.proofs.size_all.Tie as tie
+
+abbrev Inv-loop : tie.InvT-loop
+Inv-loop words space sizes₀ m₀ sizes m = (m ≤ space) × Sized words sizes₀ sizes m
+
+abbrev μ-loop : tie.MeasureT-loop
+μ-loop words space sizes₀ m₀ sizes m = space - m
+
+loop-holds : tie.Need-loop-holds Inv-loop μ-loop
+loop-holds c = (omega arith, sized-none _ _)
+
+first-alike-requires : tie.Need-first-alike-requires Inv-loop μ-loop
+first-alike-requires c κs = search needs
+
+mul-sizes : tie.Need-mul-sizes Inv-loop μ-loop
+mul-sizes c = search needs
+
+slice-write-sizes : tie.Need-slice-write-sizes Inv-loop μ-loop
+slice-write-sizes c = search needs
+
+mul-sizes-2 : tie.Need-mul-sizes-2 Inv-loop μ-loop
+mul-sizes-2 c = search needs
+
+slice-read-sizes : tie.Need-slice-read-sizes Inv-loop μ-loop
+slice-read-sizes c = rw length-set (omega arith)
+
+add-sizes : tie.Need-add-sizes Inv-loop μ-loop
+add-sizes c =
+    let turn = c .before .before .before .loop in
+    let first = first-of (c .before .before .before .before .before .before .args .words .now) (turn .m) _ (c .before .first-alike .ensures .0) in
+    omega (arith, counted-most (turn .inv .1) (omega arith) _ first)
+
+slice-write-sizes-2 : tie.Need-slice-write-sizes-2 Inv-loop μ-loop
+slice-write-sizes-2 c = rw length-set (omega arith)
+
+add-m : tie.Need-add-m Inv-loop μ-loop
+add-m c = search needs
+
+loop-less : tie.Need-loop-less Inv-loop μ-loop
+loop-less c = search needs
+
+loop-again : tie.Need-loop-again Inv-loop μ-loop
+loop-again c =
+    let turn = c .before .before .before .loop in
+    let first = first-of (c .before .before .before .before .before .before .args .words .now) (turn .m) _ (c .before .first-alike .ensures .0) in
+    (omega arith, sized-next (turn .inv .1) (omega arith) _ first)
+
+same-length : tie.Need-same-length Inv-loop μ-loop
+same-length c = search needs
+
+returns : tie.Need-returns Inv-loop μ-loop
+returns c = sized-all _ (c .before .before .before .before .pre .1) (omega arith) (c .before .loop .inv .1)
+
+pub size-all-spec : {M : Type 1} → statement M
+size-all-spec =
+    tie.close
+    (tie.spec
+    Inv-loop
+    μ-loop
+    loop-holds
+    first-alike-requires
+    mul-sizes
+    slice-write-sizes
+    mul-sizes-2
+    slice-read-sizes
+    add-sizes
+    slice-write-sizes-2
+    add-m
+    loop-less
+    loop-again
+    same-length
+    returns)

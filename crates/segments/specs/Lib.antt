@@ -1,0 +1,3 @@
+-- What the contracts of segments cite.
+pub mod Words
+pub mod Pairs

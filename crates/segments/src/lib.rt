@@ -1,0 +1,237 @@
+// Segments and conflicts by words of 64 bits, one for each request: bit i is element i's.
+use flags::Shape;
+use meaning::Decision;
+use requests::Request;
+ghost use mathlib.Core.Path.{_≡_};
+ghost use mathlib.Core.Bool.{cond, _&&_, _||_};
+ghost use mathlib.Core.List.{_++_, map};
+ghost use Prim.Native.Nat.{ℕ, _+_, _*_, _≤_, _<_};
+ghost use lib.ListN.{length, getD, drop};
+ghost use Rattle.meaning.specs.Text.{counting, firstFrom};
+ghost use Rattle.meaning.specs.Deciding.{bit};
+ghost use Rattle.requests.specs.Values.{valuesOf};
+ghost use Rattle.decisions.specs.Table.{parentOf, placeOr, Room};
+ghost use Rattle.flags.specs.Ready.{countsOf, Ready};
+ghost use Rattle.segments.specs.Words.{wordFrom, appliesAt, givesAt, applyingAt, givingAt, alike, sizeAt, showsAt};
+ghost use Rattle.segments.specs.Pairs.{PairsOf, Pairs, Pairing};
+
+// The elements that permit and those that deny.
+pub struct EffectWords {
+    pub permits: u64,
+    pub denies: u64,
+}
+
+// The word with one bit more, below the others.
+fn marked(word: u64, set: bool) -> u64
+    requires { ⌜ word < 9223372036854775808 ⌝ }
+    ensures { λ r. ⌜ r ≡ cond set 1 0 + 2 * word ⌝ }
+{
+    if set { 1 + 2 * word } else { 2 * word }
+}
+
+// Whether bit i of the word is set.
+pub fn has(word: u64, i: usize) -> bool
+    requires { ⌜ i < 64 ⌝ }
+    ensures { λ r. ⌜ r ≡ bit word i ⌝ }
+{
+    (word >> i) % 2 == 1
+}
+
+// The elements that apply to a request.
+fn applying(table: &[u16], n: usize, q: Request) -> u64
+    requires { ⌜ (8 * n ≤ length (now table)) × (n ≤ 64) × (q .len ≤ 6) ⌝ }
+    ensures { λ r. ⌜ r ≡ wordFrom (appliesAt (now (table .entry)) (valuesOf q)) 0 n ⌝ }
+{
+    let mut word: u64 = 0;
+    let mut i = n;
+    while 0 < i {
+        i -= 1;
+        word = marked(word, decisions::applies(table, n, i, q));
+    }
+    word
+}
+
+// The elements that give permit on a request, and those that give deny: each is decided once.
+fn effects(table: &[u16], struck: &[u8], n: usize, q: Request) -> EffectWords
+    requires { ⌜ Room (now table) (now struck) n n (q .len) × (n ≤ 64) ⌝ }
+    ensures { λ r. ⌜ (r .permits ≡ wordFrom (givesAt Decision.Permit (now (table .entry)) (now (struck .entry)) n (valuesOf q)) 0 n) × (r .denies ≡ wordFrom (givesAt Decision.Deny (now (table .entry)) (now (struck .entry)) n (valuesOf q)) 0 n) ⌝ }
+{
+    let mut permits: u64 = 0;
+    let mut denies: u64 = 0;
+    let mut i = n;
+    while 0 < i {
+        i -= 1;
+        let reply = decisions::decide_at(table, struck, n, i, q);
+        let decision = reply.decision;
+        let number = decisions::number(decision);
+        permits = marked(permits, number == 0);
+        denies = marked(denies, number == 1);
+    }
+    EffectWords { permits, denies }
+}
+
+// Lays down each request's words: the elements that apply, that permit, that deny. What lies behind them stays.
+pub fn mark_all(
+    table: &[u16],
+    struck: &[u8],
+    shape: Shape,
+    words: &mut [u64],
+    permits: &mut [u64],
+    denies: &mut [u64],
+)
+    requires { ⌜ Ready (now table) (now struck) shape × (shape .space ≤ length (now words)) × (shape .space ≤ length (now permits)) × (shape .space ≤ length (now denies)) ⌝ }
+    ensures { λ _. ⌜ (now (words .exit) ≡ map (applyingAt (now (table .entry)) (shape .n) (countsOf shape)) (counting 0 (shape .space)) ++ drop (shape .space) (now (words .entry))) × (now (permits .exit) ≡ map (givingAt Decision.Permit (now (table .entry)) (now (struck .entry)) (shape .n) (countsOf shape)) (counting 0 (shape .space)) ++ drop (shape .space) (now (permits .entry))) × (now (denies .exit) ≡ map (givingAt Decision.Deny (now (table .entry)) (now (struck .entry)) (shape .n) (countsOf shape)) (counting 0 (shape .space)) ++ drop (shape .space) (now (denies .entry))) ⌝ }
+{
+    let n = shape.n;
+    let counts = shape.counts;
+    let len = shape.len;
+    let space = shape.space;
+    let mut q = requests::request_of(0, counts, len);
+    let mut m = 0;
+    while m < space {
+        words[m] = applying(table, n, q);
+        let given = effects(table, struck, n, q);
+        permits[m] = given.permits;
+        denies[m] = given.denies;
+        q = q.next(counts);
+        m += 1;
+    }
+}
+
+// The first request before m that has its word, or m.
+fn first_alike(words: &[u64], m: usize) -> usize
+    requires { ⌜ m < length (now words) ⌝ }
+    ensures { λ r. ⌜ (r ≡ placeOr m (firstFrom (alike (now (words .entry)) m) 0 m)) × (r ≤ m) ⌝ }
+{
+    let word = words[m];
+    let mut k = 0;
+    while k < m {
+        if words[k] == word {
+            return k;
+        }
+        k += 1;
+    }
+    m
+}
+
+// Lays down how many requests have the same word as each request that is the first of its segment, 0 for the others.
+pub fn size_all(words: &[u64], space: usize, sizes: &mut [u16])
+    requires { ⌜ (space ≤ length (now words)) × (space ≤ length (now sizes)) × (space ≤ 4096) ⌝ }
+    ensures { λ _. ⌜ now (sizes .exit) ≡ map (sizeAt (now (words .entry)) space) (counting 0 space) ++ drop space (now (sizes .entry)) ⌝ }
+{
+    let mut m = 0;
+    while m < space {
+        let first = first_alike(words, m);
+        sizes[m] = 0;
+        sizes[first] += 1;
+        m += 1;
+    }
+}
+
+// Lays down the parent of each element, n where there is none. What lies behind them stays.
+pub fn parent_all(table: &[u16], n: usize, parents: &mut [usize])
+    requires { ⌜ (8 * n ≤ length (now table)) × (n ≤ length (now parents)) ⌝ }
+    ensures { λ _. ⌜ now (parents .exit) ≡ map (λ i. placeOr n (parentOf (now (table .entry)) i)) (counting 0 n) ++ drop n (now (parents .entry)) ⌝ }
+{
+    let mut i = 0;
+    while i < n {
+        parents[i] = decisions::parent(table, n, i);
+        i += 1;
+    }
+}
+
+// Whether of j and k one permits and the other denies.
+fn oppose(permits: u64, denies: u64, j: usize, k: usize) -> bool
+    requires { ⌜ (j < 64) × (k < 64) ⌝ }
+    ensures { λ r. ⌜ r ≡ (bit permits j && bit denies k) || (bit denies j && bit permits k) ⌝ }
+{
+    (has(permits, j) & has(denies, k)) | (has(denies, j) & has(permits, k))
+}
+
+// Whether, on request m, element i applies and of j and k one permits and the other denies.
+fn shows(
+    words: &[u64],
+    permits: &[u64],
+    denies: &[u64],
+    i: usize,
+    j: usize,
+    k: usize,
+    m: usize,
+) -> bool
+    requires { ⌜ (m < length (now words)) × (m < length (now permits)) × (m < length (now denies)) × (i < 64) × (j < 64) × (k < 64) ⌝ }
+    ensures { λ r. ⌜ r ≡ showsAt (now (words .entry)) (now (permits .entry)) (now (denies .entry)) i j k m ⌝ }
+{
+    has(words[m], i) & oppose(permits[m], denies[m], j, k)
+}
+
+// The first request that shows a conflict of j and k under i, or the number of requests.
+fn first_shown(
+    words: &[u64],
+    permits: &[u64],
+    denies: &[u64],
+    space: usize,
+    i: usize,
+    j: usize,
+    k: usize,
+) -> usize
+    requires { ⌜ (space ≤ length (now words)) × (space ≤ length (now permits)) × (space ≤ length (now denies)) × (i < 64) × (j < 64) × (k < 64) ⌝ }
+    ensures { λ r. ⌜ (r ≡ placeOr space (firstFrom (showsAt (now (words .entry)) (now (permits .entry)) (now (denies .entry)) i j k) 0 space)) × (r ≤ space) ⌝ }
+{
+    let mut m = 0;
+    while m < space {
+        if shows(words, permits, denies, i, j, k, m) {
+            return m;
+        }
+        m += 1;
+    }
+    space
+}
+
+// Lays down at 64 j + k, for each later child k of j's parent, the first request that shows a conflict of j and k, or the number of requests. The places before 64 j stay.
+fn pair_later(
+    parents: &[usize],
+    words: &[u64],
+    permits: &[u64],
+    denies: &[u64],
+    n: usize,
+    space: usize,
+    j: usize,
+    pairs: &mut [u16],
+)
+    requires { ⌜ Pairing (now parents) (now words) (now permits) (now denies) n space (now pairs) × (j < n) ⌝ }
+    ensures { λ _. ⌜ PairsOf (now (parents .entry)) (now (words .entry)) (now (permits .entry)) (now (denies .entry)) n space (now (pairs .exit)) j × ((i : ℕ) → i < 64 * j → getD (now (pairs .exit)) i 0 ≡ getD (now (pairs .entry)) i 0) ⌝ }
+{
+    let parent = parents[j];
+    if n <= parent {
+        return;
+    }
+    let mut k = j + 1;
+    while k < n {
+        if parents[k] != parent {
+            k += 1;
+            continue;
+        }
+        pairs[64 * j + k] = first_shown(words, permits, denies, space, parent, j, k) as u16;
+        k += 1;
+    }
+}
+
+// The same for each j.
+pub fn pair_all(
+    parents: &[usize],
+    words: &[u64],
+    permits: &[u64],
+    denies: &[u64],
+    n: usize,
+    space: usize,
+    pairs: &mut [u16],
+)
+    requires { ⌜ Pairing (now parents) (now words) (now permits) (now denies) n space (now pairs) ⌝ }
+    ensures { λ _. ⌜ Pairs (now (parents .entry)) (now (words .entry)) (now (permits .entry)) (now (denies .entry)) n space (now (pairs .exit)) ⌝ }
+{
+    let mut j = 0;
+    while j < n {
+        pair_later(parents, words, permits, denies, n, space, j, pairs);
+        j += 1;
+    }
+}
