@@ -28,3 +28,4 @@ pub mod Parents
 pub mod Conflicts
 pub mod Promises
 pub mod ElementKinds
+pub mod Lists

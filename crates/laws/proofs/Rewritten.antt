@@ -160,7 +160,7 @@ whole-again n attrs (l ∷ ls) z h =
     go otherLine e (f2, f) r later = contradiction refl (or-false (not (all isField (cut tab l))) true f2 .1)
 
 -- A text by the fields of its lines
-gathered-append : {A B : Type 0} (f : A → List B) (xs ys : List A) → gathered f (xs ++ ys) ≡ gathered f xs ++ gathered f ys
+pub gathered-append : {A B : Type 0} (f : A → List B) (xs ys : List A) → gathered f (xs ++ ys) ≡ gathered f xs ++ gathered f ys
 gathered-append f [] ys = refl
 gathered-append f (x ∷ xs) ys = ap (λ zs. f x ++ zs) (gathered-append f xs ys) ∙ sym (append-assoc (f x) (gathered f xs) (gathered f ys))
 

@@ -1,0 +1,7 @@
+-- Laws that the proofs of lines cite.
+mod Walks
+mod Names
+mod Words
+mod LineTexts
+mod PairTexts
+mod Fitting

@@ -1,0 +1,4 @@
+-- What the contracts of lines cite.
+pub mod Lines
+pub mod Ready
+pub mod Fitted
