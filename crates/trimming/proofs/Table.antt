@@ -53,11 +53,14 @@ module _ (f : Bytes) (table places : List ℕ) where
           List·getD-append (map F before) (F (elementIn f table places n) ∷ []) d i (omega (arith, size)) ∙ earlier (omega arith)
 
 module _ (f : Bytes) (table places : List ℕ) (n : ℕ) (p : Policy) (is : p .elements ≡ reverse (elementsTo f table places n)) where
+  -- Where nothing is struck, all are left
+  pub whole-left : (struck : List ℕ) → ((k : ℕ) → k < n → getD struck k 0 ≡ 0) → left table struck 0 n ≡ map bare (p .elements)
+  whole-left struck live = all-left table struck n live ∙ ap reverse (sym (elements-bare f table places n)) ∙ sym (map-reverse bare (elementsTo f table places n)) ∙ ap (map bare) (sym is)
+
   -- The decision on what is left of the table is that of the policy left
   pub decided-left : (struck q : List ℕ) → firstDecision (matches q) (left table struck 0 n) ≡ decide (leftPolicy p struck) q
   decided-left struck q =
-      let whole : left table [] 0 n ≡ map bare (p .elements) = all-left table [] n (λ k l. refl) ∙ ap reverse (sym (elements-bare f table places n)) ∙ sym (map-reverse bare (elementsTo f table places n)) ∙ ap (map bare) (sym is) in
-      ap (firstDecision (matches q)) (left-again table struck 0 n ∙ ap (leftFrom struck 0) whole ∙ sym (left-map bare struck 0 (p .elements)))
+      ap (firstDecision (matches q)) (left-again table struck 0 n ∙ ap (leftFrom struck 0) (whole-left [] (λ k l. refl)) ∙ sym (left-map bare struck 0 (p .elements)))
       ∙ decision-bare q (leftFrom struck 0 (p .elements))
 
   -- What an element of the policy has is what stands at its place

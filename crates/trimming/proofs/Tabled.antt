@@ -35,7 +35,7 @@ words-alike [] fit = refl
 words-alike (e ∷ es) fit = ap₂ (λ b bs. b ∷ bs) (fit .0) (words-alike es (fit .1))
 
 -- tests that agree below n have the same last place there
-last-alike : (F G : ℕ → Bool) (n : ℕ) → ((i : ℕ) → i < n → F i ≡ G i) → lastBelow F n ≡ lastBelow G n
+pub last-alike : (F G : ℕ → Bool) (n : ℕ) → ((i : ℕ) → i < n → F i ≡ G i) → lastBelow F n ≡ lastBelow G n
 last-alike F G zero alike = refl
 last-alike F G (suc n) alike = ap₂ (λ b o. cond b (some n) o) (alike n (omega arith)) (last-alike F G n (λ i l. alike i (omega arith)))
 
@@ -62,7 +62,7 @@ module _ (f : Bytes) (p : Policy) (h : read f ≡ given p) (table places : List 
   pub root-word : 0 < n → 2 ≤ getD table 0 0
   root-word l = ltb-false (getD table 0 0) 2 (effect-is 0 l ∙ kinds f p h .root)
 
-  rule-is : (struck : List ℕ) (i : ℕ) → i < n → table-level.ruleLeft table struck i ≡ keptAt p struck i
+  pub rule-is : (struck : List ℕ) (i : ℕ) → i < n → table-level.ruleLeft table struck i ≡ keptAt p struck i
   rule-is struck i l = ap (λ b. isLeft struck i && b) (effect-is i l)
 
   needless-is : (struck : List ℕ) (i : ℕ) → i < n → table-level.needlessAt table n counts struck i ≡ needlessAt p struck i

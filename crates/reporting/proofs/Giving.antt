@@ -1,0 +1,65 @@
+-- Where nothing is struck, the words of the elements that give a decision have the bits of the policy's decisions.
+use mathlib.Core.Path.{_≡_, refl, sym, ap, _∙_}
+use Prim.Native.Nat.{ℕ, zero, suc, _+_, _-_, _<_}
+use native.Mathlib.Omega.{arith}
+use mathlib.Core.List.{List, [], _∷_, map, reverse}
+use lib.ListN.{drop, getD}
+use lib.Seq.{drop-nil}
+use borrow.Author.Tests.{eq-eqb}
+use Rattle.meaning.specs.declared.Decision.{Decision}
+use Rattle.meaning.specs.Text.{Bytes}
+use Rattle.meaning.specs.Model.{Policy, sizes}
+use Rattle.meaning.specs.Deciding.{requestOf, bit, matches, is as isOf, firstDecision}
+use Rattle.meaning.specs.Segments.{decisionAt}
+use Rattle.decisions.specs.Table.{left}
+use Rattle.decisions.proofs.Children.{first-left}
+use Rattle.layout.specs.Places.{elementsTo}
+use Rattle.layout.proofs.Laws.{bare, decision-bare}
+use Rattle.segments.specs.Words.{givesAt, givingAt}
+use Rattle.segments.proofs.Marks.{bit-word}
+use Rattle.trimming.proofs.Table.{whole-left}
+
+-- what is behind so many of a mapped list
+drop-map : {A B : Type 0} (F : A → B) (j : ℕ) (xs : List A) → drop j (map F xs) ≡ map F (drop j xs)
+drop-map F zero xs = refl
+drop-map F (suc j) [] = refl
+drop-map F (suc j) (x ∷ xs) = drop-map F j xs
+
+module _ (table struck : List ℕ) (clear : (k : ℕ) → getD struck k 0 ≡ 0) where
+  -- what is left from a place on is what is left behind so many
+  left-behind : (i c j : ℕ) → drop j (left table struck i c) ≡ left table struck (i + j) (c - j)
+  unfolding left
+  left-behind i zero j = let no-more : 0 - j ≡ 0 = omega arith in rw (drop-nil j, no-more)
+  left-behind i (suc c) zero =
+      let here : i + 0 ≡ i = omega arith in
+      let all : suc c - 0 ≡ suc c = omega arith in
+      rw (here, all)
+  left-behind i (suc c) (suc j) =
+      let next : i + suc j ≡ (i + 1) + j = omega arith in
+      let fewer : suc c - suc j ≡ c - j = omega arith in
+      rw (eq-eqb (getD struck i 0) 0 (clear i), next, fewer) (left-behind (i + 1) c j)
+
+module _ (f : Bytes) (table places : List ℕ) (n : ℕ) (p : Policy) (is : p .elements ≡ reverse (elementsTo f table places n)) (counts : List ℕ) (sized : counts ≡ sizes (p .attributes))
+    (struck : List ℕ) (clear : (k : ℕ) → getD struck k 0 ≡ 0) where
+  -- the elements from a place on
+  left-from : (j : ℕ) → left table struck j (n - j) ≡ map bare (drop j (p .elements))
+  left-from j =
+      let here : 0 + j ≡ j = omega arith in
+      ap (λ i. left table struck i (n - j)) (sym here)
+      ∙ sym (left-behind table struck clear 0 n j)
+      ∙ ap (drop j) (whole-left f table places n p is struck (λ k l. clear k))
+      ∙ drop-map bare j (p .elements)
+
+  -- what one of them gives
+  gives-is : (d : Decision) (m j : ℕ) → j < n → givesAt d table struck n (requestOf counts m) j ≡ isOf d (decisionAt p m j)
+  unfolding givesAt
+  gives-is d m j l =
+      let q = requestOf counts m in
+      ap (isOf d) (sym (first-left (matches q) table struck n j l (clear j))
+      ∙ ap (firstDecision (matches q)) (left-from j)
+      ∙ decision-bare q (drop j (p .elements))
+      ∙ ap (λ c. firstDecision (matches (requestOf c m)) (drop j (p .elements))) sized)
+
+  -- its bit, in a word of those that give a decision
+  pub bit-gives : (d : Decision) (m j w : ℕ) → j < n → w ≡ givingAt d table struck n counts m → bit w j ≡ isOf d (decisionAt p m j)
+  bit-gives d m j w l e = ap (λ v. bit v j) e ∙ bit-word (givesAt d table struck n (requestOf counts m)) n j l ∙ gives-is d m j l

@@ -1,0 +1,107 @@
+use native.Mathlib.Omega.{arith}
+use Rattle.reporting.proofs.Finding.{struck-named}
+use Rattle.reporting.proofs.ReportText.{reported}
+use borrow.Author.Needs.{needs}
+use Rattle.reporting.proofs.report.Statement.{statement}
+use Rattle.reporting.proofs.report.Tie as tie
+use Rattle.reporting.proofs.report.Reads as reads
+use Rattle.reporting.proofs.report.Lts as lts
+use Rattle.lines.proofs.write_report.Reads as write-report-reads
+use Rattle.reporting.proofs.find_rules.Reads as find-rules-reads
+use Rattle.reporting.proofs.find_segments.Reads as find-segments-reads
+
+slice-aggregate-find-segments : tie.Need-slice-aggregate-find-segments
+slice-aggregate-find-segments c = search needs
+
+slice-aggregate-find-segments-2 : tie.Need-slice-aggregate-find-segments-2
+slice-aggregate-find-segments-2 c = search needs
+
+slice-aggregate-find-segments-3 : tie.Need-slice-aggregate-find-segments-3
+slice-aggregate-find-segments-3 c = search needs
+
+slice-aggregate-find-segments-4 : tie.Need-slice-aggregate-find-segments-4
+slice-aggregate-find-segments-4 c = search needs
+
+slice-aggregate-find-segments-5 : tie.Need-slice-aggregate-find-segments-5
+slice-aggregate-find-segments-5 c = search needs
+
+find-segments-requires : tie.Need-find-segments-requires
+find-segments-requires c κs = search needs
+
+slice-aggregate-find-rules : tie.Need-slice-aggregate-find-rules
+slice-aggregate-find-rules c = search needs
+
+slice-aggregate-find-rules-2 : tie.Need-slice-aggregate-find-rules-2
+slice-aggregate-find-rules-2 c = search needs
+
+slice-aggregate-find-rules-3 : tie.Need-slice-aggregate-find-rules-3
+slice-aggregate-find-rules-3 c = search needs
+
+find-rules-requires : tie.Need-find-rules-requires
+find-rules-requires c κs = search needs
+
+slice-aggregate-write-report : tie.Need-slice-aggregate-write-report
+slice-aggregate-write-report c = search needs
+
+slice-aggregate-write-report-2 : tie.Need-slice-aggregate-write-report-2
+slice-aggregate-write-report-2 c = search needs
+
+slice-aggregate-write-report-3 : tie.Need-slice-aggregate-write-report-3
+slice-aggregate-write-report-3 c = search needs
+
+slice-aggregate-write-report-4 : tie.Need-slice-aggregate-write-report-4
+slice-aggregate-write-report-4 c = search needs
+
+slice-aggregate-write-report-5 : tie.Need-slice-aggregate-write-report-5
+slice-aggregate-write-report-5 c = search needs
+
+slice-aggregate-write-report-6 : tie.Need-slice-aggregate-write-report-6
+slice-aggregate-write-report-6 c = search needs
+
+slice-aggregate-write-report-7 : tie.Need-slice-aggregate-write-report-7
+slice-aggregate-write-report-7 c = search needs
+
+write-report-requires : tie.Need-write-report-requires
+write-report-requires c κs =
+    let pre = c .before .before .before .before .before .before .before .before .before .before .before .before .before .before .before .before .before .before .before .before .before .before .before .before .before .before .before .before .before .pre in
+    let rules = c .before .before .before .before .before .before .before .before .before .before .find-rules .ensures in (
+      pre .1,
+      record { words-room = omega (arith, pre .0 .small); sizes-room = omega (arith, pre .0 .small); decided-room = omega (arith, pre .0 .small); shown-room = omega (arith, pre .0 .few) },
+      record { parents-room = omega (arith, pre .0 .few); pairs-room = omega arith; small = pre .0 .small },
+      struck-named _ _ _ _ _ _ _ _ (pre .1) rules (omega arith),
+    )
+
+same-length : tie.Need-same-length
+same-length c = search needs
+
+returns : tie.Need-returns
+returns c =
+    reported _ _ _ _ _ _ _ _ _ _ _ _ _ _ _ (c .before .before .before .before .before .before .before .before .before .before .before .before .before .before .before .before .before .before .before .before .before .before .before .before .before .before .before .before .before .before .before .before .pre .0)
+    (c .before .before .before .before .before .before .before .before .before .before .before .before .before .before .before .before .before .before .before .before .before .before .find-segments .ensures .0)
+    (c .before .before .before .before .before .before .before .before .before .before .before .before .before .find-rules .ensures)
+    (c .before .before .write-report .ensures)
+
+pub report-spec : {M : Type 1} → statement M
+report-spec =
+    tie.close
+    (tie.spec
+    slice-aggregate-find-segments
+    slice-aggregate-find-segments-2
+    slice-aggregate-find-segments-3
+    slice-aggregate-find-segments-4
+    slice-aggregate-find-segments-5
+    find-segments-requires
+    slice-aggregate-find-rules
+    slice-aggregate-find-rules-2
+    slice-aggregate-find-rules-3
+    find-rules-requires
+    slice-aggregate-write-report
+    slice-aggregate-write-report-2
+    slice-aggregate-write-report-3
+    slice-aggregate-write-report-4
+    slice-aggregate-write-report-5
+    slice-aggregate-write-report-6
+    slice-aggregate-write-report-7
+    write-report-requires
+    same-length
+    returns)

@@ -1,0 +1,94 @@
+// The report of a policy that was read: everything is found once, then the same code counts the text and writes it.
+use flags::Shape;
+ghost use mathlib.Core.Path.{_≡_};
+ghost use mathlib.Core.List.{_++_};
+ghost use Prim.Native.Nat.{_≤_};
+ghost use lib.ListN.{length, drop};
+ghost use Rattle.flags.specs.Ready.{countsOf, Ready, Holds};
+ghost use Rattle.lines.specs.Ready.{Naming};
+ghost use Rattle.reporting.specs.Found.{none-struck, SegmentsFound, RulesFound};
+ghost use Rattle.reporting.specs.Reported.{Reported};
+
+// Lays down the decision and the segment of each request, and the conflicts of siblings.
+fn find_segments(
+    table: &[u16],
+    shape: Shape,
+    words: &mut [u64],
+    sizes: &mut [u16],
+    decided: &mut [u8],
+    parents: &mut [usize],
+    pairs: &mut [u16],
+)
+    requires { ⌜ Ready (now table) none-struck shape × (4096 ≤ length (now words)) × (4096 ≤ length (now sizes)) × (4096 ≤ length (now decided)) × (64 ≤ length (now parents)) × (4096 ≤ length (now pairs)) ⌝ }
+    ensures { λ _. ⌜ SegmentsFound (now (table .entry)) (shape .n) (countsOf shape) (now (words .exit)) (now (sizes .exit)) (now (decided .exit)) (now (parents .exit)) (now (pairs .exit)) × Holds (now (table .entry)) none-struck (now (decided .exit)) shape ⌝ }
+{
+    let n = shape.n;
+    let space = shape.space;
+    let struck = [0u8; 64];
+    flags::decide_all(table, &struck, shape, decided);
+    let mut permits = [0u64; 4096];
+    let mut denies = [0u64; 4096];
+    segments::mark_all(table, &struck, shape, words, &mut permits, &mut denies);
+    segments::size_all(words, space, sizes);
+    segments::parent_all(table, n, parents);
+    segments::pair_all(parents, words, &permits, &denies, n, space, pairs);
+}
+
+// Lays down the rules struck, in order, and for each rule kept the request that needs it. How many are struck, is the result.
+fn find_rules(
+    table: &[u16],
+    shape: Shape,
+    decided: &[u8],
+    order: &mut [u8],
+    shown: &mut [usize],
+) -> usize
+    requires { ⌜ Ready (now table) none-struck shape × Holds (now table) none-struck (now decided) shape × (64 ≤ length (now order)) × (64 ≤ length (now shown)) ⌝ }
+    ensures { λ r. ⌜ RulesFound (now (table .entry)) (shape .n) (countsOf shape) (now (order .exit)) (now (shown .exit)) r ⌝ }
+{
+    let mut struck = [0u8; 64];
+    let mut hints = [0u16; 64];
+    let count = flags::trim_flags(table, &mut struck, shape, decided, &mut hints, order);
+    flags::needed_all(table, &mut struck, shape, decided, shown);
+    count
+}
+
+// Writes the report if the buffer has room for it. How long it is, is the result.
+pub fn report(file: &[u8], table: &[u16], places: &[usize], shape: Shape, out: &mut [u8]) -> usize
+    requires { ⌜ Ready (now table) none-struck shape × Naming (now file) (now places) (shape .n) ⌝ }
+    ensures { λ r. ⌜ Reported (now (file .entry)) (now (table .entry)) (now (places .entry)) shape (now (out .entry)) (now (out .exit)) r ⌝ }
+{
+    let n = shape.n;
+    let space = shape.space;
+    let mut words = [0u64; 4096];
+    let mut sizes = [0u16; 4096];
+    let mut decided = [0u8; 4096];
+    let mut parents = [0usize; 64];
+    let mut pairs = [0u16; 4096];
+    find_segments(
+        table,
+        shape,
+        &mut words,
+        &mut sizes,
+        &mut decided,
+        &mut parents,
+        &mut pairs,
+    );
+    let mut order = [0u8; 64];
+    let mut shown = [0usize; 64];
+    let count = find_rules(table, shape, &decided, &mut order, &mut shown);
+    lines::write_report(
+        file,
+        places,
+        n,
+        space,
+        &words,
+        &sizes,
+        &decided,
+        &parents,
+        &pairs,
+        &order,
+        count,
+        &shown,
+        out,
+    )
+}
