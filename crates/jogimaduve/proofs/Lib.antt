@@ -4,3 +4,4 @@ mod Deciding
 mod Shaping
 mod Trimming
 mod Demand3
+mod Reporting

@@ -2,7 +2,7 @@
 use flags::Shape;
 use meaning::Answer;
 ghost use mathlib.Core.Path.{_≡_};
-ghost use Rattle.meaning.specs.Operations.{decideAnswer, trimAnswer, trimLent};
+ghost use Rattle.meaning.specs.Operations.{decideAnswer, trimAnswer, trimLent, reportAnswer, reportLent};
 ghost use Rattle.flags.specs.Decided.{trimmingAt};
 ghost use Rattle.flags.specs.Ready.{countsOf, Ready};
 
@@ -85,6 +85,44 @@ pub extern "C" fn jogimaduve_trim(file: &[u8], out: &mut [u8]) -> Answer
         };
     }
     trimming::copy_text(file, &places, &struck, n, out);
+    Answer {
+        number: 0,
+        second: needed as u32,
+    }
+}
+
+// The report of a policy file, in a lent buffer.
+#[no_mangle]
+pub extern "C" fn jogimaduve_report(file: &[u8], out: &mut [u8]) -> Answer
+    ensures { λ r. ⌜ r ≡ reportAnswer (now (file .entry)) (now (out .entry)) ⌝ }
+    ensures { λ r. ⌜ now (out .exit) ≡ reportLent (now (file .entry)) (now (out .entry)) ⌝ }
+{
+    let mut table = [0u16; 512];
+    let mut places = [0usize; 128];
+    let reading = reader::read(file, &mut table, &mut places);
+    let number = reading.number;
+    if number != 0 {
+        return Answer {
+            number: number as u32,
+            second: reading.second as u32,
+        };
+    }
+    let attributes = reading.attributes;
+    let counts = attributes.counts;
+    let shape = Shape {
+        n: reading.elements,
+        counts,
+        len: attributes.len,
+        space: reading.space,
+    };
+    let room = out.len();
+    let needed = reporting::report(file, &table, &places, shape, out);
+    if room < needed {
+        return Answer {
+            number: 11,
+            second: needed as u32,
+        };
+    }
     Answer {
         number: 0,
         second: needed as u32,
