@@ -29,3 +29,4 @@ pub mod Conflicts
 pub mod Promises
 pub mod ElementKinds
 pub mod Lists
+pub mod Refusals

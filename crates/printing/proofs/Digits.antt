@@ -2,10 +2,12 @@
 use mathlib.Core.Path.{_≡_, refl, sym, ap, _∙_}
 use mathlib.Core.Bool.{Bool, true, false}
 use mathlib.Core.List.{List, [], _∷_, _++_}
-use Prim.Native.Nat.{ℕ, zero, suc, _+_, _/_, _%_, _≤_, _<_}
+use Prim.Native.Nat.{ℕ, zero, suc, _+_, _/_, _%_, _^_, _≤_, _<_}
+use native.Mathlib.Nat.{pow-suc}
 use native.Mathlib.Omega.{arith}
 use lib.Dec.{ltb}
-use borrow.Author.Tests.{ltb-false, le-ltb}
+use lib.ListN.{length, length-append}
+use borrow.Author.Tests.{ltb-true, ltb-false, le-ltb}
 use Rattle.meaning.specs.Text.{Bytes, digits, decimal}
 use Rattle.laws.proofs.Bools.{Test, passed, failed, test}
 use Rattle.laws.proofs.Fields.{digit}
@@ -31,3 +33,14 @@ one-digit n few w = (rw (digit n few) w, omega (arith, w .moved))
 
 pub digit-more : {x y z : List ℕ} {at m r : ℕ} (n : ℕ) → 10 ≤ n → Wrote x at (decimal (n / 10)) y m × (m ≤ at + n / 10 / 10 + 1) → Wrote y m ((48 + (n % 10)) ∷ []) z r → Wrote x at (decimal n) z r × (r ≤ at + n / 10 + 1)
 digit-more n many (w, l) v = (rw (last-digit n many) (then w v), omega (arith, l, v .moved))
+
+-- a number below a power of ten has no more digits than its exponent
+pub decimal-short : (k n : ℕ) → n < 10 ^ suc k → length (decimal n) ≤ suc k
+decimal-short zero n h = rw (digit n (omega arith)) (omega arith)
+decimal-short (suc k) n h = go (test (ltb n 10)) (decimal-short k (n / 10))
+  where
+    go : Test (ltb n 10) → (n / 10 < 10 ^ suc k → length (decimal (n / 10)) ≤ suc k) → length (decimal n) ≤ suc (suc k)
+    go (passed e) fewer = rw (digit n (ltb-true n 10 e)) (omega arith)
+    go (failed e) fewer =
+        let less : n / 10 < 10 ^ suc k = omega (arith, pow-suc 10 (suc k)) in
+        rw (last-digit n (ltb-false n 10 e)) (omega (arith, length-append (decimal (n / 10)) ((48 + (n % 10)) ∷ []), fewer less))

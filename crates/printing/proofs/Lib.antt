@@ -1,3 +1,3 @@
 -- Laws of text laid into a buffer.
 pub mod Laws
-mod Digits
+pub mod Digits

@@ -1,0 +1,45 @@
+-- A refusal's number is not 0: a C caller can tell it from a result.
+use Prim.Native.Nat.{ℕ, zero, suc, _≤_}
+use native.Mathlib.Omega.{arith}
+use mathlib.Core.Bool.{Bool, true, false, cond}
+use mathlib.Core.List.{List, [], _∷_}
+use lib.Dec.{ltb}
+use lib.ListN.{length}
+use Rattle.meaning.specs.Text.{Bytes, empty, cut, tab, front, last, newline}
+use Rattle.meaning.specs.Model.{Policy, Result, refused, given, _then_, unless}
+use Rattle.meaning.specs.Reading.{Sofar, Line, Tests, lineOf, lowest, wrongFields, lineTests, extended, readLines, nothing, short, finished, readText, read}
+use Rattle.meaning.specs.Report.{report, fitted, reportFile}
+
+abbrev pub Numbered : {A : Type 0} → Result A → Type 0
+Numbered (refused n m) = 1 ≤ n
+Numbered (given a) = Unit {0}
+
+module _ {A : Type 0} where
+  then-numbered : {B : Type 0} (r : Result B) (f : B → Result A) → Numbered r → ((b : B) → Numbered (f b)) → Numbered (r then f)
+  then-numbered (refused n m) f h g = h
+  then-numbered (given b) f h g = g b
+
+  unless-numbered : (k n : ℕ) (r : Result A) → Numbered r → Numbered (unless k n r)
+  unless-numbered zero n r h = h
+  unless-numbered (suc k) n r h = omega arith
+
+  either-numbered : (b : Bool) (r s : Result A) → Numbered r → Numbered s → Numbered (cond b r s)
+  either-numbered true r s h g = h
+  either-numbered false r s h g = g
+
+lines-numbered : (tests : Sofar → Line → Tests) (rest : Bytes) (n : ℕ) (s : Sofar) (ls : List Bytes) → Numbered (readLines tests rest n s ls)
+lines-numbered tests rest n s [] = either-numbered (empty rest) (given s) (refused 2 n) tt (omega arith)
+lines-numbered tests rest n s (l ∷ ls) =
+    unless-numbered (lowest ((2, wrongFields s (cut tab l) (lineOf (cut tab l))) ∷ tests s (lineOf (cut tab l)))) n (readLines tests rest (suc n) (extended s (lineOf (cut tab l))) ls)
+    (lines-numbered tests rest (suc n) (extended s (lineOf (cut tab l))) ls)
+
+pub read-numbered : (f : Bytes) → Numbered (read f)
+unfolding read
+read-numbered f =
+    then-numbered (short f then (readText lineTests)) finished
+    (then-numbered (short f) (readText lineTests) (either-numbered (ltb 16384 (length f)) (refused 1 0) (given f) (omega arith) tt) (λ t. lines-numbered lineTests (last [] (cut newline t)) 1 nothing (front (cut newline t))))
+    (λ s. either-numbered (empty (s .before)) (refused 9 0) (given _) (omega arith) tt)
+
+pub report-numbered : (room : ℕ) (f : Bytes) → Numbered (reportFile room f)
+unfolding reportFile
+report-numbered room f = then-numbered (read f) (λ p. fitted room (report f p)) (read-numbered f) (λ p. either-numbered (ltb room (length (report f p))) (refused 11 (length (report f p))) (given (report f p)) (omega arith) tt)

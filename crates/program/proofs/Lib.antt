@@ -1,0 +1,2 @@
+-- Laws that the proof of `print` cites.
+mod Printed
