@@ -1,5 +1,5 @@
 /* jogimaduve_trim: the text, the bytes behind it, short buffers, refusals. */
-#include "check.h"
+#include "text.h"
 
 #define ONE "A\tx\ta\n"
 #define BARE ONE "P\t0\ttop\tdeny-overrides\t*\n"
@@ -13,45 +13,13 @@
 #define AGAIN_TOP "A\tx\ta\tb\nS\t0\ttop\tfirst-applicable\t*\nP\t1\tp0\tdeny-overrides\tb\n"
 #define AGAIN_REST "P\t1\tp1\tfirst-applicable\t*\nR\t2\tr3\tdeny\t*\n"
 
-#define ROOM 20000
-#define FILLED 0xa5
-
-static uint8_t buffer[ROOM];
-
-/* Every byte of the buffer from a place on is as it was. */
-static int untouched(size_t from) {
-    for (size_t i = from; i < ROOM; i++) {
-        if (buffer[i] != FILLED) return 0;
-    }
-    return 1;
-}
-
 static void trims(const uint8_t *file, size_t size, const uint8_t *text, size_t length, const char *what, int line) {
-    /* room to spare, exactly enough, one byte less, none */
-    memset(buffer, FILLED, ROOM);
-    answers(jogimaduve_trim(file, size, buffer, ROOM), 0, (uint32_t)length, what, line);
-    check(memcmp(buffer, text, length) == 0 && untouched(length), what, line);
-    memset(buffer, FILLED, ROOM);
-    answers(jogimaduve_trim(file, size, buffer, length), 0, (uint32_t)length, what, line);
-    check(memcmp(buffer, text, length) == 0 && untouched(length), what, line);
-    memset(buffer, FILLED, ROOM);
-    answers(jogimaduve_trim(file, size, buffer, length - 1), 11, (uint32_t)length, what, line);
-    answers(jogimaduve_trim(file, size, buffer, 0), 11, (uint32_t)length, what, line);
-    check(untouched(0), what, line);
+    gives(jogimaduve_trim, file, size, text, length, what, line);
     /* trimmed again, the same */
-    answers(jogimaduve_trim(text, length, buffer, ROOM), 0, (uint32_t)length, what, line);
-    check(memcmp(buffer, text, length) == 0 && untouched(length), what, line);
+    gives(jogimaduve_trim, text, length, text, length, what, line);
 }
 
 #define TRIMS(file, text) trims(TEXT(file), TEXT(text), #file, __LINE__)
-
-static void refuses(const uint8_t *file, size_t size, uint32_t number, uint32_t second, const char *what, int line) {
-    memset(buffer, FILLED, ROOM);
-    answers(jogimaduve_trim(file, size, buffer, ROOM), number, second, what, line);
-    check(untouched(0), what, line);
-}
-
-#define REFUSES(file, number, second) refuses(TEXT(file), number, second, #file, __LINE__)
 
 /* The most that a file can ask: 64 elements, 62 of them rules that each do work, and 4,096 requests. */
 static void largest(void) {
@@ -78,13 +46,6 @@ int main(void) {
     TRIMS(BARE "R\t1\tr1\tdeny\t*\nR\t1\tr2\tpermit\t*\nR\t1\tr3\tpermit\t*\nR\t1\tr4\tdeny\t*\n", BARE "R\t1\tr1\tdeny\t*\n");
     TRIMS(AGAIN_TOP "R\t2\tr1\tpermit\t*\nR\t2\tr2\tdeny\tb\n" AGAIN_REST, AGAIN_TOP AGAIN_REST);
     largest();
-    REFUSES("", 9, 0);
-    REFUSES("\n", 2, 1);
-    REFUSES(BARE "R\t1\tr1\tpermit\t*", 2, 3);
-    REFUSES(BARE "R\t1\tr1\tpermit\ta\n", 8, 3);
-    static uint8_t long_file[16385];
-    memset(long_file, 'A', sizeof long_file);
-    refuses(long_file, sizeof long_file, 1, 0, "16,385 bytes", __LINE__);
-    refuses(long_file, sizeof long_file - 1, 2, 1, "16,384 bytes", __LINE__);
+    refuses_bad_files(jogimaduve_trim);
     return checks_done();
 }
