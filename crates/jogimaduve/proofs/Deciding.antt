@@ -10,7 +10,6 @@ use Rattle.meaning.specs.Text.{Bytes}
 use Rattle.meaning.specs.Model.{Result, refused, given, _then_}
 use Rattle.meaning.specs.Reading.{read}
 use Rattle.meaning.specs.Deciding.{Request, requestLine, decisionNumber, matches, firstDecision, decide, decideFile}
-use Rattle.meaning.specs.declared.Answer.{Answer}
 use Rattle.meaning.specs.Operations.{answered, decideAnswer}
 use Rattle.laws.proofs.Bools.{contradiction}
 use Rattle.requests.specs.Values.{valuesOf}
@@ -21,10 +20,8 @@ use Rattle.asking.specs.declared.Asked.{Asked}
 use Rattle.asking.specs.Asked.{AskedAs}
 use Rattle.reader.specs.declared.Reading.{Reading}
 use Rattle.reader.specs.Steps.{ReadAs}
+use Rattle.jogimaduve.specs.Told.{told}
 use Rattle.jogimaduve.proofs.FileRead.{file-refused, file-read}
-
-abbrev told : ℕ → ℕ → Answer
-told n m = record { number = n; second = m }
 
 module _ (f table places : List ℕ) (r : Reading) (is-read : ReadAs f table places r (read f)) where
   -- a file that is refused

@@ -1,36 +1,35 @@
 -- The answer and the buffer after a report, from what was read of the file.
-use mathlib.Core.Path.{_≡_, refl, sym, ap, _∙_, subst}
+use mathlib.Core.Path.{_≡_, sym, ap, _∙_, subst}
 use Prim.Native.Nat.{ℕ, zero, suc, _+_, _-_, _*_, _≤_, _<_}
 use native.Mathlib.Omega.{arith}
-use mathlib.Core.Bool.{true, _&&_}
+use mathlib.Core.Bool.{true, cond}
 use mathlib.Core.List.{List, [], _∷_, _++_}
-use lib.Dec.{leb}
+use lib.Dec.{leb, ltb}
 use lib.ListN.{length, take, drop, getD, length-drop}
 use lib.Seq.{length-take-le}
-use borrow.Author.Tests.{leb-true, lt-ltb, le-ltb}
-use Rattle.meaning.specs.declared.Answer.{Answer}
+use borrow.Author.Tests.{leb-true}
 use Rattle.meaning.specs.declared.Element.{Element}
-use Rattle.meaning.specs.Text.{Bytes, all, between, nameByte, isName}
+use Rattle.meaning.specs.Text.{Bytes, between, isName}
 use Rattle.meaning.specs.Model.{Policy, given}
 use Rattle.meaning.specs.Reading.{read}
 use Rattle.meaning.specs.Report.{nameIn, report, fitted, reportFile}
-use Rattle.meaning.specs.Operations.{reportAnswer, reportLent}
+use Rattle.meaning.specs.Operations.{answered, lent, reportAnswer, reportLent}
 use Rattle.meaning.specs.Claims.{All}
-use Rattle.laws.proofs.Bools.{and-true}
+use Rattle.laws.proofs.Bools.{Test, passed, failed, test, and-true}
 use Rattle.laws.proofs.Bounds.{bounded}
 use Rattle.laws.proofs.Clean.{WithName, with-names}
+use Rattle.flags.specs.declared.Shape.{Shape}
 use Rattle.layout.specs.Places.{nameIn as nameInFile, startOf}
 use Rattle.trimming.proofs.Table.{name-at}
-use Rattle.lines.specs.Ready.{NameAt, Naming}
+use Rattle.lines.specs.Ready.{Naming}
 use Rattle.lines.specs.Fitted.{Fitted}
 use Rattle.reporting.specs.Reported.{Reported}
 use Rattle.reader.specs.declared.Reading.{Reading}
 use Rattle.reader.specs.Steps.{Holds, ReadAs}
 use Rattle.jogimaduve.proofs.FileRead.{file-refused}
-use Rattle.jogimaduve.proofs.Shaping.{elements-are, shapeOf, sizes-are, few}
-
-abbrev told : ℕ → ℕ → Answer
-told n m = record { number = n; second = m }
+use Rattle.jogimaduve.specs.Told.{told, textTold, shapeOf}
+use Rattle.jogimaduve.proofs.Answering.{text-told}
+use Rattle.jogimaduve.proofs.Shaping.{elements-are, sizes-are, few}
 
 -- A file that is refused
 module _ (f table places : List ℕ) (r : Reading) (is-read : ReadAs f table places r (read f)) (out : Bytes) (h : r .number ≡ 0 → ⊥) where
@@ -72,22 +71,22 @@ module _ (f table places : List ℕ) (r : Reading) (p : Policy) (h : read f ≡ 
       }
 
   -- the report, fitted to the buffer
-  module _ (old new : Bytes) (needed : ℕ) (reported : Reported f table places (shapeOf f table places r p h holds) old new needed) where
+  module _ (s : Shape) (shaped : s ≡ shapeOf r) (old new : Bytes) (needed : ℕ) (reported : Reported f table places s old new needed) where
     fits : Fitted old (report f p) new needed
-    fits = reported .written p h (holds .elements) (sizes-are f table places r p h holds)
+    fits = subst (λ s. Reported f table places s old new needed) shaped reported .written p h (holds .elements) (sizes-are f table places r p h holds)
 
     report-is : reportFile (length old) f ≡ fitted (length old) (report f p)
     unfolding reportFile
     report-is = rw h
 
-    pub short-answered : length old < needed → told 11 needed ≡ reportAnswer f old
-    short-answered short = rw (report-is, ← fits .counted, lt-ltb (length old) needed short)
+    pub report-answered : textTold needed (length old) ≡ reportAnswer f old
+    report-answered = text-told (report f p) needed (length old) (fits .counted) ∙ ap (answered length) (sym report-is)
 
-    pub short-lent : length old < needed → new ≡ reportLent f old
-    short-lent short = fits .laid ∙ rw (report-is, ← fits .counted, lt-ltb (length old) needed short)
-
-    pub text-answered : needed ≤ length old → told 0 needed ≡ reportAnswer f old
-    text-answered enough = rw (report-is, ← fits .counted, le-ltb (length old) needed enough) (ap (told 0) (fits .counted))
-
-    pub text-lent : needed ≤ length old → new ≡ reportLent f old
-    text-lent enough = fits .laid ∙ rw (report-is, ← fits .counted, le-ltb (length old) needed enough) (ap (λ k. report f p ++ drop k old) (fits .counted))
+    pub report-lent : new ≡ reportLent f old
+    report-lent =
+        fits .laid ∙ ap (λ n. cond (ltb (length old) n) old (report f p ++ drop n old)) (fits .counted)
+        ∙ go (test (ltb (length old) (length (report f p)))) ∙ ap (lent old) (sym report-is)
+      where
+        go : Test (ltb (length old) (length (report f p))) → cond (ltb (length old) (length (report f p))) old (report f p ++ drop (length (report f p)) old) ≡ lent old (fitted (length old) (report f p))
+        go (passed e) = rw e
+        go (failed e) = rw e

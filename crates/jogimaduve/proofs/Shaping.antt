@@ -23,6 +23,7 @@ use Rattle.trimming.proofs.Table.{elements-length}
 use Rattle.trimming.proofs.Tabled.{root-word}
 use Rattle.reader.specs.declared.Reading.{Reading}
 use Rattle.reader.specs.Steps.{Holds}
+use Rattle.jogimaduve.specs.Told.{shapeOf}
 
 -- The counts of the attributes are those of their values
 some-piece : {ps : List Bytes} → Some ps → 1 ≤ length ps
@@ -67,32 +68,29 @@ module _ (f table places : List ℕ) (r : Reading) (p : Policy) (h : read f ≡ 
   pub attributes-are : length (p .attributes) ≡ r .attributes .len
   attributes-are = ap length (holds .attributes) ∙ attributes-length f (r .attributes)
 
-  abbrev pub shapeOf : Shape
-  shapeOf = record { n = r .elements; counts = r .attributes .counts; len = r .attributes .len; space = r .space }
-
-  pub sizes-are : countsOf shapeOf ≡ sizes (p .attributes)
+  pub sizes-are : countsOf (shapeOf r) ≡ sizes (p .attributes)
   sizes-are = counts-are f (r .attributes) (holds .spaced .standing) ∙ ap sizes (sym (holds .attributes))
 
   pub few : r .elements ≤ 64
   few = omega (arith, bounded f p h .few-elements, elements-are)
 
-  space-is : product (countsOf shapeOf) ≡ r .space
+  space-is : product (countsOf (shapeOf r)) ≡ r .space
   space-is = ap product sizes-are ∙ ap (λ attrs. product (sizes attrs)) (holds .attributes) ∙ sym (holds .space-is)
 
-  pub ready : (struck : List ℕ) → 64 ≤ length struck → getD struck 0 0 ≡ 0 → Ready table struck shapeOf
-  ready struck room first =
-      record {
+  pub ready : (s : Shape) → s ≡ shapeOf r → (struck : List ℕ) → 64 ≤ length struck → getD struck 0 0 ≡ 0 → Ready table struck s
+  ready s shaped struck room first = subst (Ready table struck) (sym shaped)
+      (record {
         rows = omega (arith, holds .rooms .rows, few);
         flags = omega (arith, few);
         some = holds .some;
         few = few;
-        root = root-word f p h table places (r .elements) (holds .elements) elements-are (countsOf shapeOf) sizes-are (holds .some);
+        root = root-word f p h table places (r .elements) (holds .elements) elements-are (countsOf (shapeOf r)) sizes-are (holds .some);
         stays = first;
         attributes = holds .spaced .standing .few;
         all = space-is;
         positive = subst (λ m. 0 < m) space-is (rw sizes-are (product-pos (sizes (p .attributes)) (positive (p .attributes) (bounded f p h .attributes-good))));
         small = rw (holds .space-is) (holds .spaced .small);
-      }
+      })
 
   pub copies : (struck : List ℕ) → 64 ≤ length struck → Copies f places struck (r .elements)
   copies struck room =

@@ -1,10 +1,55 @@
 // The operations for C callers.
 use flags::Shape;
 use meaning::Answer;
+use reader::Reading;
 ghost use mathlib.Core.Path.{_≡_};
+ghost use Prim.Native.Nat.{_≤_, _<_};
 ghost use Rattle.meaning.specs.Operations.{decideAnswer, trimAnswer, trimLent, reportAnswer, reportLent};
 ghost use Rattle.flags.specs.Decided.{trimmingAt};
 ghost use Rattle.flags.specs.Ready.{countsOf, Ready};
+ghost use Rattle.jogimaduve.specs.Told.{told, textTold, shapeOf};
+
+// The answer of a file that was refused.
+fn refusal(reading: Reading) -> Answer
+    requires { ⌜ (reading .number ≤ 9) × (reading .second ≤ 16385) ⌝ }
+    ensures { λ r. ⌜ r ≡ told (reading .number) (reading .second) ⌝ }
+{
+    Answer {
+        number: reading.number as u32,
+        second: reading.second as u32,
+    }
+}
+
+// The shape of the policy that was read.
+fn shape_of(reading: Reading) -> Shape
+    ensures { λ r. ⌜ r ≡ shapeOf reading ⌝ }
+{
+    let attributes = reading.attributes;
+    let counts = attributes.counts;
+    Shape {
+        n: reading.elements,
+        counts,
+        len: attributes.len,
+        space: reading.space,
+    }
+}
+
+// The answer for a text of so many bytes, and a buffer that has so many.
+fn text_answer(needed: usize, room: usize) -> Answer
+    requires { ⌜ needed < 4294967296 ⌝ }
+    ensures { λ r. ⌜ r ≡ textTold needed room ⌝ }
+{
+    if room < needed {
+        return Answer {
+            number: 11,
+            second: needed as u32,
+        };
+    }
+    Answer {
+        number: 0,
+        second: needed as u32,
+    }
+}
 
 // What a policy file decides on a request line.
 #[no_mangle]
@@ -14,12 +59,8 @@ pub extern "C" fn jogimaduve_decide(file: &[u8], request: &[u8]) -> Answer
     let mut table = [0u16; 512];
     let mut places = [0usize; 128];
     let reading = reader::read(file, &mut table, &mut places);
-    let number = reading.number;
-    if number != 0 {
-        return Answer {
-            number: number as u32,
-            second: reading.second as u32,
-        };
+    if reading.number != 0 {
+        return refusal(reading);
     }
     let attributes = reading.attributes;
     let asked = asking::request_line(file, attributes, request);
@@ -59,36 +100,19 @@ pub extern "C" fn jogimaduve_trim(file: &[u8], out: &mut [u8]) -> Answer
     let mut table = [0u16; 512];
     let mut places = [0usize; 128];
     let reading = reader::read(file, &mut table, &mut places);
-    let number = reading.number;
-    if number != 0 {
-        return Answer {
-            number: number as u32,
-            second: reading.second as u32,
-        };
+    if reading.number != 0 {
+        return refusal(reading);
     }
     let n = reading.elements;
-    let attributes = reading.attributes;
-    let counts = attributes.counts;
-    let shape = Shape {
-        n,
-        counts,
-        len: attributes.len,
-        space: reading.space,
-    };
     let mut struck = [0u8; 64];
-    strike(&table, &mut struck, shape);
-    let needed = trimming::text_length(file, &places, &struck, n);
-    if out.len() < needed {
-        return Answer {
-            number: 11,
-            second: needed as u32,
-        };
+    strike(&table, &mut struck, shape_of(reading));
+    let room = out.len();
+    let length = trimming::text_length(file, &places, &struck, n);
+    if room < length {
+        return text_answer(length, room);
     }
     trimming::copy_text(file, &places, &struck, n, out);
-    Answer {
-        number: 0,
-        second: needed as u32,
-    }
+    text_answer(length, room)
 }
 
 // The report of a policy file, in a lent buffer.
@@ -100,31 +124,10 @@ pub extern "C" fn jogimaduve_report(file: &[u8], out: &mut [u8]) -> Answer
     let mut table = [0u16; 512];
     let mut places = [0usize; 128];
     let reading = reader::read(file, &mut table, &mut places);
-    let number = reading.number;
-    if number != 0 {
-        return Answer {
-            number: number as u32,
-            second: reading.second as u32,
-        };
+    if reading.number != 0 {
+        return refusal(reading);
     }
-    let attributes = reading.attributes;
-    let counts = attributes.counts;
-    let shape = Shape {
-        n: reading.elements,
-        counts,
-        len: attributes.len,
-        space: reading.space,
-    };
     let room = out.len();
-    let needed = reporting::report(file, &table, &places, shape, out);
-    if room < needed {
-        return Answer {
-            number: 11,
-            second: needed as u32,
-        };
-    }
-    Answer {
-        number: 0,
-        second: needed as u32,
-    }
+    let needed = reporting::report(file, &table, &places, shape_of(reading), out);
+    text_answer(needed, room)
 }

@@ -1,14 +1,21 @@
 -- `jogimaduve_decide` meets its contract: the file's refusal, the request line's, or the decision.
-use mathlib.Core.Path.{refl}
+use mathlib.Core.Path.{refl, _∙_}
 use native.Mathlib.Omega.{arith}
 use Prim.Native.Nat.{_≤_}
 use lib.ListN.{getD-replicate}
-use borrow.Author.Needs.{needs}
 use borrow.Author.Tests.{not-true, not-false}
 use Rattle.jogimaduve.proofs.FileRead.{small-numbers, file-read}
 use Rattle.jogimaduve.proofs.Deciding.{refusal-answered, request-refused, small-place, request-few, request-decided}
+use borrow.Author.Needs.{needs}
 use Rattle.jogimaduve.proofs.jogimaduve_decide.Statement.{statement}
 use Rattle.jogimaduve.proofs.jogimaduve_decide.Tie as tie
+use Rattle.jogimaduve.proofs.jogimaduve_decide.Reads as reads
+use Rattle.jogimaduve.proofs.jogimaduve_decide.Lts as lts
+use Rattle.asking.proofs.request_line.Reads as request-line-reads
+use Rattle.decisions.proofs.decide.Reads as decide-reads
+use Rattle.decisions.proofs.number.Reads as number-reads
+use Rattle.jogimaduve.proofs.refusal.Reads as refusal-reads
+use Rattle.reader.proofs.read.Reads as read-reads
 
 slice-aggregate-read : tie.Need-slice-aggregate-read
 slice-aggregate-read c = search needs
@@ -19,28 +26,25 @@ slice-aggregate-read-2 c = search needs
 read-requires : tie.Need-read-requires
 read-requires c κs = search needs
 
-cast-t17 : tie.Need-cast-t17
-cast-t17 c = let small = small-numbers _ _ _ _ (c .before .before .before .read .ensures) (c .if1 .taken) in omega (arith, small .0, small .1)
-
-cast-t18 : tie.Need-cast-t18
-cast-t18 c = let small = small-numbers _ _ _ _ (c .before .before .before .before .read .ensures) (c .before .if1 .taken) in omega (arith, small .0, small .1)
+refusal-requires : tie.Need-refusal-requires
+refusal-requires c κs = small-numbers _ _ _ _ (c .before .before .before .before .read .ensures) (c .if1 .taken)
 
 returns : tie.Need-returns
-returns c = refusal-answered _ _ _ _ (c .before .before .before .before .read .ensures) _ (c .before .if1 .taken)
+returns c = c .refusal .ensures ∙ refusal-answered _ _ _ _ (c .before .before .before .before .before .read .ensures) _ (c .before .if1 .taken)
 
 request-line-requires : tie.Need-request-line-requires
-request-line-requires c κs = file-read _ _ _ _ (c .before .before .before .before .read .ensures) (c .before .if1 .left) .2 .spaced .standing
+request-line-requires c κs = file-read _ _ _ _ (c .before .before .before .before .before .read .ensures) (c .before .if1 .left) .2 .spaced .standing
 
-cast-t19 : tie.Need-cast-t19
-cast-t19 c =
+cast-t16 : tie.Need-cast-t16
+cast-t16 c =
     let asked = c .before .before .before .request-line in
-    let place = small-place _ _ _ _ (c .before .before .before .before .before .before .before .before .read .ensures) (c .before .before .before .before .before .if1 .left) (c .before .before .before .before .before .before .before .before .before .before .before .before .before .args .request .now) (asked .result) (asked .ensures) (not-true _ (c .before .if2 .taken)) in
+    let place = small-place _ _ _ _ (c .before .before .before .before .before .before .before .before .before .read .ensures) (c .before .before .before .before .before .if1 .left) (c .before .before .before .before .before .before .before .before .before .before .before .before .before .before .args .request .now) (asked .result) (asked .ensures) (not-true _ (c .before .if2 .taken)) in
     omega (arith, place)
 
 returns-2 : tie.Need-returns-2
 returns-2 c =
     let asked = c .before .before .before .request-line in
-    request-refused _ _ _ _ (c .before .before .before .before .before .before .before .before .read .ensures) (c .before .before .before .before .before .if1 .left) _ (asked .result) (asked .ensures) (not-true _ (c .before .if2 .taken))
+    request-refused _ _ _ _ (c .before .before .before .before .before .before .before .before .before .read .ensures) (c .before .before .before .before .before .if1 .left) _ (asked .result) (asked .ensures) (not-true _ (c .before .if2 .taken))
 
 slice-aggregate-decide : tie.Need-slice-aggregate-decide
 slice-aggregate-decide c = search needs
@@ -50,23 +54,23 @@ slice-aggregate-decide-2 c = search needs
 
 decide-requires : tie.Need-decide-requires
 decide-requires c κs =
-    let reading = c .before .before .before .before .before .before .before .before .before .before .read in
+    let reading = c .before .before .before .before .before .before .before .before .before .before .before .read in
     let read-well = c .before .before .before .before .before .before .before .if1 .left in
     let asked = c .before .before .before .before .before .request-line in
     let holds = file-read _ _ _ _ (reading .ensures) read-well .2 in
-    let few = request-few _ _ _ _ (reading .ensures) read-well (c .before .before .before .before .before .before .before .before .before .before .before .before .before .before .before .args .request .now) (asked .result) (asked .ensures) (not-false _ (c .before .before .before .if2 .left)) in
+    let few = request-few _ _ _ _ (reading .ensures) read-well (c .before .before .before .before .before .before .before .before .before .before .before .before .before .before .before .before .args .request .now) (asked .result) (asked .ensures) (not-false _ (c .before .before .before .if2 .left)) in
     let elements : reading .result .elements ≤ 64 = omega (arith, holds .rooms .named .room) in
     (record { rows = omega (arith, holds .rooms .rows, elements); flags = elements; place = holds .some; few = few }, refl)
 
 number-requires : tie.Need-number-requires
 number-requires c κs = search needs
 
-cast-t25 : tie.Need-cast-t25
-cast-t25 c = omega (arith, c .number .ensures .1)
+cast-t22 : tie.Need-cast-t22
+cast-t22 c = search needs
 
 returns-3 : tie.Need-returns-3
 returns-3 c =
-    let reading = c .before .before .before .before .before .before .before .before .before .before .before .before .read in
+    let reading = c .before .before .before .before .before .before .before .before .before .before .before .before .before .read in
     let read-well = c .before .before .before .before .before .before .before .before .before .if1 .left in
     let asked = c .before .before .before .before .before .before .before .request-line in
     let holds = file-read _ _ _ _ (reading .ensures) read-well .2 in
@@ -79,15 +83,14 @@ jogimaduve-decide-spec =
     slice-aggregate-read
     slice-aggregate-read-2
     read-requires
-    cast-t17
-    cast-t18
+    refusal-requires
     returns
     request-line-requires
-    cast-t19
+    cast-t16
     returns-2
     slice-aggregate-decide
     slice-aggregate-decide-2
     decide-requires
     number-requires
-    cast-t25
+    cast-t22
     returns-3)

@@ -1,14 +1,18 @@
 -- `jogimaduve_report` meets its contract: the file's refusal, a buffer too short, or the report.
-use mathlib.Core.Path.{refl}
+use mathlib.Core.Path.{refl, sym, ap, _∙_, subst}
 use native.Mathlib.Omega.{arith}
+use Rattle.lines.specs.Ready.{Naming}
 use Rattle.jogimaduve.proofs.FileRead.{small-numbers, file-read}
 use Rattle.jogimaduve.proofs.Shaping.{ready}
-use Rattle.jogimaduve.proofs.Reporting.{refusal-answered, refusal-lent, naming, short-answered, short-lent, text-answered, text-lent}
+use Rattle.jogimaduve.proofs.Reporting.{refusal-answered, refusal-lent, naming, report-answered, report-lent}
 use borrow.Author.Needs.{needs}
 use Rattle.jogimaduve.proofs.jogimaduve_report.Statement.{statement}
 use Rattle.jogimaduve.proofs.jogimaduve_report.Tie as tie
 use Rattle.jogimaduve.proofs.jogimaduve_report.Reads as reads
 use Rattle.jogimaduve.proofs.jogimaduve_report.Lts as lts
+use Rattle.jogimaduve.proofs.refusal.Reads as refusal-reads
+use Rattle.jogimaduve.proofs.shape_of.Reads as shape-of-reads
+use Rattle.jogimaduve.proofs.text_answer.Reads as text-answer-reads
 use Rattle.reader.proofs.read.Reads as read-reads
 use Rattle.reporting.proofs.report.Reads as report-reads
 
@@ -21,17 +25,14 @@ slice-aggregate-read-2 c = search needs
 read-requires : tie.Need-read-requires
 read-requires c κs = search needs
 
-cast-t17 : tie.Need-cast-t17
-cast-t17 c = let small = small-numbers _ _ _ _ (c .before .before .before .read .ensures) (c .if1 .taken) in omega (arith, small .0, small .1)
-
-cast-t18 : tie.Need-cast-t18
-cast-t18 c = let small = small-numbers _ _ _ _ (c .before .before .before .before .read .ensures) (c .before .if1 .taken) in omega (arith, small .0, small .1)
+refusal-requires : tie.Need-refusal-requires
+refusal-requires c κs = small-numbers _ _ _ _ (c .before .before .before .before .read .ensures) (c .if1 .taken)
 
 returns : tie.Need-returns
 returns c =
-    let is-read = c .before .before .before .before .read .ensures in
-    let out = c .before .before .before .before .before .before .before .before .before .args .out .now in
-    (refusal-answered _ _ _ _ is-read out (c .before .if1 .taken), refusal-lent _ _ _ _ is-read out (c .before .if1 .taken))
+    let is-read = c .before .before .before .before .before .read .ensures in
+    let out = c .before .before .before .before .before .before .before .before .before .before .args .out .now in
+    (c .refusal .ensures ∙ refusal-answered _ _ _ _ is-read out (c .before .if1 .taken), refusal-lent _ _ _ _ is-read out (c .before .if1 .taken))
 
 slice-aggregate-report : tie.Need-slice-aggregate-report
 slice-aggregate-report c = search needs
@@ -39,34 +40,26 @@ slice-aggregate-report c = search needs
 slice-aggregate-report-2 : tie.Need-slice-aggregate-report-2
 slice-aggregate-report-2 c = search needs
 
+shape-of-requires : tie.Need-shape-of-requires
+shape-of-requires c κs = search needs
+
 report-requires : tie.Need-report-requires
 report-requires c κs =
-    let read-well = file-read _ _ _ _ (c .before .before .before .before .before .before .before .before .read .ensures) (c .before .before .before .before .before .if1 .left) in
-    (ready _ _ _ _ (read-well .0) (read-well .1) (read-well .2) _ (omega arith) refl, naming _ _ _ _ (read-well .0) (read-well .1) (read-well .2))
+    let read-well = file-read _ _ _ _ (c .before .before .before .before .before .before .before .before .read .ensures) (c .before .before .before .before .if1 .left) in
+    (ready _ _ _ _ (read-well .0) (read-well .1) (read-well .2) _ (c .before .shape-of .ensures) _ (omega arith) refl, subst (Naming _ _) (sym (ap (λ s. s .n) (c .before .shape-of .ensures))) (naming _ _ _ _ (read-well .0) (read-well .1) (read-well .2)))
 
-cast-t25 : tie.Need-cast-t25
-cast-t25 c = search needs
+text-answer-requires : tie.Need-text-answer-requires
+text-answer-requires c κs = search needs
 
 same-length : tie.Need-same-length
 same-length c = search needs
 
 returns-2 : tie.Need-returns-2
 returns-2 c =
-    let read-well = file-read _ _ _ _ (c .before .before .before .before .before .before .before .before .before .before .before .before .read .ensures) (c .before .before .before .before .before .before .before .before .before .if1 .left) in
+    let read-well = file-read _ _ _ _ (c .before .before .before .before .before .before .before .before .before .before .before .before .read .ensures) (c .before .before .before .before .before .before .before .before .if1 .left) in
+    let shaped = c .before .before .before .before .before .shape-of .ensures in
     let reported = c .before .before .before .report .ensures in
-    (short-answered _ _ _ _ (read-well .0) (read-well .1) (read-well .2) _ _ _ reported (c .if2 .taken), short-lent _ _ _ _ (read-well .0) (read-well .1) (read-well .2) _ _ _ reported (c .if2 .taken))
-
-cast-t26 : tie.Need-cast-t26
-cast-t26 c = search needs
-
-same-length-2 : tie.Need-same-length-2
-same-length-2 c = search needs
-
-returns-3 : tie.Need-returns-3
-returns-3 c =
-    let read-well = file-read _ _ _ _ (c .before .before .before .before .before .before .before .before .before .before .before .before .read .ensures) (c .before .before .before .before .before .before .before .before .before .if1 .left) in
-    let reported = c .before .before .before .report .ensures in
-    (text-answered _ _ _ _ (read-well .0) (read-well .1) (read-well .2) _ _ _ reported (c .if2 .left), text-lent _ _ _ _ (read-well .0) (read-well .1) (read-well .2) _ _ _ reported (c .if2 .left))
+    (c .text-answer .ensures ∙ report-answered _ _ _ _ (read-well .0) (read-well .1) (read-well .2) _ shaped _ _ _ reported, report-lent _ _ _ _ (read-well .0) (read-well .1) (read-well .2) _ shaped _ _ _ reported)
 
 pub jogimaduve-report-spec : {M : Type 1} → statement M
 jogimaduve-report-spec =
@@ -75,15 +68,12 @@ jogimaduve-report-spec =
     slice-aggregate-read
     slice-aggregate-read-2
     read-requires
-    cast-t17
-    cast-t18
+    refusal-requires
     returns
     slice-aggregate-report
     slice-aggregate-report-2
+    shape-of-requires
     report-requires
-    cast-t25
+    text-answer-requires
     same-length
-    returns-2
-    cast-t26
-    same-length-2
-    returns-3)
+    returns-2)

@@ -1,0 +1,2 @@
+-- What the contracts of the operations cite beyond the meaning.
+pub mod Told
