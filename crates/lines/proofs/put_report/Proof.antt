@@ -6,10 +6,10 @@ use Rattle.lines.proofs.put_report.Statement.{statement}
 use Rattle.lines.proofs.put_report.Tie as tie
 use Rattle.lines.proofs.put_report.Reads as reads
 use Rattle.lines.proofs.put_report.Lts as lts
-use Rattle.lines.proofs.put_conflicts.Reads as put-conflicts-reads
-use Rattle.lines.proofs.put_kept.Reads as put-kept-reads
-use Rattle.lines.proofs.put_segments.Reads as put-segments-reads
-use Rattle.lines.proofs.put_struck.Reads as put-struck-reads
+use Rattle.lines.proofs.conflict_lines.put_conflicts.Reads as put-conflicts-reads
+use Rattle.lines.proofs.rule_lines.put_kept.Reads as put-kept-reads
+use Rattle.lines.proofs.segment_lines.put_segments.Reads as put-segments-reads
+use Rattle.lines.proofs.rule_lines.put_struck.Reads as put-struck-reads
 
 put-segments-requires : tie.Need-put-segments-requires
 put-segments-requires c κs = search needs

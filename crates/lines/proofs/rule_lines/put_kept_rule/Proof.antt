@@ -1,0 +1,60 @@
+use mathlib.Core.Path.{refl}
+use Rattle.lines.proofs.LineTexts.{not-kept, kept}
+use borrow.Author.Needs.{needs}
+use Rattle.lines.proofs.rule_lines.put_kept_rule.Statement.{statement}
+use Rattle.lines.proofs.rule_lines.put_kept_rule.Tie as tie
+use Rattle.lines.proofs.rule_lines.put_kept_rule.Reads as reads
+use Rattle.lines.proofs.rule_lines.put_kept_rule.Lts as lts
+use Rattle.printing.proofs.put_field.Reads as put-field-reads
+use Rattle.printing.proofs.put_number.Reads as put-number-reads
+use Rattle.lines.proofs.fields.put_named.Reads as put-named-reads
+
+mul-m : tie.Need-mul-m
+mul-m c = search needs
+
+shared-slice-read-m : tie.Need-shared-slice-read-m
+shared-slice-read-m c = search needs
+
+returns : tie.Need-returns
+returns c =
+    let args = c .before .before .before .before .before .before .args in
+    not-kept (args .file .now) (args .places .now) (args .shown .now) (args .space) (args .i) _ refl (c .if1 .taken)
+
+slice-aggregate-put-field : tie.Need-slice-aggregate-put-field
+slice-aggregate-put-field c = search needs
+
+put-field-requires : tie.Need-put-field-requires
+put-field-requires c κs = search needs
+
+put-named-requires : tie.Need-put-named-requires
+put-named-requires c κs = search needs
+
+put-number-requires : tie.Need-put-number-requires
+put-number-requires c κs = search needs
+
+same-length : tie.Need-same-length
+same-length c = search needs
+
+returns-2 : tie.Need-returns-2
+returns-2 c =
+    let args = c .before .before .before .before .before .before .before .before .before .before .before .before .before .before .before .before .before .before .before .args in
+    kept (args .file .now) (args .places .now) (args .shown .now) (args .space) (args .i) _ refl
+    (c .before .before .before .before .before .before .before .before .before .before .before .before .before .if1 .left)
+    (c .before .before .before .before .before .before .before .before .before .before .before .before .before .before .before .before .before .before .before .pre .2)
+    (c .before .before .before .before .before .before .before .before .before .before .put-field .ensures)
+    (c .before .before .before .before .before .before .put-named .ensures)
+    (c .before .before .put-number .ensures)
+
+pub put-kept-rule-spec : {M : Type 1} → statement M
+put-kept-rule-spec =
+    tie.close
+    (tie.spec
+    mul-m
+    shared-slice-read-m
+    returns
+    slice-aggregate-put-field
+    put-field-requires
+    put-named-requires
+    put-number-requires
+    same-length
+    returns-2)
