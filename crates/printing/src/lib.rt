@@ -61,6 +61,6 @@ pub fn put_number(out: &mut [u8], at: usize, number: usize, end: u8) -> usize
     requires { ⌜ at + number + 3 < 2 ^ 64 ⌝ }
     ensures { λ r. ⌜ Wrote (now (out .entry)) at (decimal number ++ (end ∷ [])) (now (out .exit)) r × (r ≤ at + number / 10 + 2) ⌝ }
 {
-    let n = put_decimal(out, at, number);
-    put(out, n, end)
+    let behind = put_decimal(out, at, number);
+    put(out, behind, end)
 }
