@@ -1,0 +1,40 @@
+// A list of elements by value: as many as a file may have, and one more, which is refused.
+use meaning::Element;
+use meaning::Kind;
+use meaning::Word;
+ghost use mathlib.Core.Path.{_≡_};
+ghost use Prim.Native.Nat.{_<_};
+ghost use Rattle.elements.specs.Listed.{noElements, withElement};
+
+// The first `len` elements; the places behind them don't matter.
+pub struct Elements {
+    pub all: [Element; 65],
+    pub len: usize,
+}
+
+// No elements.
+pub fn none() -> Elements
+    ensures { λ r. ⌜ r ≡ noElements ⌝ }
+{
+    let blank = Element {
+        kind: Kind::Rule,
+        depth: 0,
+        name: [0u8; 16],
+        len: 0,
+        word: Word::Permit,
+        masks: [0u16; 6],
+    };
+    let all = [blank; 65];
+    Elements { all, len: 0 }
+}
+
+// The elements with one more behind them.
+pub fn with_element(list: Elements, e: Element) -> Elements
+    requires { ⌜ list .len < 65 ⌝ }
+    ensures { λ r. ⌜ r ≡ withElement list e ⌝ }
+{
+    let mut all = list.all;
+    let at = list.len;
+    all[at] = e;
+    Elements { all, len: at + 1 }
+}
