@@ -30,3 +30,5 @@ pub mod Promises
 pub mod ElementKinds
 pub mod Lists
 pub mod Refusals
+pub mod LongLists
+pub mod Demand2

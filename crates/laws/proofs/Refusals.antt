@@ -2,13 +2,15 @@
 use Prim.Native.Nat.{ℕ, zero, suc, _≤_}
 use native.Mathlib.Omega.{arith}
 use mathlib.Core.Bool.{Bool, true, false, cond}
-use mathlib.Core.List.{List, [], _∷_}
+use mathlib.Core.List.{List, [], _∷_, _++_}
 use lib.Dec.{ltb}
 use lib.ListN.{length}
-use Rattle.meaning.specs.Text.{Bytes, empty, cut, tab, front, last, newline}
-use Rattle.meaning.specs.Model.{Policy, Result, refused, given, _then_, unless}
-use Rattle.meaning.specs.Reading.{Sofar, Line, Tests, lineOf, lowest, wrongFields, lineTests, extended, readLines, nothing, short, finished, readText, read}
+use Rattle.meaning.specs.Text.{Bytes, empty, gathered, cut, tab, front, last, newline, line}
+use Rattle.meaning.specs.Model.{Policy, Result, refused, given, _then_, unless, wordText}
+use Rattle.meaning.specs.Reading.{Sofar, Line, Tests, lineOf, lowest, wrongFields, lineTests, elementTests, withElement, extended, readLines, nothing, short, finished, readText, read}
 use Rattle.meaning.specs.Report.{report, fitted, reportFile}
+use Rattle.meaning.specs.Writing.{listFile, headerTests, readElements, elementFields, writeFile}
+use Rattle.laws.proofs.Types.{Element}
 
 abbrev pub Numbered : {A : Type 0} → Result A → Type 0
 Numbered (refused n m) = 1 ≤ n
@@ -33,13 +35,36 @@ lines-numbered tests rest n s (l ∷ ls) =
     unless-numbered (lowest ((2, wrongFields s (cut tab l) (lineOf (cut tab l))) ∷ tests s (lineOf (cut tab l)))) n (readLines tests rest (suc n) (extended s (lineOf (cut tab l))) ls)
     (lines-numbered tests rest (suc n) (extended s (lineOf (cut tab l))) ls)
 
+short-numbered : (t : Bytes) → Numbered (short t)
+short-numbered t = either-numbered (ltb 16384 (length t)) (refused 1 0) (given t) (omega arith) tt
+
+finished-numbered : (s : Sofar) → Numbered (finished s)
+finished-numbered s = either-numbered (empty (s .before)) (refused 9 0) (given _) (omega arith) tt
+
 pub read-numbered : (f : Bytes) → Numbered (read f)
 unfolding read
 read-numbered f =
     then-numbered (short f then (readText lineTests)) finished
-    (then-numbered (short f) (readText lineTests) (either-numbered (ltb 16384 (length f)) (refused 1 0) (given f) (omega arith) tt) (λ t. lines-numbered lineTests (last [] (cut newline t)) 1 nothing (front (cut newline t))))
-    (λ s. either-numbered (empty (s .before)) (refused 9 0) (given _) (omega arith) tt)
+    (then-numbered (short f) (readText lineTests) (short-numbered f) (λ t. lines-numbered lineTests (last [] (cut newline t)) 1 nothing (front (cut newline t))))
+    finished-numbered
 
 pub report-numbered : (room : ℕ) (f : Bytes) → Numbered (reportFile room f)
 unfolding reportFile
 report-numbered room f = then-numbered (read f) (λ p. fitted room (report f p)) (read-numbered f) (λ p. either-numbered (ltb room (length (report f p))) (refused 11 (length (report f p))) (given (report f p)) (omega arith) tt)
+
+pub list-numbered : (room : ℕ) (f : Bytes) → Numbered (listFile room f)
+unfolding listFile
+list-numbered room f = then-numbered (read f) (λ p. cond (ltb room (length (p .elements))) (refused 12 (length (p .elements))) (given (p .elements))) (read-numbered f) (λ p. either-numbered (ltb room (length (p .elements))) (refused 12 (length (p .elements))) (given (p .elements)) (omega arith) tt)
+
+elements-numbered : (n : ℕ) (s : Sofar) (es : List Element) → Numbered (readElements n s es)
+elements-numbered n s [] = tt
+elements-numbered n s (e ∷ es) = unless-numbered (lowest (elementTests s (wordText (e .word)) e)) n (readElements (suc n) (withElement s e) es) (elements-numbered (suc n) (withElement s e) es)
+
+pub write-numbered : (room : ℕ) (header : Bytes) (es : List Element) → Numbered (writeFile room header es)
+unfolding writeFile
+write-numbered room header es =
+    then-numbered (short header) _ (short-numbered header)
+    (λ h. then-numbered (readText headerTests h) _ (lines-numbered headerTests (last [] (cut newline h)) 1 nothing (front (cut newline h)))
+    (λ s. then-numbered (readElements (suc (length (s .attributes))) s es then finished) _ (then-numbered (readElements (suc (length (s .attributes))) s es) finished (elements-numbered (suc (length (s .attributes))) s es) finished-numbered)
+    (λ p. let file = h ++ gathered (λ e. line (elementFields (p .attributes) e)) (p .elements) in
+    then-numbered (short file) (fitted room) (short-numbered file) (λ t. either-numbered (ltb room (length t)) (refused 11 (length t)) (given t) (omega arith) tt))))

@@ -148,7 +148,7 @@ header-back n s (l ∷ own) z more h =
     (k, read-step⁻ lineTests line-numbered [] n s l (own ++ more) (header-passes s (cut tab l) (lineOf (cut tab l)) p) ∙ later)
 
 -- and no element is among them
-no-element : (s : Sofar) (fs : List Bytes) (l : Line) → lineOf fs ≡ l → PassesLine headerTests header-numbered s fs l → s .before ≡ [] → extended s l .before ≡ []
+pub no-element : (s : Sofar) (fs : List Bytes) (l : Line) → lineOf fs ≡ l → PassesLine headerTests header-numbered s fs l → s .before ≡ [] → extended s l .before ≡ []
 no-element s fs (attributeLine a) e p h = h
 no-element s fs (treeLine k d n w ts) e (f2, (f3, (f6, f))) h = contradiction refl f6
 no-element s fs otherLine e p h = h
