@@ -31,4 +31,5 @@ pub mod ElementKinds
 pub mod Lists
 pub mod Refusals
 pub mod LongLists
+pub mod GoodLists
 pub mod Demand2
