@@ -16,7 +16,7 @@ use Rattle.laws.proofs.Lines.{attribute-fields}
 use Rattle.layout.specs.declared.Attributes.{Attributes}
 use Rattle.layout.specs.Places.{part, attributesOf, Added, elementsTo, lineStart}
 use Rattle.layout.proofs.Laws.{attributes-length}
-use Rattle.reader.specs.Sofar.{refusalOf, attributeIn, Tested, AttributeRefusal, AttributeLine}
+use Rattle.reader.specs.Sofar.{refusalBy, refusalOf, attributeIn, Tested, AttributeRefusal, AttributeLine}
 use Rattle.reader.specs.Steps.{Ready, Line, readSofar, Next}
 use Rattle.reader.specs.declared.State.{State}
 use Rattle.reader.proofs.Parts.{field-at, next-start}
@@ -101,14 +101,14 @@ module _ {f : Bytes} {a : Attributes} {space fields : ℕ} {fs : List Bytes} (el
               }
 
 -- An attribute line is one by the meaning too, and 2 does not refuse it
-line-is : (fs : List Bytes) {n : ℕ} → AttributeLine fs n → lineOf fs ≡ attributeLine (attributeIn fs)
+pub line-is : (fs : List Bytes) {n : ℕ} → AttributeLine fs n → lineOf fs ≡ attributeLine (attributeIn fs)
 line-is [] l = absurd (omega (arith, l .count, l .three))
 line-is (p ∷ []) l = absurd (omega (arith, l .count, l .three))
 line-is (p ∷ q ∷ []) l = absurd (omega (arith, l .count, l .three))
 line-is (p ∷ q ∷ v ∷ vs) l = rw (l .letter)
 
 refusal-is : (s : Sofar) (fs : List Bytes) {n : ℕ} → AttributeLine fs n → refusalOf s fs ≡ lowest (attributeTests s (attributeIn fs))
-unfolding refusalOf
+unfolding refusalBy
 refusal-is s fs l = rw (line-is fs l, l .fields)
 
 pub no-elements : (f : Bytes) (table places : List ℕ) (n : ℕ) → empty (elementsTo f table places n) ≡ eqb n 0

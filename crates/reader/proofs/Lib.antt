@@ -1,10 +1,11 @@
--- Laws that the proofs of the reader cite.
+-- Laws that the proofs of the reader cite. Those of the lines are for the crate of the header too.
 mod Parts
 mod Ends
-mod LineKinds
-mod AttributeLines
+pub mod LineKinds
+pub mod AttributeLines
 mod ElementTests
 mod TargetWalk
-mod TreeLines
+pub mod TreeLines
 mod TreeSteps
+pub mod Remaining
 mod Loop

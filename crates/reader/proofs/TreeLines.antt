@@ -15,7 +15,7 @@ use Rattle.meaning.specs.declared.Word.{Word}
 use Rattle.meaning.specs.declared.Element.{Element}
 use Rattle.meaning.specs.Text.{Bytes, bytes, empty, all, isNone, same, cut, tab, isField}
 use Rattle.meaning.specs.Model.{padded, kindText, space}
-use Rattle.meaning.specs.Reading.{treeLine, kindOf, lineOf, depthOf, wordOf, orPermit, Sofar, wellPlaced, Tests, lowest, wrongFields, badMasks, extended}
+use Rattle.meaning.specs.Reading.{Line as Meant, treeLine, kindOf, lineOf, depthOf, wordOf, orPermit, Sofar, wellPlaced, Tests, lowest, wrongFields, badMasks, lineTests, extended}
 use Rattle.laws.proofs.Bools.{Test, passed, failed, test, or-false, or-true}
 use Rattle.laws.proofs.Reading.{Passes, Numbered, lowest-zero}
 use Rattle.laws.proofs.Lines.{spelled-some}
@@ -26,7 +26,7 @@ use Rattle.layout.specs.Places.{part, attributesOf, kindAt, elementsTo, lineSta
 use Rattle.layout.specs.Nearest.{lastDepth, Stands}
 use Rattle.layout.proofs.Laws.{elements-more, named-more, lined-more}
 use Rattle.reader.specs.declared.State.{State}
-use Rattle.reader.specs.Sofar.{refusalOf, elementFrom, earlierTests, TreeLine}
+use Rattle.reader.specs.Sofar.{refusalBy, refusalOf, elementFrom, earlierTests, TreeLine}
 use Rattle.reader.specs.Steps.{Spaced, Rooms, Ready, Line, Fits, Put, readSofar, Next}
 use Rattle.reader.proofs.Parts.{field-at, next-start}
 
@@ -89,11 +89,15 @@ module _ (s : Sofar) (fs : List Bytes) (k : Kind) (n : ℕ) (line : TreeLine fs 
     targets-count (f ∷ g ∷ h ∷ []) l = absurd (omega arith)
     targets-count (f ∷ g ∷ h ∷ w ∷ ts) l = omega arith
 
-    by-elements : refusalOf s fs ≡ lowest (earlier ++ ((8, badMasks (s .attributes) (el .masks)) ∷ []))
-    unfolding refusalOf
-    by-elements =
+    -- with the right count the tests from 3 on refuse it
+    pub by-tests : (tests : Sofar → Meant → Tests) → refusalBy tests s fs ≡ lowest (tests s (treeLine k (getD fs 1 []) (getD fs 2 []) (getD fs 3 []) (drop 4 fs)))
+    unfolding refusalBy
+    by-tests tests =
         let right : length (drop 4 fs) ≡ length (s .attributes) = omega (arith, line .count, targets-count fs (omega (arith, line .count))) in
         rw (fields .is-tree, line .fields, eq-eqb (length (drop 4 fs)) (length (s .attributes)) right)
+
+    by-elements : refusalOf s fs ≡ lowest (earlier ++ ((8, badMasks (s .attributes) (el .masks)) ∷ []))
+    by-elements = by-tests lineTests
 
     pub earlier-refused : (lowest earlier ≡ 0 → ⊥) → refusalOf s fs ≡ lowest earlier
     earlier-refused h = by-elements ∙ lowest-first earlier ((8, badMasks (s .attributes) (el .masks)) ∷ []) h

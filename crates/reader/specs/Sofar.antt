@@ -10,16 +10,20 @@ use Rattle.meaning.specs.declared.Kind.{Kind}
 use Rattle.meaning.specs.declared.Element.{Element}
 use Rattle.meaning.specs.Text.{Bytes, bytes, empty, all, isNone, same, amongNames, isField}
 use Rattle.meaning.specs.Model.{Attribute, nameOf, space as spaceOf}
-use Rattle.meaning.specs.Reading.{kindOf, lineOf, wordOf, elementOf, Sofar, wellPlaced, Tests, lowest, wrongFields, attributeTests, badName, lineTests}
+use Rattle.meaning.specs.Reading.{Line, kindOf, lineOf, wordOf, elementOf, Sofar, wellPlaced, Tests, lowest, wrongFields, attributeTests, badName, lineTests}
+use Rattle.syntax.specs.declared.LineKind.{LineKind}
 use Rattle.layout.specs.declared.Attributes.{Attributes}
 use Rattle.layout.specs.Places.{attributesOf, AllStanding, elementsTo}
 
 abbrev pub sofarOf : Bytes → Attributes → List ℕ → List ℕ → ℕ → Sofar
 sofarOf f a table places n = record { attributes = attributesOf f a; before = elementsTo f table places n }
 
--- the number that refuses a line of these fields, or 0
-unfoldable pub refusalOf : Sofar → List Bytes → ℕ
-refusalOf s fs = lowest ((2, wrongFields s fs (lineOf fs)) ∷ lineTests s (lineOf fs))
+-- the number that refuses a line of these fields under tests from 3 on, or 0; and under those of a file
+unfoldable pub refusalBy : (Sofar → Line → Tests) → Sofar → List Bytes → ℕ
+refusalBy tests s fs = lowest ((2, wrongFields s fs (lineOf fs)) ∷ tests s (lineOf fs))
+
+abbrev pub refusalOf : Sofar → List Bytes → ℕ
+refusalOf s fs = refusalBy lineTests s fs
 
 -- the attribute of an attribute line, and the element of a tree line of this kind
 abbrev pub attributeIn : List Bytes → Attribute
@@ -67,3 +71,9 @@ pub record TreeLine (fs : List Bytes) (k : Kind) (n : ℕ) : Type 0 where
   pub three : 3 ≤ n
   pub no-attribute : same (getD fs 0 []) (bytes "A") ≡ false
   pub letter : kindOf (getD fs 0 []) ≡ some k
+
+-- a line of these fields by its kind; any other is wrong by test 2, whatever was read so far
+abbrev pub ShapeIs : List Bytes → LineKind → ℕ → Type 0
+ShapeIs fs LineKind.Attribute n = AttributeLine fs n
+ShapeIs fs (LineKind.Tree k) n = TreeLine fs k n
+ShapeIs fs LineKind.Other n = (s : Sofar) → wrongFields s fs (lineOf fs) ≡ true

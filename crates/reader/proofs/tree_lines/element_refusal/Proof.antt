@@ -16,8 +16,8 @@ use Rattle.layout.specs.Places.{attributesOf, namesTo}
 use Rattle.layout.specs.Nearest.{Stands}
 use Rattle.reader.specs.Sofar.{elementFrom, earlierTests}
 use Rattle.reader.proofs.ElementTests.{firstFound, tests-found}
-use Rattle.reader.proofs.element_refusal.Statement.{statement}
-use Rattle.reader.proofs.element_refusal.Tie as tie
+use Rattle.reader.proofs.tree_lines.element_refusal.Statement.{statement}
+use Rattle.reader.proofs.tree_lines.element_refusal.Tie as tie
 
 -- what the tests look at: whether field 2 is a name, and one of the elements'; whether kind and depth fit; the word's number
 abbrev fields : tie.Start → List Bytes

@@ -6,10 +6,10 @@ use Rattle.meaning.specs.Reading.{depthOf, wordOf}
 use Rattle.syntax.specs.Fields.{numberOfWord}
 use Rattle.reader.proofs.TreeLines.{same-row, same-end}
 use borrow.Author.Needs.{needs}
-use Rattle.reader.proofs.put_line.Statement.{statement}
-use Rattle.reader.proofs.put_line.Tie as tie
-use Rattle.reader.proofs.put_line.Reads as reads
-use Rattle.reader.proofs.put_line.Lts as lts
+use Rattle.reader.proofs.tree_lines.put_line.Statement.{statement}
+use Rattle.reader.proofs.tree_lines.put_line.Tie as tie
+use Rattle.reader.proofs.tree_lines.put_line.Reads as reads
+use Rattle.reader.proofs.tree_lines.put_line.Lts as lts
 use Rattle.layout.proofs.put_element.Reads as put-element-reads
 use Rattle.layout.proofs.with_element.Reads as with-element-reads
 use Rattle.syntax.proofs.depth_of.Reads as depth-of-reads

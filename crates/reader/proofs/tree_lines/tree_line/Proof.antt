@@ -4,13 +4,13 @@ use borrow.Author.Tests.{not-true, not-false}
 use Rattle.layout.proofs.Laws.{element-names}
 use Rattle.reader.proofs.TreeSteps.{count-told, earlier-told, some-attribute, room-there, targets-told, tree-told}
 use borrow.Author.Needs.{needs}
-use Rattle.reader.proofs.tree_line.Statement.{statement}
-use Rattle.reader.proofs.tree_line.Tie as tie
-use Rattle.reader.proofs.tree_line.Reads as reads
-use Rattle.reader.proofs.tree_line.Lts as lts
-use Rattle.reader.proofs.element_refusal.Reads as element-refusal-reads
-use Rattle.reader.proofs.line_masks.Reads as line-masks-reads
-use Rattle.reader.proofs.put_line.Reads as put-line-reads
+use Rattle.reader.proofs.tree_lines.tree_line.Statement.{statement}
+use Rattle.reader.proofs.tree_lines.tree_line.Tie as tie
+use Rattle.reader.proofs.tree_lines.tree_line.Reads as reads
+use Rattle.reader.proofs.tree_lines.tree_line.Lts as lts
+use Rattle.reader.proofs.tree_lines.element_refusal.Reads as element-refusal-reads
+use Rattle.reader.proofs.tree_lines.line_masks.Reads as line-masks-reads
+use Rattle.reader.proofs.tree_lines.put_line.Reads as put-line-reads
 
 -- src/lib.rt:140:16
 sub-line : tie.Need-sub-line

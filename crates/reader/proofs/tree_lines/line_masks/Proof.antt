@@ -7,8 +7,8 @@ use lib.ListN.{drop, length-drop}
 use Rattle.meaning.specs.Text.{cut, tab}
 use Rattle.layout.specs.Places.{Standing}
 use Rattle.reader.proofs.TargetWalk.{Walked, walk-starts, walk-on, walk-bad, walk-ends}
-use Rattle.reader.proofs.line_masks.Statement.{statement}
-use Rattle.reader.proofs.line_masks.Tie as tie
+use Rattle.reader.proofs.tree_lines.line_masks.Statement.{statement}
+use Rattle.reader.proofs.tree_lines.line_masks.Tie as tie
 
 abbrev Inv-loop : tie.InvT-loop
 Inv-loop file a line targets values ends counts masks₀ at₀ i₀ masks at i = Walked file a (drop 4 (cut tab line)) targets masks at i

@@ -1,0 +1,65 @@
+-- One line among attribute lines: the step over an attribute line, and the refusals of any other.
+use Prim.Native.Nat.{ℕ, _+_, _≤_}
+use mathlib.Core.Path.{_≡_, refl, sym, ap, _∙_}
+use native.Mathlib.Omega.{arith}
+use mathlib.Core.Bool.{true, false}
+use mathlib.Core.List.{List, [], _∷_}
+use lib.Dec.{lit≤}
+use lib.ListN.{length, getD}
+use Rattle.meaning.specs.declared.Kind.{Kind}
+use Rattle.meaning.specs.Text.{Bytes, cut, tab, isName}
+use Rattle.meaning.specs.Reading.{Sofar, lineOf, wrongFields}
+use Rattle.meaning.specs.Writing.{headerTests}
+use Rattle.laws.proofs.Reading.{lowest-zero}
+use Rattle.laws.proofs.Bounds.{header-numbered}
+use Rattle.laws.proofs.Reread.{no-element}
+use Rattle.layout.specs.Places.{part}
+use Rattle.layout.proofs.Laws.{attributes-length}
+use Rattle.reader.specs.declared.State.{State}
+use Rattle.reader.specs.declared.Step.{Step}
+use Rattle.reader.specs.Sofar.{refusalBy, refusalOf, AttributeLine, TreeLine}
+use Rattle.reader.specs.Steps.{Next, StepIs}
+use Rattle.reader.proofs.LineKinds.{wrong-refused}
+use Rattle.reader.proofs.AttributeLines.{line-is}
+use Rattle.reader.proofs.TreeLines.{wrong-count, by-tests}
+use Rattle.header.specs.Among.{blank, sofarAt, Among, Past}
+
+-- The writer's tests of an attribute line are those of a file
+attribute-alike : (s : Sofar) (fs : List Bytes) {n : ℕ} → AttributeLine fs n → refusalBy headerTests s fs ≡ refusalOf s fs
+unfolding refusalBy
+attribute-alike s fs l = rw (line-is fs l)
+
+-- A tree line: 2 for its field count, 3 for its name, else 6
+module _ (s : Sofar) (fs : List Bytes) (k : Kind) (n : ℕ) (line : TreeLine fs k n) where
+  pub count-refused : (n ≡ 4 + length (s .attributes) → ⊥) → refusalBy headerTests s fs ≡ 2
+  count-refused h = wrong-refused headerTests s fs (wrong-count s fs k n line h)
+
+  pub name-refused : n ≡ 4 + length (s .attributes) → isName (getD fs 2 []) ≡ false → refusalBy headerTests s fs ≡ 3
+  name-refused count bad = by-tests s fs k n line count headerTests ∙ rw bad
+
+  pub place-refused : n ≡ 4 + length (s .attributes) → isName (getD fs 2 []) ≡ true → refusalBy headerTests s fs ≡ 6
+  place-refused count good = by-tests s fs k n line count headerTests ∙ rw good
+
+-- The step over a line
+module _ (h : Bytes) (st : State) (end : ℕ) where
+  abbrev fields : List Bytes
+  fields = cut tab (part h (st .at) end)
+
+  pub past-attribute : {n : ℕ} (r : Step) → AttributeLine fields n → StepIs h blank blank blank blank st end r → Past h st end r
+  past-attribute r line step = record { refusal = step .refusal ∙ sym (attribute-alike (sofarAt h st) fields line); next = step .next }
+
+  pub past-tree : (k : Kind) (n a refusal : ℕ) → TreeLine fields k n → a ≡ st .attributes .len
+      → ((s : Sofar) (k : Kind) → length (s .attributes) ≡ a → TreeLine fields k n → refusal ≡ refusalBy headerTests s fields) × (1 ≤ refusal) → Past h st end (record { refusal = refusal; state = st })
+  past-tree k n a refusal line count (is-refusal, some) = record { refusal = is-refusal (sofarAt h st) k (attributes-length h (st .attributes) ∙ sym count) line; next = λ z. absurd (omega arith) }
+
+  pub past-other : wrongFields (sofarAt h st) fields (lineOf fields) ≡ true → Past h st end (record { refusal = 2; state = st })
+  past-other wrong = record { refusal = sym (wrong-refused headerTests (sofarAt h st) fields wrong); next = λ z. absurd (omega (arith, z)) }
+
+  -- behind a line that is not refused
+  pub among-next : (next : State) → Among h st → refusalBy headerTests (sofarAt h st) fields ≡ 0 → Next h blank blank (sofarAt h st) fields end (st .line) next → Among h next
+  unfolding refusalBy
+  among-next next among z n =
+      record {
+        ready = n .ready;
+        no-element = ap (λ s. s .before) (n .extends) ∙ no-element (sofarAt h st) fields (lineOf fields) refl (lowest-zero ((2, wrongFields (sofarAt h st) fields (lineOf fields)) ∷ headerTests (sofarAt h st) (lineOf fields)) (lit≤ tt, header-numbered (sofarAt h st) (lineOf fields)) z) (among .no-element);
+      }

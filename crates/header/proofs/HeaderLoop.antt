@@ -1,0 +1,104 @@
+-- Attribute lines, read one by one: what is left of them, read behind what was read so far.
+use Prim.Native.Nat.{ℕ, _+_, _≤_, _<_, zero-le}
+use mathlib.Core.Path.{_≡_, refl, sym, ap, _∙_, subst⁻¹}
+use native.Mathlib.Omega.{arith}
+use mathlib.Core.Bool.{cond}
+use mathlib.Core.List.{List, [], _∷_}
+use lib.Dec.{eqb, lit≤}
+use lib.ListN.{length, getD, drop, length-replicate}
+use borrow.Author.Tests.{le-ltb, lt-ltb, eq-eqb, ne-eqb}
+use Rattle.meaning.specs.Text.{Bytes, cut, newline, tab}
+use Rattle.meaning.specs.Model.{Result, refused, given, _then_}
+use Rattle.meaning.specs.Reading.{Line, attributeLine, treeLine, otherLine, lineOf, Sofar, wrongFields, nothing, readText, short}
+use Rattle.meaning.specs.Writing.{headerTests}
+use Rattle.meaning.specs.Claims.{All}
+use Rattle.layout.specs.declared.Attributes.{Attributes}
+use Rattle.layout.specs.Places.{part}
+use Rattle.reader.specs.declared.State.{State}
+use Rattle.reader.specs.Sofar.{refusalBy}
+use Rattle.reader.specs.Steps.{Ready, Next, readSofar}
+use Rattle.reader.proofs.Remaining.{linesFrom, none-left, one-refused, one-read, lowest-within}
+use Rattle.header.specs.declared.Header.{Header}
+use Rattle.header.specs.Among.{blank, sofarAt, Among}
+use Rattle.header.specs.Told.{HeaderAs}
+use Rattle.header.proofs.HeaderLines.{among-next}
+
+-- what the writer reads in attribute lines
+abbrev pub readHeader : Bytes → Result Sofar
+readHeader h = short h then (readText headerTests)
+
+pub blank-room : 512 ≤ length blank
+unfolding blank
+blank-room = omega (arith, length-replicate {A = ℕ} 512 0)
+
+-- 1: they are too long
+pub too-long : (h : Bytes) (a : Attributes) → 16384 < length h → HeaderAs h (record { number = 1; second = 0; attributes = a }) (readHeader h)
+too-long h a l = rw (lt-ltb 16384 (length h) l) (record { number = refl; second = refl; not-zero = lit≤ tt; low = lit≤ tt; small = zero-le })
+
+-- What the loop keeps: they read as the lines that remain behind what was read so far
+pub record Keeps (h : Bytes) (st : State) : Type 0 where
+  pub among : Among h st
+  pub size : length h ≤ 16384
+  pub reads : readHeader h ≡ linesFrom headerTests h (st .at) (st .line) (sofarAt h st)
+
+pub keeps-first : (h : Bytes) (st : State) → length h ≤ 16384 → (st .at ≡ 0) × (st .line ≡ 1) → Ready h blank blank st × (readSofar h blank blank st ≡ nothing) → Keeps h st
+keeps-first h st l (a, n) (ready, none) =
+    record {
+      among = record { ready = ready; no-element = ap (λ s. s .before) none };
+      size = l;
+      reads = rw (le-ltb 16384 (length h) l, a, n, none);
+    }
+
+-- a line's refusal is 6 at most
+refusal-low : (s : Sofar) (fs : List Bytes) → refusalBy headerTests s fs ≤ 6
+unfolding refusalBy
+refusal-low s fs = lowest-within 6 ((2, wrongFields s fs (lineOf fs)) ∷ headerTests s (lineOf fs)) (lit≤ tt, by-line (lineOf fs))
+  where
+    by-line : (l : Line) → All (λ t. t .0 ≤ 6) (headerTests s l)
+    by-line (attributeLine a) = (lit≤ tt, (lit≤ tt, (lit≤ tt, (lit≤ tt, tt))))
+    by-line (treeLine k d n w ts) = (lit≤ tt, (lit≤ tt, tt))
+    by-line otherLine = tt
+
+module _ (h : Bytes) (st : State) (keeps : Keeps h st) (end : ℕ) (ends : end ≡ st .at + length (getD (cut newline (drop (st .at) h)) 0 [])) where
+  few-lines : st .line ≤ 16385
+  few-lines = omega (arith, keeps .size, keeps .among .ready .begun .inside, keeps .among .ready .begun .lines-passed)
+
+  -- a refusal's two numbers
+  told : (n : ℕ) (r : Header) → readHeader h ≡ refused n (st .line) → r .number ≡ n → r .second ≡ st .line → 1 ≤ n → n ≤ 6 → HeaderAs h r (readHeader h)
+  told n r e a b some low = subst⁻¹ (HeaderAs h r) e (record { number = a; second = b; not-zero = some; low = low; small = few-lines })
+
+  module _ (whole : end ≡ length h) where
+    ended : readHeader h ≡ cond (eqb (st .at) end) (given (sofarAt h st)) (refused 2 (st .line))
+    ended = keeps .reads ∙ none-left headerTests h (st .at) (st .line) (sofarAt h st) end ends (keeps .among .ready .begun .inside) whole
+
+    -- bytes behind the last newline
+    pub left-over : (a : Attributes) → (st .at ≡ end → ⊥) → HeaderAs h (record { number = 2; second = st .line; attributes = a }) (readHeader h)
+    left-over a more = told 2 (record { number = 2; second = st .line; attributes = a }) (ended ∙ rw (ne-eqb (st .at) end more)) refl refl (lit≤ tt) (lit≤ tt)
+
+    -- the attributes
+    pub all-read : st .at ≡ end → HeaderAs h (record { number = 0; second = 0; attributes = st .attributes }) (readHeader h)
+    all-read none =
+        let reads : readHeader h ≡ given (sofarAt h st) = ended ∙ rw (eq-eqb (st .at) end none) in
+        subst⁻¹ (HeaderAs h (record { number = 0; second = 0; attributes = st .attributes })) reads (record {
+          number = refl;
+          attributes = refl;
+          no-element = keeps .among .no-element;
+          spaced = keeps .among .ready .begun .attributes;
+          size = keeps .size;
+        })
+
+  -- a line that is refused, and one that is not
+  module _ (inside : end < length h) (refusal : ℕ) (is-refusal : refusal ≡ refusalBy headerTests (sofarAt h st) (cut tab (part h (st .at) end))) where
+    pub refused-here : (a : Attributes) → (refusal ≡ 0 → ⊥) → HeaderAs h (record { number = refusal; second = st .line; attributes = a }) (readHeader h)
+    refused-here a some =
+        let fs = cut tab (part h (st .at) end) in
+        let reads = keeps .reads ∙ one-refused headerTests h (st .at) (st .line) (sofarAt h st) end ends inside (λ z. some (is-refusal ∙ z)) ∙ ap (λ k. refused k (st .line)) (sym is-refusal) in
+        told refusal (record { number = refusal; second = st .line; attributes = a }) reads refl refl (omega arith) (omega (arith, is-refusal, refusal-low (sofarAt h st) fs))
+
+    pub keeps-next : (next : State) → refusal ≡ 0 → Next h blank blank (sofarAt h st) (cut tab (part h (st .at) end)) end (st .line) next → Keeps h next
+    keeps-next next z n =
+        record {
+          among = among-next h st end next (keeps .among) (sym is-refusal ∙ z) n;
+          size = keeps .size;
+          reads = keeps .reads ∙ one-read headerTests h (st .at) (st .line) (sofarAt h st) end ends inside (sym is-refusal ∙ z) ∙ sym (rw (n .at-next, n .line-next, n .extends));
+        }

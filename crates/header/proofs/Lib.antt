@@ -1,0 +1,3 @@
+-- Laws that the proofs of the header cite.
+mod HeaderLines
+mod HeaderLoop

@@ -1,0 +1,107 @@
+// The attribute lines that the writer takes: where the attributes stand in them, or the refusal.
+use layout::Attributes;
+use reader::State;
+use reader::Step;
+use syntax::LineKind;
+ghost use mathlib.Core.Path.{_≡_};
+ghost use Prim.Native.Nat.{_≤_};
+ghost use lib.ListN.{length};
+ghost use Rattle.meaning.specs.declared.Kind.{Kind};
+ghost use Rattle.meaning.specs.Text.{cut, tab};
+ghost use Rattle.meaning.specs.Model.{_then_};
+ghost use Rattle.meaning.specs.Reading.{Sofar, readText, short};
+ghost use Rattle.meaning.specs.Writing.{headerTests};
+ghost use Rattle.reader.specs.Sofar.{TreeLine, refusalBy};
+ghost use Rattle.reader.specs.Steps.{Line};
+ghost use Rattle.header.specs.Among.{Among, Past};
+ghost use Rattle.header.specs.Told.{HeaderAs};
+
+// What attribute lines hold, or the refusal's number and line; number 0 is none.
+pub struct Header {
+    pub number: usize,
+    pub second: usize,
+    pub attributes: Attributes,
+}
+
+// The number that refuses a tree line of so many fields behind so many attributes.
+fn tree_refusal(line: &[u8], attributes: usize, fields: usize) -> usize
+    requires { ⌜ attributes ≤ 6 ⌝ }
+    ensures { λ r. ⌜ ((s : Sofar) (k : Kind) → length (s .attributes) ≡ attributes → TreeLine (cut tab (now (line .entry))) k fields → r ≡ refusalBy headerTests s (cut tab (now (line .entry)))) × (1 ≤ r) ⌝ }
+{
+    if fields != 4 + attributes {
+        return 2;
+    }
+    if !text::is_name(text::field(line, 2)) {
+        return 3;
+    }
+    6
+}
+
+// One line, which a newline at `end` ends.
+fn header_line(header: &[u8], st: State, end: usize) -> Step
+    requires { ⌜ Among (now header) st × Line (now header) st end ⌝ }
+    ensures { λ r. ⌜ Past (now (header .entry)) st end r ⌝ }
+{
+    let at = st.at;
+    let line = &header[at..end];
+    let shape = reader::line_shape(line);
+    let kind = shape.kind;
+    let fields = shape.fields;
+    match kind {
+        LineKind::Attribute => reader::attribute_line(header, st, end, fields),
+        LineKind::Tree(_) => {
+            let attributes = st.attributes;
+            let refusal = tree_refusal(line, attributes.len, fields);
+            Step { refusal, state: st }
+        }
+        LineKind::Other => Step {
+            refusal: 2,
+            state: st,
+        },
+    }
+}
+
+// Reads attribute lines.
+pub fn read_header(header: &[u8]) -> Header
+    ensures { λ r. ⌜ HeaderAs (now (header .entry)) r (short (now (header .entry)) then (readText headerTests)) ⌝ }
+{
+    let mut st = reader::start();
+    if 16384 < header.len() {
+        let attributes = st.attributes;
+        return Header {
+            number: 1,
+            second: 0,
+            attributes,
+        };
+    }
+    loop {
+        let at = st.at;
+        let line = st.line;
+        let attributes = st.attributes;
+        let end = text::end_of(header, at, 10);
+        if end == header.len() {
+            if at != end {
+                return Header {
+                    number: 2,
+                    second: line,
+                    attributes,
+                };
+            }
+            return Header {
+                number: 0,
+                second: 0,
+                attributes,
+            };
+        }
+        let step = header_line(header, st, end);
+        let refusal = step.refusal;
+        if refusal != 0 {
+            return Header {
+                number: refusal,
+                second: line,
+                attributes,
+            };
+        }
+        st = step.state;
+    }
+}
