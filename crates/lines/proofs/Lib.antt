@@ -1,5 +1,4 @@
 -- Laws that the proofs of lines cite.
-mod Walks
 mod Names
 mod Words
 mod LineTexts

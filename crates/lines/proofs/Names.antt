@@ -1,21 +1,17 @@
 -- The names of the elements whose bits are set.
-use mathlib.Core.Path.{_≡_, refl, sym, ap, _∙_}
-use Prim.Native.Nat.{ℕ, zero, suc, _+_, _-_, _≤_, _<_}
+use mathlib.Core.Path.{_≡_, ap, _∙_}
+use Prim.Native.Nat.{ℕ, suc, _+_, _-_, _≤_, _<_}
 use native.Mathlib.Omega.{arith}
-use mathlib.Core.Bool.{Bool, true, false, cond}
-use mathlib.Core.List.{List, [], _∷_, _++_, map, append-nil}
-use Rattle.meaning.specs.Text.{Bytes, bytes, keep, gathered, counting, join, comma}
+use mathlib.Core.Bool.{true, false}
+use mathlib.Core.List.{List, [], _∷_, _++_, map}
+use Rattle.meaning.specs.Text.{Bytes, bytes, keep, gathered, counting, comma}
 use Rattle.meaning.specs.Deciding.{bit}
 use Rattle.meaning.specs.Report.{orDash}
 use Rattle.layout.specs.Places.{nameIn}
 use Rattle.laws.proofs.Rewritten.{gathered-map}
+use Rattle.printing.proofs.Laws.{join-behind}
 use Rattle.lines.specs.Lines.{namesOf, laterNames}
 use Rattle.laws.proofs.Lists.{gathered-keep}
-
--- names parted by commas: each but the first has one before it
-join-comma : (x : Bytes) (xs : List Bytes) → join comma (x ∷ xs) ≡ x ++ gathered (λ y. comma ∷ y) xs
-join-comma x [] = sym (append-nil x)
-join-comma x (y ∷ ys) = ap (λ t. x ++ comma ∷ t) (join-comma y ys)
 
 module _ (f : Bytes) (places : List ℕ) (n w : ℕ) where
   -- the names of k elements from i on, if their bits are set
@@ -46,7 +42,7 @@ module _ (f : Bytes) (places : List ℕ) (n w : ℕ) where
         let size : n - i ≡ suc (n - (i + 1)) = omega arith in
         let next : suc i ≡ i + 1 = omega arith in
         let here : namesFrom i (n - i) ≡ nameIn f places i ∷ namesFrom (i + 1) (n - (i + 1)) = rw (size, e, next) in
-        ap orDash (before ∙ here) ∙ join-comma (nameIn f places i) (namesFrom (i + 1) (n - (i + 1))) ∙ ap (λ t. nameIn f places i ++ t) (later-from (i + 1))
+        ap orDash (before ∙ here) ∙ join-behind comma (nameIn f places i) (namesFrom (i + 1) (n - (i + 1))) ∙ ap (λ t. nameIn f places i ++ t) (later-from (i + 1))
 
   -- no name
   pub no-name : (i : ℕ) → n ≤ i → namesOf f places n w ≡ namesFrom i (n - i) → orDash (namesOf f places n w) ≡ bytes "-"

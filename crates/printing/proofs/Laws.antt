@@ -1,13 +1,13 @@
 -- Texts laid one behind the other, behind a buffer's end, and over its start; lines by their fields.
 use mathlib.Core.Path.{_≡_, refl, sym, ap, _∙_}
-use mathlib.Core.List.{List, [], _∷_, _++_, append-assoc}
+use mathlib.Core.List.{List, [], _∷_, _++_, append-assoc, append-nil}
 use Prim.Native.Nat.{ℕ, zero, suc, _+_, _≤_, _<_}
 use native.Mathlib.Nat.{add-zero, add-suc, suc-add}
 use native.Mathlib.Numerals.{add-one}
 use native.Mathlib.Omega.{arith}
 use lib.ListN.{length, take, drop, getD, set, length-append}
 use lib.Seq.{sets, sets-eq, set-out, drop-cons}
-use Rattle.meaning.specs.Text.{Bytes, newline, tab, line}
+use Rattle.meaning.specs.Text.{Bytes, gathered, join, newline, tab, line}
 use Rattle.printing.specs.Wrote.{Wrote}
 
 sets-append : (l : List ℕ) (i : ℕ) (xs ys : List ℕ) → sets l i (xs ++ ys) ≡ sets (sets l i xs) (i + length xs) ys
@@ -42,3 +42,12 @@ at-start {x} {t} {y} {m} w h = let here : 0 + length t ≡ length t = omega arit
 pub line-next : (a b : Bytes) (fs : List Bytes) → (a ++ (tab ∷ [])) ++ line (b ∷ fs) ≡ line (a ∷ b ∷ fs)
 line-next a b [] = append-assoc a (tab ∷ []) (b ++ (newline ∷ [])) ∙ sym (append-assoc a (tab ∷ b) (newline ∷ []))
 line-next a b (c ∷ fs) = append-assoc a (tab ∷ []) (line (b ∷ c ∷ fs)) ∙ sym (append-assoc a _ (newline ∷ []))
+
+-- pieces parted by a byte: each but the first has one before it
+pub join-behind : (b : ℕ) (x : Bytes) (xs : List Bytes) → join b (x ∷ xs) ≡ x ++ gathered (λ y. b ∷ y) xs
+join-behind b x [] = sym (append-nil x)
+join-behind b x (y ∷ ys) = ap (λ t. x ++ b ∷ t) (join-behind b y ys)
+
+-- a line's first field, the others with a tab before each, and the newline
+pub line-behind : (x : Bytes) (xs : List Bytes) → x ++ (gathered (λ y. tab ∷ y) xs ++ (newline ∷ [])) ≡ line (x ∷ xs)
+line-behind x xs = sym (append-assoc x (gathered (λ y. tab ∷ y) xs) (newline ∷ [])) ∙ ap (λ t. t ++ (newline ∷ [])) (sym (join-behind tab x xs))

@@ -1,3 +1,4 @@
 -- Laws of text laid into a buffer.
 pub mod Laws
 pub mod Digits
+pub mod Walks

@@ -2,7 +2,7 @@ use Prim.Native.Nat.{_-_, _≤_}
 use native.Mathlib.Omega.{arith}
 use borrow.Author.Needs.{needs}
 use Rattle.lines.specs.Lines.{pairLines, conflictText}
-use Rattle.lines.proofs.Walks.{Sofar, begun, stored, ended-all}
+use Rattle.printing.proofs.Walks.{Sofar, begun, stored, ended-all}
 use Rattle.lines.proofs.conflict_lines.put_conflicts.Statement.{statement}
 use Rattle.lines.proofs.conflict_lines.put_conflicts.Tie as tie
 use Rattle.lines.proofs.conflict_lines.put_conflicts.Reads as reads

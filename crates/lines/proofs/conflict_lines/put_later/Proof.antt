@@ -2,7 +2,7 @@ use Prim.Native.Nat.{_+_, _-_, _≤_}
 use native.Mathlib.Omega.{arith}
 use borrow.Author.Needs.{needs}
 use Rattle.lines.specs.Lines.{laterLine}
-use Rattle.lines.proofs.Walks.{Sofar, begun, stored, passed-over, ended}
+use Rattle.printing.proofs.Walks.{Sofar, begun, stored, passed-over, ended}
 use Rattle.lines.proofs.PairTexts.{not-child, is-child, no-pairs, all-pairs}
 use Rattle.lines.proofs.conflict_lines.put_later.Statement.{statement}
 use Rattle.lines.proofs.conflict_lines.put_later.Tie as tie

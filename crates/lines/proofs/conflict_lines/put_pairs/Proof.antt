@@ -2,7 +2,7 @@ use Prim.Native.Nat.{_-_, _≤_}
 use native.Mathlib.Omega.{arith}
 use borrow.Author.Needs.{needs}
 use Rattle.lines.specs.Lines.{laterLines, pairLines}
-use Rattle.lines.proofs.Walks.{Sofar, begun, stored, ended-all}
+use Rattle.printing.proofs.Walks.{Sofar, begun, stored, ended-all}
 use Rattle.lines.proofs.conflict_lines.put_pairs.Statement.{statement}
 use Rattle.lines.proofs.conflict_lines.put_pairs.Tie as tie
 use Rattle.lines.proofs.conflict_lines.put_pairs.Reads as reads

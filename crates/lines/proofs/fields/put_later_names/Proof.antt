@@ -7,7 +7,7 @@ use Rattle.meaning.specs.Text.{gathered, counting}
 use Rattle.printing.specs.Wrote.{Wrote}
 use Rattle.printing.proofs.Laws.{then}
 use Rattle.lines.specs.Lines.{commaName, laterNames}
-use Rattle.lines.proofs.Walks.{Sofar, begun, stored, passed-over}
+use Rattle.printing.proofs.Walks.{Sofar, begun, stored, passed-over}
 use Rattle.lines.proofs.fields.put_later_names.Statement.{statement}
 use Rattle.lines.proofs.fields.put_later_names.Tie as tie
 use Rattle.lines.proofs.fields.put_later_names.Reads as reads

@@ -3,7 +3,7 @@ use Prim.Native.Nat.{_+_, _-_, _≤_}
 use native.Mathlib.Omega.{arith}
 use borrow.Author.Needs.{needs}
 use Rattle.lines.specs.Lines.{keptLine, keptText}
-use Rattle.lines.proofs.Walks.{Sofar, begun, stored, ended-all}
+use Rattle.printing.proofs.Walks.{Sofar, begun, stored, ended-all}
 use Rattle.lines.proofs.rule_lines.put_kept.Statement.{statement}
 use Rattle.lines.proofs.rule_lines.put_kept.Tie as tie
 use Rattle.lines.proofs.rule_lines.put_kept.Reads as reads

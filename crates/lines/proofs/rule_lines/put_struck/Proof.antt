@@ -5,7 +5,7 @@ use borrow.Author.Needs.{needs}
 use lib.ListN.{getD}
 use Rattle.printing.specs.Wrote.{Wrote}
 use Rattle.lines.specs.Lines.{struckLine, struckText}
-use Rattle.lines.proofs.Walks.{Sofar, begun, stored, ended-all, taken}
+use Rattle.printing.proofs.Walks.{Sofar, begun, stored, ended-all, taken}
 use Rattle.lines.proofs.rule_lines.put_struck.Statement.{statement}
 use Rattle.lines.proofs.rule_lines.put_struck.Tie as tie
 use Rattle.lines.proofs.rule_lines.put_struck.Reads as reads
@@ -51,7 +51,7 @@ unfolding struckText
 returns c =
     let args = c .before .before .before .before .before .before .args in
     let l = c .before .loop in
-    let all = taken (struckLine (args .file .now) (args .places .now)) (args .order .now) (args .count) (c .before .before .before .before .before .before .pre .0 .room) in
+    let all = taken 0 (struckLine (args .file .now) (args .places .now)) (args .order .now) (args .count) (c .before .before .before .before .before .before .pre .0 .room) in
     (subst (λ t. Wrote (args .out .now) (args .at) t (l .out) (l .end)) all (ended-all (λ k. struckLine (args .file .now) (args .places .now) (getD (args .order .now) k 0)) 500 (args .out .now) (args .at) (l .k) (l .inv .1) (args .count) (omega (arith, l .inv .0))), omega (arith, l .inv, c .before .before .before .before .before .before .pre .0 .few))
 
 pub put-struck-spec : {M : Type 1} → statement M

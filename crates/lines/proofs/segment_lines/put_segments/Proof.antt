@@ -5,7 +5,7 @@ use borrow.Author.Needs.{needs}
 use Rattle.meaning.specs.Text.{gathered, counting}
 use Rattle.printing.specs.Wrote.{Wrote}
 use Rattle.lines.specs.Lines.{segmentLine, segmentText}
-use Rattle.lines.proofs.Walks.{Sofar, begun, stored}
+use Rattle.printing.proofs.Walks.{Sofar, begun, stored}
 use Rattle.lines.proofs.segment_lines.put_segments.Statement.{statement}
 use Rattle.lines.proofs.segment_lines.put_segments.Tie as tie
 use Rattle.lines.proofs.segment_lines.put_segments.Reads as reads

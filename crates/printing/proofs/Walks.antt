@@ -59,12 +59,12 @@ module _ (F : ℕ → Bytes) (most a : ℕ) (x : List ℕ) (n : ℕ) where
 pub ended-all : (F : ℕ → Bytes) (most : ℕ) (x : List ℕ) (n : ℕ) {y : List ℕ} {m : ℕ} (i : ℕ) → Sofar F most 0 x n i y m → (end : ℕ) → i ≡ end → Wrote x n (gathered F (counting 0 end)) y m
 ended-all F most x n {y} {m} i sofar end e = let all : end - 0 ≡ end = omega arith in subst (λ k. Wrote x n (gathered F (counting 0 k)) y m) all (ended F most 0 x n i sofar end e)
 
--- what the first numbers of a list give, by their places
+-- what the first elements of a list give, by their places
 gathered-shift : (F : ℕ → Bytes) (a k : ℕ) → gathered F (counting (suc a) k) ≡ gathered (λ i. F (suc i)) (counting a k)
 gathered-shift F a zero = refl
 gathered-shift F a (suc k) = ap (λ t. F (suc a) ++ t) (gathered-shift F (suc a) k)
 
-pub taken : (F : ℕ → Bytes) (l : List ℕ) (k : ℕ) → k ≤ length l → gathered (λ i. F (getD l i 0)) (counting 0 k) ≡ gathered F (take k l)
-taken F l zero h = refl
-taken F [] (suc k) h = absurd (omega arith)
-taken F (x ∷ l) (suc k) h = ap (λ t. F x ++ t) (gathered-shift (λ i. F (getD (x ∷ l) i 0)) 0 k ∙ taken F l k (omega arith))
+pub taken : {A : Type 0} (d : A) (F : A → Bytes) (l : List A) (k : ℕ) → k ≤ length l → gathered (λ i. F (getD l i d)) (counting 0 k) ≡ gathered F (take k l)
+taken d F l zero h = refl
+taken d F [] (suc k) h = absurd (omega arith)
+taken d F (x ∷ l) (suc k) h = ap (λ t. F x ++ t) (gathered-shift (λ i. F (getD (x ∷ l) i d)) 0 k ∙ taken d F l k (omega arith))

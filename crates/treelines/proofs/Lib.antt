@@ -1,0 +1,5 @@
+-- Laws that the proofs of treelines cite.
+mod Words
+mod Values
+mod TargetTexts
+mod ElementLines

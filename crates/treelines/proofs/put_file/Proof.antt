@@ -1,0 +1,85 @@
+-- `put_file` meets its contract. The loop keeps the lines of the elements before `i`, behind the attribute lines.
+use mathlib.Core.Path.{_≡_}
+use lib.ListN.{length}
+use Prim.Native.Nat.{_-_, _≤_}
+use native.Mathlib.Omega.{arith}
+use borrow.Author.Needs.{needs}
+use Rattle.elements.proofs.Listing.{mapped-length}
+use Rattle.printing.proofs.Walks.{Sofar, begun, stored, ended-all}
+use Rattle.treelines.proofs.ElementLines.{elementLine, small-at, file-text}
+use Rattle.treelines.proofs.put_file.Statement.{statement}
+use Rattle.treelines.proofs.put_file.Tie as tie
+
+abbrev Inv-loop : tie.InvT-loop
+Inv-loop header a out₀ all len end₀ i₀ out end i = (i ≤ len) × Sofar (elementLine header a all) 100000 0 out₀ end₀ i out end
+
+abbrev μ-loop : tie.MeasureT-loop
+μ-loop header a out₀ all len end₀ i₀ out end i = len - i
+
+-- how many places the list has
+places : (c : tie.Start Inv-loop μ-loop) → length (c .args .list .all) ≡ 65
+places c = search (needs, mapped-length)
+
+put-bytes-requires : tie.Need-put-bytes-requires Inv-loop μ-loop
+put-bytes-requires c κs = search needs
+
+loop-holds : tie.Need-loop-holds Inv-loop μ-loop
+loop-holds c =
+    let args = c .before .before .before .before .before .before .before .args in
+    (omega arith, begun (elementLine (args .header .now) (args .a) (args .list .all)) 100000 0 _ _)
+
+mul-e : tie.Need-mul-e Inv-loop μ-loop
+mul-e c = let few = c .before .before .before .before .before .before .before .before .before .pre .few in search needs
+
+array-copy-out-e : tie.Need-array-copy-out-e Inv-loop μ-loop
+array-copy-out-e c = let few = c .before .before .before .before .before .before .before .before .before .pre .few in search needs
+
+put-element-requires : tie.Need-put-element-requires Inv-loop μ-loop
+put-element-requires c κs =
+    let pre = c .before .before .before .before .before .before .before .before .before .before .before .pre in
+    let l = c .before .before .before .loop in
+    let list = c .before .before .before .before .before .before .before .before .before .before .before .args .list in
+    let size = places (c .before .before .before .before .before .before .before .before .before .before .before) in
+    (pre .headed, small-at _ _ list (l .i) pre (omega arith) (omega (arith, pre .few)), omega (arith, pre .few, pre .headed .short, l .inv .1 .within, c .before .before .before .before .before .before .put-bytes .ensures .moved))
+
+add-i : tie.Need-add-i Inv-loop μ-loop
+add-i c = search needs
+
+loop-less : tie.Need-loop-less Inv-loop μ-loop
+loop-less c = search needs
+
+loop-again : tie.Need-loop-again Inv-loop μ-loop
+loop-again c =
+    let args = c .before .before .before .before .before .before .before .before .before .before .before .before .before .before .args in
+    let l = c .before .before .before .before .before .before .loop in
+    (omega arith, stored (elementLine (args .header .now) (args .a) (args .list .all)) 100000 0 _ _ (l .i) (l .inv .1) (c .before .before .put-element .ensures))
+
+same-length : tie.Need-same-length Inv-loop μ-loop
+same-length c = search needs
+
+returns : tie.Need-returns Inv-loop μ-loop
+returns c =
+    let args = c .before .before .before .before .before .before .before .before .before .args in
+    let l = c .before .loop in
+    let pre = c .before .before .before .before .before .before .before .before .before .pre in
+    let head = c .before .before .before .before .put-bytes .ensures in
+    let size = places (c .before .before .before .before .before .before .before .before .before) in
+    let lines = ended-all (elementLine (args .header .now) (args .a) (args .list .all)) 100000 _ _ (l .i) (l .inv .1) (args .list .len) (omega (arith, l .inv .0)) in
+    (file-text (args .header .now) (args .a) (args .list) (omega (arith, pre .few)) head lines, omega (arith, head .moved, pre .few, pre .headed .short, l .inv .0, l .inv .1 .within))
+
+pub put-file-spec : {M : Type 1} → statement M
+put-file-spec =
+    tie.close
+    (tie.spec
+    Inv-loop
+    μ-loop
+    put-bytes-requires
+    loop-holds
+    mul-e
+    array-copy-out-e
+    put-element-requires
+    add-i
+    loop-less
+    loop-again
+    same-length
+    returns)

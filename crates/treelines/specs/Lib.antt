@@ -1,0 +1,2 @@
+-- What the contracts of treelines cite.
+pub mod Writable
