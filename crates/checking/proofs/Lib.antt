@@ -1,0 +1,6 @@
+-- Laws that the proofs of the check cite.
+mod Zeros
+mod Names
+mod Masks
+mod Earlier
+mod Walk

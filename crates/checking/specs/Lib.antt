@@ -1,0 +1,2 @@
+-- What the contracts of the check cite.
+pub mod Tested

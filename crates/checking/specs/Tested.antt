@@ -1,0 +1,56 @@
+-- The elements before a place of a list, and what testing the elements of a list gives.
+use Prim.Native.Nat.{ℕ, zero, suc, _≤_, _<_}
+use mathlib.Core.List.{List, [], _∷_}
+use mathlib.Core.Path.{_≡_}
+use lib.ListN.{getD}
+use Rattle.meaning.specs.declared.Kind.the-variants.{Set}
+use Rattle.meaning.specs.declared.Word.the-variants.{Permit}
+use Rattle.meaning.specs.declared.Element.{Element}
+use Rattle.meaning.specs.Model.{Attribute, Result, refused, given}
+use Rattle.meaning.specs.Reading.{Sofar}
+use Rattle.layout.specs.declared.Tree.{Tree}
+use Rattle.layout.specs.Nearest.{Stands}
+use Rattle.checking.specs.declared.Checked.{Checked}
+
+-- at most six attributes, with at most 16 values each
+pub record FewValues (counts : List ℕ) (attributes : ℕ) : Type 0 where
+  pub few : attributes ≤ 6
+  pub few-values : (i : ℕ) → i < attributes → getD counts i 0 ≤ 16
+
+-- what a list gives at a place behind its end
+abbrev pub none : Element
+none = record { kind = Set; depth = 0; name = []; len = 0; word = Permit; masks = [] }
+
+-- the first n elements, the nearest first; and what was read so far where they stand behind some attributes
+unfoldable pub earlier : List Element → ℕ → List Element
+earlier es zero = []
+earlier es (suc n) = getD es n none ∷ earlier es n
+
+abbrev pub behind : List Attribute → List Element → ℕ → Sofar
+behind attrs es n = record { attributes = attrs; before = earlier es n }
+
+-- their names lie in their 16 bytes
+abbrev pub ShortNames : List Element → ℕ → Type 0
+ShortNames es n = (i : ℕ) → i < n → getD es i none .len ≤ 16
+
+-- a tree that stands for the first elements of a list, each of which has passed its tests
+pub record Begun (all : List Element) (tree : Tree) : Type 0 where
+  pub stands : Stands tree (earlier all (tree .len))
+  pub few : tree .len ≤ 64
+  pub shallow : tree .depth ≤ 7
+  pub short-names : ShortNames all (tree .len)
+
+-- The elements of a list: the first refusal, with small numbers, or none
+pub record Refused (n m : ℕ) (r : Checked) : Type 0 where
+  pub number : r .number ≡ n
+  pub line : r .line ≡ m
+  pub from-three : 3 ≤ n
+  pub low : n ≤ 8
+  pub small : m ≤ 72
+
+pub record Passed (r : Checked) : Type 0 where
+  pub number : r .number ≡ 0
+
+abbrev pub CheckedAs : Checked → Result Sofar → Type 0
+CheckedAs r (refused n m) = Refused n m r
+CheckedAs r (given s) = Passed r
