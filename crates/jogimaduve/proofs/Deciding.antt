@@ -21,7 +21,7 @@ use Rattle.asking.specs.Asked.{AskedAs}
 use Rattle.reader.specs.declared.Reading.{Reading}
 use Rattle.reader.specs.Steps.{ReadAs}
 use Rattle.jogimaduve.specs.Told.{told}
-use Rattle.jogimaduve.proofs.FileRead.{file-refused, file-read}
+use Rattle.reader.proofs.FileRead.{file-refused, file-read}
 
 module _ (f table places : List ℕ) (r : Reading) (is-read : ReadAs f table places r (read f)) where
   -- a file that is refused

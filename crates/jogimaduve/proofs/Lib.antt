@@ -1,5 +1,4 @@
 -- Laws that the proofs of the operations cite.
-mod FileRead
 mod Answering
 mod Deciding
 mod Shaping

@@ -4,7 +4,7 @@ use Prim.Native.Nat.{ℕ, zero, suc, _+_, _-_, _≤_, _<_}
 use native.Mathlib.Nat.{le-trans}
 use native.Mathlib.Omega.{arith}
 use mathlib.Core.List.{List, [], _∷_, map}
-use lib.ListN.{length, take, drop, getD, length-reverse}
+use lib.ListN.{length, take, drop, getD}
 use lib.Seq.{drop-cons}
 use Rattle.meaning.specs.Text.{Bytes, tab}
 use Rattle.meaning.specs.Model.{Policy, choices, sizes, product, given}
@@ -16,13 +16,13 @@ use Rattle.laws.proofs.Answers.{positive}
 use Rattle.flags.specs.declared.Shape.{Shape}
 use Rattle.flags.specs.Ready.{countsOf, Ready}
 use Rattle.layout.specs.declared.Attributes.{Attributes}
-use Rattle.layout.specs.Places.{part, elementsTo, attributesFrom, attributesOf, AllStanding, lineStart}
+use Rattle.layout.specs.Places.{part, attributesFrom, attributesOf, AllStanding, lineStart}
 use Rattle.layout.proofs.Laws.{attributes-length}
 use Rattle.trimming.specs.Copied.{Copies}
-use Rattle.trimming.proofs.Table.{elements-length}
 use Rattle.trimming.proofs.Tabled.{root-word}
 use Rattle.reader.specs.declared.Reading.{Reading}
 use Rattle.reader.specs.Steps.{Holds}
+use Rattle.reader.proofs.FileRead.{elements-are, few}
 use Rattle.jogimaduve.specs.Told.{shapeOf}
 
 -- The counts of the attributes are those of their values
@@ -62,17 +62,11 @@ start-below f k (suc d) =
     rw later (le-trans (start-below f k d) (start-rises f (k + d)))
 
 module _ (f table places : List ℕ) (r : Reading) (p : Policy) (h : read f ≡ given p) (holds : Holds f table places r p) where
-  pub elements-are : length (p .elements) ≡ r .elements
-  elements-are = ap length (holds .elements) ∙ length-reverse (elementsTo f table places (r .elements)) ∙ elements-length f table places (r .elements)
-
   pub attributes-are : length (p .attributes) ≡ r .attributes .len
   attributes-are = ap length (holds .attributes) ∙ attributes-length f (r .attributes)
 
   pub sizes-are : countsOf (shapeOf r) ≡ sizes (p .attributes)
   sizes-are = counts-are f (r .attributes) (holds .spaced .standing) ∙ ap sizes (sym (holds .attributes))
-
-  pub few : r .elements ≤ 64
-  few = omega (arith, bounded f p h .few-elements, elements-are)
 
   space-is : product (countsOf (shapeOf r)) ≡ r .space
   space-is = ap product sizes-are ∙ ap (λ attrs. product (sizes attrs)) (holds .attributes) ∙ sym (holds .space-is)
@@ -80,11 +74,11 @@ module _ (f table places : List ℕ) (r : Reading) (p : Policy) (h : read f ≡ 
   pub ready : (s : Shape) → s ≡ shapeOf r → (struck : List ℕ) → 64 ≤ length struck → getD struck 0 0 ≡ 0 → Ready table struck s
   ready s shaped struck room first = subst (Ready table struck) (sym shaped)
       (record {
-        rows = omega (arith, holds .rooms .rows, few);
-        flags = omega (arith, few);
+        rows = omega (arith, holds .rooms .rows, few f table places r p h holds);
+        flags = omega (arith, few f table places r p h holds);
         some = holds .some;
-        few = few;
-        root = root-word f p h table places (r .elements) (holds .elements) elements-are (countsOf (shapeOf r)) sizes-are (holds .some);
+        few = few f table places r p h holds;
+        root = root-word f p h table places (r .elements) (holds .elements) (elements-are f table places r p h holds) (countsOf (shapeOf r)) sizes-are (holds .some);
         stays = first;
         attributes = holds .spaced .standing .few;
         all = space-is;
@@ -98,7 +92,7 @@ module _ (f table places : List ℕ) (r : Reading) (p : Policy) (h : read f ≡ 
       record {
         some = holds .some;
         room = holds .rooms .named .room;
-        flags = omega (arith, few);
+        flags = omega (arith, few f table places r p h holds);
         rising = λ i l. let next : a + (i + 1) ≡ suc (a + i) = omega arith in
             rw (holds .lined .starts i (omega arith), holds .lined .starts (i + 1) l, next) (start-rises f (a + i));
         inside = λ i l. let whole : a + i + (r .elements - i) ≡ a + r .elements = omega arith in

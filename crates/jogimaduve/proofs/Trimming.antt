@@ -22,12 +22,12 @@ use Rattle.trimming.proofs.Tabled.{trimming-is}
 use Rattle.trimming.proofs.Placed.{text-copied}
 use Rattle.reader.specs.declared.Reading.{Reading}
 use Rattle.reader.specs.Steps.{Holds, ReadAs}
-use Rattle.jogimaduve.proofs.FileRead.{file-refused}
+use Rattle.reader.proofs.FileRead.{file-refused, elements-are, few}
 use Rattle.reporting.specs.Found.{none-struck}
 use Rattle.reporting.proofs.StruckText.{none-clear}
 use Rattle.jogimaduve.specs.Told.{told, textTold, shapeOf}
 use Rattle.jogimaduve.proofs.Answering.{text-told}
-use Rattle.jogimaduve.proofs.Shaping.{elements-are, attributes-are, sizes-are, few}
+use Rattle.jogimaduve.proofs.Shaping.{attributes-are, sizes-are}
 
 -- A file that is refused
 module _ (f table places : List ℕ) (r : Reading) (is-read : ReadAs f table places r (read f)) (out : Bytes) (h : r .number ≡ 0 → ⊥) where

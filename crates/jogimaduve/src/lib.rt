@@ -3,22 +3,11 @@ use flags::Shape;
 use meaning::Answer;
 use reader::Reading;
 ghost use mathlib.Core.Path.{_≡_};
-ghost use Prim.Native.Nat.{_≤_, _<_};
+ghost use Prim.Native.Nat.{_<_};
 ghost use Rattle.meaning.specs.Operations.{decideAnswer, trimAnswer, trimLent, reportAnswer, reportLent};
 ghost use Rattle.flags.specs.Decided.{trimmingAt};
 ghost use Rattle.flags.specs.Ready.{countsOf, Ready};
-ghost use Rattle.jogimaduve.specs.Told.{told, textTold, shapeOf};
-
-// The answer of a file that was refused.
-fn refusal(reading: Reading) -> Answer
-    requires { ⌜ (reading .number ≤ 9) × (reading .second ≤ 16385) ⌝ }
-    ensures { λ r. ⌜ r ≡ told (reading .number) (reading .second) ⌝ }
-{
-    Answer {
-        number: reading.number as u32,
-        second: reading.second as u32,
-    }
-}
+ghost use Rattle.jogimaduve.specs.Told.{textTold, shapeOf};
 
 // The shape of the policy that was read.
 fn shape_of(reading: Reading) -> Shape
@@ -60,7 +49,7 @@ pub extern "C" fn jogimaduve_decide(file: &[u8], request: &[u8]) -> Answer
     let mut places = [0usize; 128];
     let reading = reader::read(file, &mut table, &mut places);
     if reading.number != 0 {
-        return refusal(reading);
+        return reader::refusal(reading);
     }
     let attributes = reading.attributes;
     let asked = asking::request_line(file, attributes, request);
@@ -101,7 +90,7 @@ pub extern "C" fn jogimaduve_trim(file: &[u8], out: &mut [u8]) -> Answer
     let mut places = [0usize; 128];
     let reading = reader::read(file, &mut table, &mut places);
     if reading.number != 0 {
-        return refusal(reading);
+        return reader::refusal(reading);
     }
     let n = reading.elements;
     let mut struck = [0u8; 64];
@@ -125,7 +114,7 @@ pub extern "C" fn jogimaduve_report(file: &[u8], out: &mut [u8]) -> Answer
     let mut places = [0usize; 128];
     let reading = reader::read(file, &mut table, &mut places);
     if reading.number != 0 {
-        return refusal(reading);
+        return reader::refusal(reading);
     }
     let room = out.len();
     let needed = reporting::report(file, &table, &places, shape_of(reading), out);

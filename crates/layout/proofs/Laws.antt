@@ -12,6 +12,7 @@ use borrow.Author.Tests.{eq-eqb}
 use Rattle.meaning.specs.Text.{Bytes}
 use Rattle.meaning.specs.Model.{padded, nameOf, Policy}
 use Rattle.meaning.specs.Deciding.{matches, childReplies, firstDecision, decide}
+use Rattle.meaning.specs.Claims.{All}
 use Rattle.decisions.specs.Table.{wordAt, elementAt, left, before}
 use Rattle.laws.proofs.Types.{rule, Element}
 use Rattle.layout.specs.declared.Attributes.{Attributes}
@@ -123,6 +124,21 @@ module _ (f : Bytes) (places : List ℕ) (n start end : ℕ) (room : 2 * n + 2 �
         next = behind ∙ ap lines (omega arith);
         starts = λ i l. ⊎-elim (λ (e : i ≡ n). rw (e, start-new) (lined .next)) (λ (below : i < n). start-old i below ∙ lined .starts i below) (eq-or-lt-of-le (last i l));
       }
+
+-- The elements: how many there are, and what holds of all holds of each
+module _ (f : Bytes) (table places : List ℕ) where
+  pub elements-length : (n : ℕ) → length (elementsTo f table places n) ≡ n
+  unfolding elementsTo
+  elements-length zero = refl
+  elements-length (suc n) = ap suc (elements-length n)
+
+  pub of-each : (P : Element → Type 0) (n : ℕ) → All P (elementsTo f table places n) → (i : ℕ) → i < n → P (elementIn f table places i)
+  unfolding elementsTo
+  of-each P zero all i l = absurd (omega arith)
+  of-each P (suc n) all i l = ⊎-elim (λ (e : i ≡ n). rw e (all .0)) (λ (below : i < n). of-each P n (all .1) i below) (eq-or-lt-of-le (last i l))
+    where
+      last : (i : ℕ) → i < suc n → i ≤ n
+      last i l = omega arith
 
 -- The names of the elements
 pub element-names : (f : Bytes) (table places : List ℕ) (n : ℕ) → map nameOf (elementsTo f table places n) ≡ namesTo f places n

@@ -89,6 +89,18 @@ pub record Named (f : Bytes) (places : List ℕ) (n : ℕ) : Type 0 where
   pub starts : (i : ℕ) → i < n → startOf places i + 4 ≤ getD places (2 * i + 1) 0
   pub ends : (i : ℕ) → i < n → getD places (2 * i + 1) 0 ≤ length f
 
+-- element i has a name of at most 16 bytes in the file
+pub record NameAt (f : Bytes) (places : List ℕ) (i : ℕ) : Type 0 where
+  pub room : 2 * i + 2 ≤ length places
+  pub starts : startOf places i + 4 ≤ getD places (2 * i + 1) 0
+  pub ends : getD places (2 * i + 1) 0 ≤ length f
+  pub short : getD places (2 * i + 1) 0 ≤ startOf places i + 4 + 16
+
+-- each of at most 64 elements has
+pub record Naming (f : Bytes) (places : List ℕ) (n : ℕ) : Type 0 where
+  pub few : n ≤ 64
+  pub each : (i : ℕ) → i < n → NameAt f places i
+
 -- where line k of a file starts, counted from 0: behind the newline that ends the line before it
 unfoldable pub lineStart : Bytes → ℕ → ℕ
 lineStart f zero = 0

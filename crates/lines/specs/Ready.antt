@@ -1,21 +1,9 @@
 -- What the functions ask of the places that are lent.
-use Prim.Native.Nat.{ℕ, _+_, _*_, _≤_, _<_}
+use Prim.Native.Nat.{ℕ, _≤_, _<_}
 use mathlib.Core.List.{List}
 use lib.ListN.{length, getD}
 use Rattle.meaning.specs.Text.{Bytes}
-use Rattle.layout.specs.Places.{startOf}
-
--- element i has a name of at most 16 bytes in the file
-pub record NameAt (f : Bytes) (places : List ℕ) (i : ℕ) : Type 0 where
-  pub room : 2 * i + 2 ≤ length places
-  pub starts : startOf places i + 4 ≤ getD places (2 * i + 1) 0
-  pub ends : getD places (2 * i + 1) 0 ≤ length f
-  pub short : getD places (2 * i + 1) 0 ≤ startOf places i + 4 + 16
-
--- each of at most 64 elements has
-pub record Naming (f : Bytes) (places : List ℕ) (n : ℕ) : Type 0 where
-  pub few : n ≤ 64
-  pub each : (i : ℕ) → i < n → NameAt f places i
+use Rattle.layout.specs.Places.{NameAt}
 
 -- n parents, and a place for each pair of elements
 pub record Paired (parents pairs : List ℕ) (n space : ℕ) : Type 0 where

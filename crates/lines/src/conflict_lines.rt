@@ -2,9 +2,10 @@
 use crate::fields;
 ghost use Prim.Native.Nat.{_+_, _≤_, _<_};
 ghost use lib.ListN.{length};
+ghost use Rattle.layout.specs.Places.{NameAt, Naming};
 ghost use Rattle.printing.specs.Wrote.{Wrote};
 ghost use Rattle.lines.specs.Lines.{conflictLine, laterLines, pairLines, conflictText};
-ghost use Rattle.lines.specs.Ready.{NameAt, Naming, Paired};
+ghost use Rattle.lines.specs.Ready.{Paired};
 
 // The line of a conflict of j and k under i, if a request shows it.
 fn put_conflict(

@@ -4,10 +4,9 @@ ghost use Prim.Native.Nat.{_+_, _*_, _-_, _≤_};
 ghost use Rattle.meaning.specs.Text.{tab, newline};
 ghost use Rattle.meaning.specs.Model.{decisionText};
 ghost use Rattle.meaning.specs.Report.{orDash};
-ghost use Rattle.layout.specs.Places.{nameIn};
+ghost use Rattle.layout.specs.Places.{nameIn, NameAt, Naming};
 ghost use Rattle.printing.specs.Wrote.{Wrote};
 ghost use Rattle.lines.specs.Lines.{decisionFrom, namesOf, laterNames};
-ghost use Rattle.lines.specs.Ready.{NameAt, Naming};
 
 // The name of element i.
 fn put_name(file: &[u8], places: &[usize], i: usize, out: &mut [u8], at: usize) -> usize

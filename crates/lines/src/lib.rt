@@ -6,9 +6,10 @@ mod segment_lines;
 
 ghost use Prim.Native.Nat.{_<_};
 ghost use lib.ListN.{take};
+ghost use Rattle.layout.specs.Places.{Naming};
 ghost use Rattle.printing.specs.Wrote.{Wrote};
 ghost use Rattle.lines.specs.Lines.{reportText};
-ghost use Rattle.lines.specs.Ready.{Naming, Paired, Ordered, Listed};
+ghost use Rattle.lines.specs.Ready.{Paired, Ordered, Listed};
 ghost use Rattle.lines.specs.Fitted.{Fitted};
 
 // The whole report.

@@ -2,9 +2,10 @@
 use crate::fields;
 ghost use Prim.Native.Nat.{_+_, _≤_, _<_};
 ghost use lib.ListN.{length, take};
+ghost use Rattle.layout.specs.Places.{NameAt, Naming};
 ghost use Rattle.printing.specs.Wrote.{Wrote};
 ghost use Rattle.lines.specs.Lines.{struckLine, struckText, keptLine, keptText};
-ghost use Rattle.lines.specs.Ready.{NameAt, Naming, Ordered};
+ghost use Rattle.lines.specs.Ready.{Ordered};
 
 // The line of element i, which is struck.
 fn put_struck_rule(file: &[u8], places: &[usize], i: u8, out: &mut [u8], at: usize) -> usize

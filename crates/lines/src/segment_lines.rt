@@ -2,9 +2,9 @@
 use crate::fields;
 ghost use Prim.Native.Nat.{_+_, _≤_, _<_};
 ghost use lib.ListN.{length};
+ghost use Rattle.layout.specs.Places.{Naming};
 ghost use Rattle.printing.specs.Wrote.{Wrote};
 ghost use Rattle.lines.specs.Lines.{segmentLine, segmentText};
-ghost use Rattle.lines.specs.Ready.{Naming};
 
 // The line of request m's segment, if m is its first request: then the size is not 0.
 fn put_segment(

@@ -1,4 +1,4 @@
--- Laws that the proofs of the reader cite. Those of the lines are for the crate of the header too.
+-- Laws that the proofs of the reader cite; those of lines serve the crate of the header too, those of a file that was read all who read.
 mod Parts
 mod Ends
 pub mod LineKinds
@@ -9,3 +9,4 @@ pub mod TreeLines
 mod TreeSteps
 pub mod Remaining
 mod Loop
+pub mod FileRead

@@ -3,6 +3,7 @@ mod tree_lines;
 
 use layout::Attributes;
 use layout::Tree;
+use meaning::Answer;
 use syntax::LineKind;
 ghost use mathlib.Core.Path.{_≡_};
 ghost use mathlib.Core.Bool.{cond};
@@ -243,5 +244,16 @@ pub fn read(file: &[u8], table: &mut [u16], places: &mut [usize]) -> Reading
             };
         }
         st = step.state;
+    }
+}
+
+// The answer of a file that was refused.
+pub fn refusal(reading: Reading) -> Answer
+    requires { ⌜ (reading .number ≤ 9) × (reading .second ≤ 16385) ⌝ }
+    ensures { λ r. ⌜ r ≡ record { number = reading .number; second = reading .second } ⌝ }
+{
+    Answer {
+        number: reading.number as u32,
+        second: reading.second as u32,
     }
 }

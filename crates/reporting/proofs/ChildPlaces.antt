@@ -14,7 +14,8 @@ use Rattle.laws.proofs.Bools.{Test, passed, failed, test}
 use Rattle.laws.proofs.Search.{counting-only}
 use Rattle.decisions.specs.Table.{depthOf, elementAt, parentOf as parentIn, placeOr}
 use Rattle.layout.specs.Places.{elementIn, elementsTo}
-use Rattle.trimming.proofs.Table.{elements-length, element-at}
+use Rattle.layout.proofs.Laws.{elements-length}
+use Rattle.trimming.proofs.Table.{element-at}
 use Rattle.trimming.proofs.Tabled.{last-alike}
 use Rattle.laws.proofs.Lists.{keep-alike}
 

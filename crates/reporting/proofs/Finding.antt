@@ -14,9 +14,10 @@ use Rattle.flags.specs.declared.Shape.{Shape}
 use Rattle.flags.specs.Decided.{onward, shownAt, nextAt, trimmingAt}
 use Rattle.flags.specs.Ready.{countsOf, Ready, Holds}
 use Rattle.flags.specs.Trims.{Trims}
+use Rattle.layout.specs.Places.{Naming}
 use Rattle.segments.specs.Words.{applyingAt, givingAt, sizeAt}
 use Rattle.segments.specs.Pairs.{Pairs}
-use Rattle.lines.specs.Ready.{Naming, Ordered}
+use Rattle.lines.specs.Ready.{Ordered}
 use Rattle.reporting.specs.Found.{none-struck, trimmedAt, SegmentsFound, RulesFound}
 use Rattle.reporting.proofs.Searched.{laid-at}
 use Rattle.reporting.proofs.StruckText.{order-below}

@@ -5,7 +5,7 @@ ghost use mathlib.Core.List.{_++_};
 ghost use Prim.Native.Nat.{_≤_};
 ghost use lib.ListN.{length, drop};
 ghost use Rattle.flags.specs.Ready.{countsOf, Ready, Holds};
-ghost use Rattle.lines.specs.Ready.{Naming};
+ghost use Rattle.layout.specs.Places.{Naming};
 ghost use Rattle.reporting.specs.Found.{none-struck, SegmentsFound, RulesFound};
 ghost use Rattle.reporting.specs.Reported.{Reported};
 

@@ -16,7 +16,7 @@ use Rattle.meaning.specs.Report.{nameIn}
 use Rattle.laws.proofs.Bools.{Test, passed, failed, test}
 use Rattle.decisions.specs.Table.{left}
 use Rattle.layout.specs.Places.{nameIn as nameInFile, elementIn, elementsTo}
-use Rattle.layout.proofs.Laws.{bare, decision-bare, map-reverse, elements-bare, all-left}
+use Rattle.layout.proofs.Laws.{elements-length, bare, decision-bare, map-reverse, elements-bare, all-left}
 use Rattle.trimming.specs.Flags.{leftFrom, leftPolicy}
 use Rattle.trimming.proofs.Left.{left-map}
 
@@ -28,11 +28,6 @@ left-again table struck i (suc n) = rw (left-again table struck (i + 1) n)
 
 -- elements that were read, by their places
 module _ (f : Bytes) (table places : List ℕ) where
-  pub elements-length : (n : ℕ) → length (elementsTo f table places n) ≡ n
-  unfolding elementsTo
-  elements-length zero = refl
-  elements-length (suc n) = ap suc (elements-length n)
-
   elements-at : {A : Type 0} (F : Element → A) (d : A) (n i : ℕ) → i < n → getD (map F (reverse (elementsTo f table places n))) i d ≡ F (elementIn f table places i)
   unfolding elementsTo
   elements-at F d zero i l = absurd (omega arith)
@@ -44,7 +39,7 @@ module _ (f : Bytes) (table places : List ℕ) where
       before = reverse (elementsTo f table places n)
 
       size : length (map F before) ≡ n
-      size = length-map before F ∙ length-reverse (elementsTo f table places n) ∙ elements-length n
+      size = length-map before F ∙ length-reverse (elementsTo f table places n) ∙ elements-length f table places n
 
       go : Test (eqb i n) → (i < n → getD (map F before) i d ≡ F (elementIn f table places i)) → getD (map F before ++ (F (elementIn f table places n) ∷ [])) i d ≡ F (elementIn f table places i)
       go (passed e) earlier = rw (eqb-true i n e) (getD-at (map F before) (F (elementIn f table places n)) [] d n size)

@@ -4,7 +4,7 @@ use native.Mathlib.Omega.{arith}
 use Prim.Native.Nat.{_≤_}
 use lib.ListN.{getD-replicate}
 use borrow.Author.Tests.{not-true, not-false}
-use Rattle.jogimaduve.proofs.FileRead.{small-numbers, file-read}
+use Rattle.reader.proofs.FileRead.{small-numbers, file-read}
 use Rattle.jogimaduve.proofs.Deciding.{refusal-answered, request-refused, small-place, request-few, request-decided}
 use borrow.Author.Needs.{needs}
 use Rattle.jogimaduve.proofs.jogimaduve_decide.Statement.{statement}
@@ -14,8 +14,8 @@ use Rattle.jogimaduve.proofs.jogimaduve_decide.Lts as lts
 use Rattle.asking.proofs.request_line.Reads as request-line-reads
 use Rattle.decisions.proofs.decide.Reads as decide-reads
 use Rattle.decisions.proofs.number.Reads as number-reads
-use Rattle.jogimaduve.proofs.refusal.Reads as refusal-reads
 use Rattle.reader.proofs.read.Reads as read-reads
+use Rattle.reader.proofs.refusal.Reads as refusal-reads
 
 slice-aggregate-read : tie.Need-slice-aggregate-read
 slice-aggregate-read c = search needs

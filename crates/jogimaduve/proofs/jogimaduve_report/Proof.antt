@@ -1,19 +1,19 @@
 -- `jogimaduve_report` meets its contract: the file's refusal, a buffer too short, or the report.
 use mathlib.Core.Path.{refl, sym, ap, _∙_, subst}
 use native.Mathlib.Omega.{arith}
-use Rattle.lines.specs.Ready.{Naming}
-use Rattle.jogimaduve.proofs.FileRead.{small-numbers, file-read}
+use Rattle.layout.specs.Places.{Naming}
+use Rattle.reader.proofs.FileRead.{small-numbers, file-read, naming}
 use Rattle.jogimaduve.proofs.Shaping.{ready}
-use Rattle.jogimaduve.proofs.Reporting.{refusal-answered, refusal-lent, naming, report-answered, report-lent}
+use Rattle.jogimaduve.proofs.Reporting.{refusal-answered, refusal-lent, report-answered, report-lent}
 use borrow.Author.Needs.{needs}
 use Rattle.jogimaduve.proofs.jogimaduve_report.Statement.{statement}
 use Rattle.jogimaduve.proofs.jogimaduve_report.Tie as tie
 use Rattle.jogimaduve.proofs.jogimaduve_report.Reads as reads
 use Rattle.jogimaduve.proofs.jogimaduve_report.Lts as lts
-use Rattle.jogimaduve.proofs.refusal.Reads as refusal-reads
 use Rattle.jogimaduve.proofs.shape_of.Reads as shape-of-reads
 use Rattle.jogimaduve.proofs.text_answer.Reads as text-answer-reads
 use Rattle.reader.proofs.read.Reads as read-reads
+use Rattle.reader.proofs.refusal.Reads as refusal-reads
 use Rattle.reporting.proofs.report.Reads as report-reads
 
 slice-aggregate-read : tie.Need-slice-aggregate-read

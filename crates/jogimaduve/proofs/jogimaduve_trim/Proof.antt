@@ -1,7 +1,7 @@
 -- `jogimaduve_trim` meets its contract: the file's refusal, a buffer too short, or the trimmed text.
 use mathlib.Core.Path.{refl, _∙_}
 use native.Mathlib.Omega.{arith}
-use Rattle.jogimaduve.proofs.FileRead.{small-numbers, file-read}
+use Rattle.reader.proofs.FileRead.{small-numbers, file-read}
 use Rattle.jogimaduve.proofs.Shaping.{ready, copies}
 use Rattle.jogimaduve.proofs.Trimming.{refusal-answered, refusal-lent, small-text, trim-answered, short-lent, text-lent}
 use borrow.Author.Needs.{needs}
@@ -9,11 +9,11 @@ use Rattle.jogimaduve.proofs.jogimaduve_trim.Statement.{statement}
 use Rattle.jogimaduve.proofs.jogimaduve_trim.Tie as tie
 use Rattle.jogimaduve.proofs.jogimaduve_trim.Reads as reads
 use Rattle.jogimaduve.proofs.jogimaduve_trim.Lts as lts
-use Rattle.jogimaduve.proofs.refusal.Reads as refusal-reads
 use Rattle.jogimaduve.proofs.shape_of.Reads as shape-of-reads
 use Rattle.jogimaduve.proofs.strike.Reads as strike-reads
 use Rattle.jogimaduve.proofs.text_answer.Reads as text-answer-reads
 use Rattle.reader.proofs.read.Reads as read-reads
+use Rattle.reader.proofs.refusal.Reads as refusal-reads
 use Rattle.trimming.proofs.copy_text.Reads as copy-text-reads
 use Rattle.trimming.proofs.text_length.Reads as text-length-reads
 
