@@ -1,0 +1,101 @@
+-- The elements of a file that was read, listed one by one; and what a file is listed as.
+use mathlib.Core.Path.{_≡_, refl, sym, ap, ap₂, _∙_}
+use Prim.Native.Nat.{ℕ, _+_, _≤_, _<_}
+use native.Mathlib.Nat.{le-antisymm}
+use native.Mathlib.Numerals.{add-one}
+use native.Mathlib.Omega.{arith}
+use mathlib.Core.List.{List, [], _∷_, _++_, reverse, reverse-cons}
+use lib.ListN.{length, length-set, length-replicate, length-reverse}
+use borrow.Author.Tests.{lt-ltb, le-ltb}
+use Rattle.meaning.specs.declared.Answer.{Answer}
+use Rattle.meaning.specs.declared.Element.{Element}
+use Rattle.meaning.specs.Text.{Bytes}
+use Rattle.meaning.specs.Model.{Policy, refused, given}
+use Rattle.meaning.specs.Reading.{read}
+use Rattle.meaning.specs.Writing.{listFile}
+use Rattle.meaning.specs.Operations.{answered}
+use Rattle.decisions.specs.Table.{elementAt}
+use Rattle.layout.specs.Places.{elementIn, elementsTo}
+use Rattle.layout.proofs.Laws.{elements-length}
+use Rattle.reader.specs.declared.Reading.{Reading}
+use Rattle.reader.specs.Steps.{Holds, ReadAs}
+use Rattle.reader.proofs.FileRead.{file-refused, elements-are, few, good, naming}
+use Rattle.elements.specs.declared.Elements.{Elements}
+use Rattle.elements.specs.Listed.{blank, noElements, withElement, elementsOf}
+use Rattle.elements.proofs.Listing.{one-more}
+use Rattle.lists.specs.Listed.{Ready, givenOr, Listed}
+
+-- the first i
+pub record Upto (f : Bytes) (table places : List ℕ) (all : Elements) (i : ℕ) : Type 0 where
+  pub room : length (all .all) ≡ 65
+  pub count : all .len ≡ i
+  pub listed : elementsOf all ≡ reverse (elementsTo f table places i)
+
+module _ (f : Bytes) (table places : List ℕ) where
+  pub upto-none : (all : Elements) → all ≡ noElements → Upto f table places all 0
+  unfolding elementsTo
+  upto-none all none =
+      record {
+        room = ap (λ l. length (l .all)) none ∙ length-replicate 65 blank;
+        count = ap (λ l. l .len) none;
+        listed = ap elementsOf none;
+      }
+
+  pub upto-next : (all : Elements) (i : ℕ) → Upto f table places all i → i < 65 → (e : Element) → e ≡ elementIn f table places i → (more : Elements) → more ≡ withElement all e → Upto f table places more (i + 1)
+  unfolding elementsTo
+  upto-next all i upto few e e-is more more-is =
+      record {
+        room = ap (λ l. length (l .all)) more-is ∙ length-set (all .all) (all .len) e ∙ upto .room;
+        count = ap (λ l. l .len) more-is ∙ ap (λ n. n + 1) (upto .count);
+        listed = ap elementsOf more-is ∙ one-more all e (omega (arith, upto .room, upto .count))
+            ∙ ap₂ (λ (es : List Element) (x : Element). es ++ (x ∷ [])) (upto .listed) e-is
+            ∙ sym (reverse-cons (elementIn f table places i) (elementsTo f table places i))
+            ∙ ap (λ n. reverse (elementsTo f table places n)) (sym (add-one i));
+      }
+
+  pub upto-all : (all : Elements) (i n : ℕ) → Upto f table places all i → i ≤ n → n ≤ i → (elementsOf all ≡ reverse (elementsTo f table places n)) × (all .len ≡ n)
+  upto-all all i n upto within over = let whole = le-antisymm within over in (upto .listed ∙ ap (λ k. reverse (elementsTo f table places k)) whole, upto .count ∙ whole)
+
+-- A refusal, with no elements
+none-listed : (f : Bytes) (room n m : ℕ) → listFile room f ≡ refused n m → (a : Answer) → a ≡ record { number = n; second = m } → (es : Elements) → es ≡ noElements → Listed f room (record { answer = a; elements = es })
+none-listed f room n m h a a-is es none =
+    record {
+      answer = a-is ∙ ap (answered length) (sym h);
+      elements = ap elementsOf none ∙ ap givenOr (sym h);
+      count = ap (λ l. l .len) none ∙ ap (λ x. length (givenOr x)) (sym h);
+      few = rw none (omega arith);
+    }
+
+-- of the file
+pub refusal-listed : (f table places : List ℕ) (r : Reading) → ReadAs f table places r (read f) → (r .number ≡ 0 → ⊥) → (room : ℕ) (a : Answer) → a ≡ record { number = r .number; second = r .second }
+    → (es : Elements) → es ≡ noElements → Listed f room (record { answer = a; elements = es })
+unfolding listFile
+refusal-listed f table places r is-read h room a a-is es none = none-listed f room (r .number) (r .second) (rw (file-refused f table places r is-read h)) a a-is es none
+
+module _ (f table places : List ℕ) (r : Reading) (p : Policy) (h : read f ≡ given p) (holds : Holds f table places r p) where
+  -- of a short list
+  pub short-listed : (room : ℕ) → room < r .elements → (es : Elements) → es ≡ noElements → Listed f room (record { answer = record { number = 12; second = r .elements }; elements = es })
+  unfolding listFile
+  short-listed room short es none = none-listed f room 12 (r .elements) (rw (h, elements-are f table places r p h holds, lt-ltb room (r .elements) short)) _ refl es none
+
+  pub ready : Ready f table places (r .elements)
+  unfolding elementIn elementAt
+  ready = record { rows = omega (arith, holds .rooms .rows, few f table places r p h holds); naming = naming f table places r p h holds; shallow = λ i l. good f table places r p h holds i l .shallow }
+
+  given-all : (room : ℕ) → r .elements ≤ room → listFile room f ≡ given (reverse (elementsTo f table places (r .elements)))
+  unfolding listFile
+  given-all room enough = rw (h, elements-are f table places r p h holds, le-ltb room (r .elements) enough, holds .elements)
+
+  -- the elements, where there is room
+  pub whole-listed : (room : ℕ) → r .elements ≤ room → (es : Elements) → elementsOf es ≡ reverse (elementsTo f table places (r .elements)) → es .len ≡ r .elements
+      → Listed f room (record { answer = record { number = 0; second = r .elements }; elements = es })
+  whole-listed room enough es all count =
+      record {
+        answer = ap (λ n. record { number = 0; second = n }) (sym size) ∙ ap (answered length) (sym (given-all room enough));
+        elements = all ∙ ap givenOr (sym (given-all room enough));
+        count = count ∙ sym size ∙ ap (λ x. length (givenOr x)) (sym (given-all room enough));
+        few = omega (arith, count, few f table places r p h holds);
+      }
+    where
+      size : length (reverse (elementsTo f table places (r .elements))) ≡ r .elements
+      size = length-reverse (elementsTo f table places (r .elements)) ∙ elements-length f table places (r .elements)

@@ -1,0 +1,31 @@
+-- A file's elements by value, for a list of so many places.
+use Prim.Native.Nat.{ℕ, _*_, _≤_, _<_}
+use mathlib.Core.List.{List, []}
+use mathlib.Core.Path.{_≡_}
+use lib.ListN.{length}
+use Rattle.meaning.specs.declared.Element.{Element}
+use Rattle.meaning.specs.Text.{Bytes}
+use Rattle.meaning.specs.Model.{Result, refused, given}
+use Rattle.meaning.specs.Writing.{listFile}
+use Rattle.meaning.specs.Operations.{answered}
+use Rattle.decisions.specs.Table.{depthOf}
+use Rattle.layout.specs.Places.{Naming}
+use Rattle.elements.specs.Listed.{elementsOf}
+use Rattle.lists.specs.declared.Listing.{Listing}
+
+-- what the table and the places hold of n elements: a row and a name each, and a depth that is no number of a refused file
+pub record Ready (f : Bytes) (table places : List ℕ) (n : ℕ) : Type 0 where
+  pub rows : 8 * n ≤ length table
+  pub naming : Naming f places n
+  pub shallow : (i : ℕ) → i < n → depthOf table i ≤ 7
+
+-- the elements given; none by a refusal
+abbrev pub givenOr : Result (List Element) → List Element
+givenOr (refused n m) = []
+givenOr (given es) = es
+
+pub record Listed (f : Bytes) (room : ℕ) (r : Listing) : Type 0 where
+  pub answer : r .answer ≡ answered length (listFile room f)
+  pub elements : elementsOf (r .elements) ≡ givenOr (listFile room f)
+  pub count : r .elements .len ≡ length (givenOr (listFile room f))
+  pub few : r .elements .len ≤ 64
