@@ -63,7 +63,7 @@ fn attribute_refusal(
     if !text::all_names(text::from_field(line, 1)) {
         return 3;
     }
-    if layout::known_attribute(file, a, text::field(line, 1)) {
+    if layout::known_attribute(file, a, fields::field(line, 1)) {
         return 4;
     }
     if !text::all_distinct(text::from_field(line, 2)) {
@@ -99,7 +99,7 @@ pub fn attribute_line(file: &[u8], st: State, end: usize, fields: usize) -> Step
     if refusal != 0 {
         return Step { refusal, state: st };
     }
-    let name = text::field(line, 1);
+    let name = fields::field(line, 1);
     let first = at + 3 + name.len();
     let values = fields - 2;
     let attributes = layout::with_attribute(a, at + 2, first, end, values);
@@ -123,7 +123,7 @@ pub fn line_shape(line: &[u8]) -> LineShape
             fields,
         };
     }
-    let kind = syntax::line_kind(text::field(line, 0));
+    let kind = syntax::line_kind(fields::field(line, 0));
     LineShape { kind, fields }
 }
 

@@ -40,7 +40,7 @@ fn element_refusal(
         → map nameOf (s .before) ≡ namesTo (now (file .entry)) (now (places .entry)) (tree .len)
         → r ≡ lowest (earlierTests s (getD (cut tab (now (line .entry))) 3 []) (elementFrom (s .attributes) kind (cut tab (now (line .entry)))))) ⌝ }
 {
-    let name = text::field(line, 2);
+    let name = fields::field(line, 2);
     if !text::is_name(name) {
         return 3;
     }
@@ -53,11 +53,11 @@ fn element_refusal(
     if a.len == 0 {
         return 6;
     }
-    let depth = syntax::depth_of(text::field(line, 1));
+    let depth = syntax::depth_of(fields::field(line, 1));
     if !layout::well_placed(kind, depth, tree) {
         return 6;
     }
-    if syntax::word_number(kind, text::field(line, 3)) == 6 {
+    if syntax::word_number(kind, fields::field(line, 3)) == 6 {
         return 7;
     }
     0
@@ -111,9 +111,9 @@ fn put_line(
     let at = st.at;
     let tree = st.tree;
     let attributes = st.attributes;
-    let depth = syntax::depth_of(text::field(line, 1));
-    let word = syntax::word_number(kind, text::field(line, 3));
-    let name = text::field(line, 2);
+    let depth = syntax::depth_of(fields::field(line, 1));
+    let word = syntax::word_number(kind, fields::field(line, 3));
+    let name = fields::field(line, 2);
     let row = Row {
         word: word as u16,
         depth: depth as u16,

@@ -5,11 +5,11 @@ use mathlib.Core.List.{List, [], _∷_}
 use mathlib.Core.Logic.{⊎-elim}
 use mathlib.Core.Option.{Option, none, some}
 use Prim.Native.Nat.{ℕ, suc, _+_, _-_, _≤_, _<_}
-use native.Mathlib.Nat.{eq-or-lt-of-le, add-zero}
+use native.Mathlib.Nat.{eq-or-lt-of-le}
 use native.Mathlib.Numerals.{add-one}
 use native.Mathlib.Omega.{arith}
-use lib.ListN.{length, getD, take, drop, length-drop, List·getD-eq-default}
-use lib.Seq.{drop-drop, getD-drop}
+use lib.ListN.{length, getD, take, drop, length-drop}
+use lib.Seq.{drop-drop}
 use Rattle.meaning.specs.Text.{Bytes, all, isNone, same, amongNames, repeated, cut, tab}
 use Rattle.meaning.specs.Deciding.{valueOf}
 use Rattle.laws.proofs.Bools.{Test, passed, failed, test, never}
@@ -59,19 +59,11 @@ module _ (s : Bytes) (at e : ℕ) (p : e ≡ at + length (getD (cut tab (drop at
 
   -- field n of the line s starts at `at`
   module _ (n : ℕ) (w : drop n (cut tab s) ≡ cut tab (drop at s)) where
-    pub this-field : e ≤ length s → getD (cut tab s) n [] ≡ take (e - at) (drop at s)
-    this-field q =
-        let f = ap (λ (fs : List Bytes). getD fs 0 []) (w ∙ piece-at tab s at e p q) in
-        rw (getD-drop, add-zero) at f
-
     pub next-field : e < length s → drop (n + 1) (cut tab s) ≡ cut tab (drop (e + 1) s)
     next-field l = sym (drop-drop 1 n (cut tab s)) ∙ ap (drop 1) (w ∙ piece-more tab s at e p l)
 
     last-field : e ≡ length s → length (cut tab s) ≤ n + 1
     last-field l = omega (arith, length-drop n (cut tab s), ap length (w ∙ piece-last tab s at e p l))
-
-    pub no-field : (k : ℕ) → e ≡ length s → n < k → getD (cut tab s) k [] ≡ []
-    no-field k l m = let few = last-field l in List·getD-eq-default (cut tab s) [] (omega arith)
 
     pub another-field : e ≤ length s → n + 1 < length (cut tab s) → e < length s
     another-field q m = ⊎-elim

@@ -60,6 +60,13 @@ module _ (b : ℕ) (xs : Bytes) (n : ℕ) (m : n ≡ length (getD (cut b xs) 0 [
 abbrev pub firstLength : ℕ → Bytes → ℕ
 firstLength b xs = length (getD (cut b xs) 0 [])
 
+pub first-within : (b : ℕ) (xs : Bytes) → firstLength b xs ≤ length xs
+first-within b xs = go (first-piece b xs)
+  where
+    go : FirstPiece b xs → firstLength b xs ≤ length xs
+    go (at-end c) = omega (arith, length-of-first c)
+    go (at-byte p ys i c) = omega (arith, length-of-first c, ap length i, length-append p (b ∷ ys))
+
 longer-first : (x : ℕ) (ps : List Bytes) → length (getD (longer x ps) 0 []) ≡ suc (length (getD ps 0 []))
 longer-first x [] = refl
 longer-first x (p ∷ ps) = refl

@@ -150,25 +150,6 @@ pub fn count_fields(line: &[u8]) -> usize
     ended + 1
 }
 
-// Field k of a line, or an empty text where it has fewer.
-pub fn field(line: &[u8], k: usize) -> &[u8]
-    ensures { λ r. ⌜ now r ≡ getD (cut tab (now (line .entry))) k [] ⌝ }
-{
-    let mut at = 0;
-    let mut n = 0;
-    loop {
-        let e = end_of(line, at, b'\t');
-        if n == k {
-            return &line[at..e];
-        }
-        if e == line.len() {
-            return &line[0..0];
-        }
-        at = e + 1;
-        n += 1;
-    }
-}
-
 // A line from its field k on.
 pub fn from_field(line: &[u8], k: usize) -> &[u8]
     requires { ⌜ k < length (cut tab (now line)) ⌝ }

@@ -14,7 +14,7 @@ use Rattle.layout.proofs.put_element.Reads as put-element-reads
 use Rattle.layout.proofs.with_element.Reads as with-element-reads
 use Rattle.syntax.proofs.depth_of.Reads as depth-of-reads
 use Rattle.syntax.proofs.word_number.Reads as word-number-reads
-use Rattle.text.proofs.field.Reads as field-reads
+use Rattle.fields.proofs.field.Reads as field-reads
 
 -- src/lib.rt:105:34
 field-requires : tie.Need-field-requires
