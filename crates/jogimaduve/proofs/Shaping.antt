@@ -1,54 +1,27 @@
 -- What a file that was read gives to trimming: the shape of its policy, and where its lines start.
-use mathlib.Core.Path.{_≡_, refl, sym, ap, ap₂, _∙_, subst}
+use mathlib.Core.Path.{_≡_, sym, ap, _∙_, subst}
 use Prim.Native.Nat.{ℕ, zero, suc, _+_, _-_, _≤_, _<_}
 use native.Mathlib.Nat.{le-trans}
 use native.Mathlib.Omega.{arith}
-use mathlib.Core.List.{List, [], _∷_, map}
-use lib.ListN.{length, take, drop, getD}
-use lib.Seq.{drop-cons}
-use Rattle.meaning.specs.Text.{Bytes, tab}
-use Rattle.meaning.specs.Model.{Policy, choices, sizes, product, given}
+use mathlib.Core.List.{List}
+use lib.ListN.{length, getD}
+use Rattle.meaning.specs.Text.{Bytes}
+use Rattle.meaning.specs.Model.{Policy, sizes, product, given}
 use Rattle.meaning.specs.Reading.{read}
-use Rattle.laws.proofs.Text.{Some, one-or-more, cut-some}
 use Rattle.laws.proofs.Bounds.{bounded}
 use Rattle.laws.proofs.Requests.{product-pos}
 use Rattle.laws.proofs.Answers.{positive}
 use Rattle.flags.specs.declared.Shape.{Shape}
 use Rattle.flags.specs.Ready.{countsOf, Ready}
-use Rattle.layout.specs.declared.Attributes.{Attributes}
-use Rattle.layout.specs.Places.{part, attributesFrom, attributesOf, AllStanding, lineStart}
+use Rattle.layout.specs.Places.{lineStart}
 use Rattle.layout.proofs.Laws.{attributes-length}
+use Rattle.layout.proofs.Counts.{counts-are}
 use Rattle.trimming.specs.Copied.{Copies}
 use Rattle.trimming.proofs.Tabled.{root-word}
 use Rattle.reader.specs.declared.Reading.{Reading}
 use Rattle.reader.specs.Steps.{Holds}
 use Rattle.reader.proofs.FileRead.{elements-are, few}
 use Rattle.jogimaduve.specs.Told.{shapeOf}
-
--- The counts of the attributes are those of their values
-some-piece : {ps : List Bytes} → Some ps → 1 ≤ length ps
-some-piece (one-or-more p ps) = omega arith
-
-get-inside : (xs : List ℕ) (i : ℕ) → 1 ≤ getD xs i 0 → i < length xs
-get-inside [] i l = absurd (omega arith)
-get-inside (x ∷ xs) zero l = omega arith
-get-inside (x ∷ xs) (suc i) l = let inside = get-inside xs i l in omega arith
-
-module _ (f : Bytes) (a : Attributes) (standing : AllStanding f a) where
-  count-at : (i : ℕ) → i < a .len → 1 ≤ getD (a .counts) i 0
-  count-at i l = rw (standing .each i l .count) (some-piece (cut-some tab (part f (getD (a .values) i 0) (getD (a .ends) i 0))))
-
-  counts-from : (i k : ℕ) → i + k ≤ a .len → take k (drop i (a .counts)) ≡ map choices (attributesFrom f a i k)
-  unfolding attributesFrom
-  counts-from i zero l = refl
-  counts-from i (suc k) l =
-      let here : i < a .len = omega arith in
-      let next : suc i ≡ i + 1 = omega arith in
-      ap (take (suc k)) (drop-cons (a .counts) i 0 (get-inside (a .counts) i (count-at i here)))
-      ∙ ap₂ (λ x xs. x ∷ xs) (standing .each i here .count) (ap (λ m. take k (drop m (a .counts))) next ∙ counts-from (i + 1) k (omega arith))
-
-  pub counts-are : take (a .len) (a .counts) ≡ sizes (attributesOf f a)
-  counts-are = counts-from 0 (a .len) (omega arith)
 
 -- Lines start one behind the other
 start-rises : (f : Bytes) (k : ℕ) → lineStart f k ≤ lineStart f (suc k)

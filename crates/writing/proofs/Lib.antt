@@ -1,0 +1,3 @@
+-- Laws that the proofs of the writer cite.
+mod Texts
+mod Writer
