@@ -1,9 +1,9 @@
 -- Values laid one by one over the start of a list; the places behind them are as they were.
-use mathlib.Core.Path.{_≡_, sym, ap, _∙_}
-use Prim.Native.Nat.{ℕ, suc, _+_, _-_, _≤_, _<_}
+use mathlib.Core.Path.{_≡_, refl, sym, ap, _∙_}
+use Prim.Native.Nat.{ℕ, zero, suc, _+_, _-_, _≤_, _<_}
 use native.Mathlib.Numerals.{add-one}
 use native.Mathlib.Omega.{arith}
-use mathlib.Core.List.{List, _++_, append-assoc}
+use mathlib.Core.List.{List, [], _∷_, _++_, append-assoc}
 use lib.ListN.{length, take, drop, getD, set, replicate, length-append, length-drop, length-replicate, replicate-append-replicate}
 use lib.Seq.{take-suc, drop-cons, set-at, length-take-le, take-length, drop-at}
 
@@ -29,3 +29,9 @@ module _ {X : Type 0} where
   -- all of them, over as many places or more of one value
   pub laid-all : (xs : List X) (n : ℕ) (x : X) → length xs ≤ n → laid xs (length xs) (replicate n x) ≡ xs ++ replicate (n - length xs) x
   laid-all xs n x l = rw (take-length xs, drop-replicate n (length xs) x l)
+
+  -- what stands inside a list, whatever is behind its end
+  pub inside : (xs : List X) (i : ℕ) (d e : X) → i < length xs → getD xs i d ≡ getD xs i e
+  inside [] i d e l = absurd (omega arith)
+  inside (x ∷ xs) zero d e l = refl
+  inside (x ∷ xs) (suc i) d e l = inside xs i d e (omega arith)

@@ -4,16 +4,19 @@ use Prim.Native.Nat.{ℕ, _+_, _≤_, _<_}
 use native.Mathlib.Nat.{le-antisymm}
 use native.Mathlib.Numerals.{add-one}
 use native.Mathlib.Omega.{arith}
+use mathlib.Core.Bool.{cond}
 use mathlib.Core.List.{List, [], _∷_, _++_, reverse, reverse-cons}
-use lib.ListN.{length, length-set, length-replicate, length-reverse}
-use borrow.Author.Tests.{lt-ltb, le-ltb}
+use lib.Dec.{ltb}
+use lib.ListN.{length, drop, length-set, length-replicate, length-reverse}
+use borrow.Author.Tests.{lt-ltb, le-ltb, ltb-false}
 use Rattle.meaning.specs.declared.Answer.{Answer}
 use Rattle.meaning.specs.declared.Element.{Element}
 use Rattle.meaning.specs.Text.{Bytes}
-use Rattle.meaning.specs.Model.{Policy, refused, given}
+use Rattle.meaning.specs.Model.{Policy, Result, refused, given, _then_}
 use Rattle.meaning.specs.Reading.{read}
 use Rattle.meaning.specs.Writing.{listFile}
-use Rattle.meaning.specs.Operations.{answered}
+use Rattle.meaning.specs.Operations.{answered, lent, readLent}
+use Rattle.laws.proofs.Bools.{Test, passed, failed, test}
 use Rattle.decisions.specs.Table.{elementAt}
 use Rattle.layout.specs.Places.{elementIn, elementsTo}
 use Rattle.layout.proofs.Laws.{elements-length}
@@ -23,6 +26,7 @@ use Rattle.reader.proofs.FileRead.{file-refused, elements-are, few, good, namin
 use Rattle.elements.specs.declared.Elements.{Elements}
 use Rattle.elements.specs.Listed.{blank, noElements, withElement, elementsOf}
 use Rattle.elements.proofs.Listing.{one-more}
+use Rattle.lists.specs.declared.Listing.{Listing}
 use Rattle.lists.specs.Listed.{Ready, givenOr, Listed}
 
 -- the first i
@@ -99,3 +103,27 @@ module _ (f table places : List ℕ) (r : Reading) (p : Policy) (h : read f ≡ 
     where
       size : length (reverse (elementsTo f table places (r .elements))) ≡ r .elements
       size = length-reverse (elementsTo f table places (r .elements)) ∙ elements-length f table places (r .elements)
+
+-- What is listed for a lent list fits in, and is the list afterwards
+given-fits : (f : Bytes) (room : ℕ) → length (givenOr (listFile room f)) ≤ room
+unfolding listFile
+given-fits f room = go (read f)
+  where
+    few-or-none : (es : List Element) → Test (ltb room (length es)) → length (givenOr (cond (ltb room (length es)) (refused 12 (length es)) (given es))) ≤ room
+    few-or-none es (passed e) = rw e (omega arith)
+    few-or-none es (failed e) = rw e (ltb-false room (length es) e)
+
+    go : (x : Result Policy) → length (givenOr (x then λ p. cond (ltb room (length (p .elements))) (refused 12 (length (p .elements))) (given (p .elements)))) ≤ room
+    go (refused n m) = omega arith
+    go (given p) = few-or-none (p .elements) (test (ltb room (length (p .elements))))
+
+given-lent : (ys : List Element) (x : Result (List Element)) → givenOr x ++ drop (length (givenOr x)) ys ≡ lent ys x
+given-lent ys (refused n m) = refl
+given-lent ys (given es) = refl
+
+module _ (f : Bytes) (ys : List Element) (r : Listing) (listed : Listed f (length ys) r) where
+  pub listed-fits : (r .elements .len ≤ length ys) × (r .elements .len ≤ 64)
+  listed-fits = (omega (arith, listed .count, given-fits f (length ys)), listed .few)
+
+  pub listed-lent : elementsOf (r .elements) ++ drop (r .elements .len) ys ≡ readLent f ys
+  listed-lent = rw (listed .elements, listed .count) (given-lent ys (listFile (length ys) f))

@@ -1,7 +1,9 @@
 -- A file's elements by value, for a list of so many places.
 use Prim.Native.Nat.{ℕ, _*_, _≤_, _<_}
+use mathlib.Core.Bool.{cond}
 use mathlib.Core.List.{List, []}
 use mathlib.Core.Path.{_≡_}
+use lib.Dec.{ltb}
 use lib.ListN.{length}
 use Rattle.meaning.specs.declared.Element.{Element}
 use Rattle.meaning.specs.Text.{Bytes}
@@ -29,3 +31,7 @@ pub record Listed (f : Bytes) (room : ℕ) (r : Listing) : Type 0 where
   pub elements : elementsOf (r .elements) ≡ givenOr (listFile room f)
   pub count : r .elements .len ≡ length (givenOr (listFile room f))
   pub few : r .elements .len ≤ 64
+
+-- how many of n elements a list by value holds
+abbrev pub atMost : ℕ → ℕ
+atMost n = cond (ltb 65 n) 65 n
