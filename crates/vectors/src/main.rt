@@ -1,5 +1,63 @@
-// Prints what the program prints of each file that the arguments name, behind the file's name.
+// Prints what the program prints of each file that the arguments name, behind the file's name. An accepted file is read into elements and written again; a line says so if other bytes come out.
+use elements::Elements;
 use libc::STDOUT_FILENO;
+use meaning::Element;
+ghost use Prim.Native.Nat.{_≤_};
+ghost use lib.ListN.{length};
+
+// Where the attribute lines end: at the first line that does not start with `A`.
+fn attribute_lines_end(file: &[u8]) -> usize
+    ensures { λ r. ⌜ r ≤ length (now (file .entry)) ⌝ }
+{
+    let mut at = 0;
+    while at < file.len() {
+        if file[at] != b'A' {
+            return at;
+        }
+        let end = text::end_of(file, at, b'\n');
+        if end == file.len() {
+            return at;
+        }
+        at = end + 1;
+    }
+    at
+}
+
+// The first n elements of a list that was read.
+fn taken(all: [Element; 64], n: usize) -> Elements
+    ensures { λ r. ⌜ r .len ≤ 64 ⌝ }
+{
+    let mut list = elements::none();
+    let mut i = 0;
+    while i < 64 {
+        if n <= i {
+            return list;
+        }
+        list = elements::with_element(list, all[i]);
+        i += 1;
+    }
+    list
+}
+
+// Whether a file comes out of the writer as it went into the reader; refused ones count.
+fn written_again(file: &[u8]) -> bool {
+    let read = lists::read_elements(file, 64).answer;
+    if read.number != 0 {
+        return true;
+    }
+    let header = attribute_lines_end(file);
+    let mut out = [0u8; 16384];
+    let list = taken(listed::listed(file), read.second as usize);
+    let written = writing::write(&file[..header], list, &mut out);
+    if written.number != 0 {
+        return false;
+    }
+    let length = written.second as usize;
+    if 16384 < length {
+        return false;
+    }
+    text::same(file, &out[0..length])
+}
 
 // One file's name and its text.
 fn print_file(index: usize) {
@@ -22,6 +80,9 @@ fn print_file(index: usize) {
     io::write_all(STDOUT_FILENO, &path[..length]);
     io::write_all(STDOUT_FILENO, b"\n");
     io::write_all(STDOUT_FILENO, &out[0..printed]);
+    if !written_again(&file[..n]) {
+        io::write_all(STDOUT_FILENO, b"written otherwise\n");
+    }
 }
 
 fn main() {
