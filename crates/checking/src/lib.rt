@@ -7,7 +7,7 @@ use meaning::Word;
 ghost use mathlib.Core.Path.{_≡_};
 ghost use mathlib.Core.Bool.{not};
 ghost use mathlib.Core.List.{List, [], map};
-ghost use Prim.Native.Nat.{suc, _-_, _^_, _≤_};
+ghost use Prim.Native.Nat.{suc, _≤_};
 ghost use lib.ListN.{take};
 ghost use Rattle.meaning.specs.Text.{isNone, sameName, amongNames};
 ghost use Rattle.meaning.specs.Model.{Attribute, nameOf, sizes, wordText};
@@ -106,14 +106,6 @@ fn word_fits(kind: Kind, word: Word) -> bool
     }
 }
 
-// The mask of so many values, all of them.
-fn full(count: usize) -> u16
-    requires { ⌜ count ≤ 16 ⌝ }
-    ensures { λ r. ⌜ r ≡ (2 ^ count) - 1 ⌝ }
-{
-    ((1u32 << count) - 1) as u16
-}
-
 // 8: whether a mask is empty or has a bit too high, or one behind the last attribute is not zero.
 fn bad_masks(counts: [usize; 6], attributes: usize, masks: [u16; 6]) -> bool
     requires { ⌜ FewValues counts attributes ⌝ }
@@ -125,7 +117,7 @@ fn bad_masks(counts: [usize; 6], attributes: usize, masks: [u16; 6]) -> bool
         if mask == 0 {
             return true;
         }
-        if full(counts[i]) < mask {
+        if elements::full_mask(counts[i]) < mask {
             return true;
         }
         i += 1;

@@ -1,9 +1,9 @@
-// A list of elements by value: as many as a file may have, and one more, which is refused.
+// A list of elements by value, as many as a file may have and one more, which is refused; and a full mask.
 use meaning::Element;
 use meaning::Kind;
 use meaning::Word;
 ghost use mathlib.Core.Path.{_≡_};
-ghost use Prim.Native.Nat.{_<_};
+ghost use Prim.Native.Nat.{_-_, _^_, _≤_, _<_};
 ghost use Rattle.elements.specs.Listed.{noElements, withElement};
 
 // The first `len` elements; the places behind them don't matter.
@@ -37,4 +37,12 @@ pub fn with_element(list: Elements, e: Element) -> Elements
     let at = list.len;
     all[at] = e;
     Elements { all, len: at + 1 }
+}
+
+// The mask of so many values, all of them.
+pub fn full_mask(count: usize) -> u16
+    requires { ⌜ count ≤ 16 ⌝ }
+    ensures { λ r. ⌜ r ≡ (2 ^ count) - 1 ⌝ }
+{
+    ((1u32 << count) - 1) as u16
 }

@@ -1,11 +1,9 @@
 -- The letters of the kinds, the words, and the mask of all values.
 use mathlib.Core.Path.{_≡_, _∙_}
-use Prim.Native.Nat.{ℕ, _+_, _-_, _*_, _%_, _≤_, _^_}
-use native.Mathlib.Nat.{one-mul, sub-zero}
+use Prim.Native.Nat.{ℕ, _+_, _-_, _≤_}
+use native.Mathlib.Nat.{sub-zero}
 use native.Mathlib.Omega.{arith}
 use mathlib.Core.List.{List, [], _∷_, _++_}
-use lib.Dec.{lit<}
-use lib.Pow.{shl-exact}
 use lib.ListN.{length, take, drop, length-append}
 use lib.Seq.{length-take-le}
 use Rattle.meaning.specs.Text.{tab}
@@ -41,7 +39,3 @@ module _ {x y : List ℕ} {at r : ℕ} where
       let from-start : len - 0 ≡ len = sub-zero len in
       let v : Wrote x at (take len name ++ (tab ∷ [])) y r = rw from-start at w in
       (v, omega (arith, v .moved, length-append (take len name) (tab ∷ []), length-take-le len name room))
-
--- a shift of 1 by at most 16 loses no bit
-pub shifted : (k : ℕ) → k ≤ 16 → (1 * 2 ^ k) % 4294967296 ≡ 2 ^ k
-shifted k few = shl-exact {a = 1} 1 k 32 (lit< tt) (omega arith) ∙ one-mul (2 ^ k)

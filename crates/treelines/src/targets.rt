@@ -4,21 +4,13 @@ use meaning::Element;
 ghost use mathlib.Core.Path.{_≡_};
 ghost use mathlib.Core.Bool.{cond};
 ghost use mathlib.Core.List.{_∷_};
-ghost use Prim.Native.Nat.{_+_, _-_, _≤_, _^_};
+ghost use Prim.Native.Nat.{_+_, _≤_};
 ghost use lib.ListN.{length};
 ghost use Rattle.meaning.specs.Text.{gathered, cut, join, tab, comma};
 ghost use Rattle.meaning.specs.Writing.{valueNames, targetText, targetTexts};
 ghost use Rattle.layout.specs.Places.{attributesOf};
 ghost use Rattle.printing.specs.Wrote.{Wrote};
 ghost use Rattle.treelines.specs.Writable.{Headed};
-
-// The mask of all of so many values.
-fn full_mask(count: usize) -> u16
-    requires { ⌜ count ≤ 16 ⌝ }
-    ensures { λ r. ⌜ r ≡ (2 ^ count) - 1 ⌝ }
-{
-    ((1u32 << count) - 1) as u16
-}
 
 // The name of a value, with a comma before it if it is not the first.
 fn put_value(name: &[u8], later: bool, out: &mut [u8], at: usize) -> usize
@@ -66,7 +58,7 @@ fn put_target(values: &[u8], count: usize, mask: u16, out: &mut [u8], at: usize)
     requires { ⌜ (count ≡ length (cut tab (now values))) × (count ≤ 16) × (length (now values) ≤ 16384) × (at ≤ 3000000000) ⌝ }
     ensures { λ r. ⌜ Wrote (now (out .entry)) at (targetText (cut tab (now (values .entry))) mask) (now (out .exit)) r × (r ≤ at + 16385) ⌝ }
 {
-    if mask == full_mask(count) {
+    if mask == elements::full_mask(count) {
         return printing::put_bytes(out, at, b"*");
     }
     put_values(values, mask, out, at)

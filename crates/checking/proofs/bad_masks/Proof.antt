@@ -56,21 +56,21 @@ returns c =
     let (long, six) = sized start in
     answer start true (sym (turn .loop .inv .1) ∙ mask-empty (counted start) (start .args .t3) (turn .loop .i) (omega arith) (omega arith) (c .if1 .taken))
 
-mul-full : tie.Need-mul-full Inv-loop μ-loop Inv-loop2 μ-loop2
-mul-full c = search needs
+mul-full-mask : tie.Need-mul-full-mask Inv-loop μ-loop Inv-loop2 μ-loop2
+mul-full-mask c = search needs
 
-array-read-full : tie.Need-array-read-full Inv-loop μ-loop Inv-loop2 μ-loop2
-array-read-full c = search needs
+array-read-full-mask : tie.Need-array-read-full-mask Inv-loop μ-loop Inv-loop2 μ-loop2
+array-read-full-mask c = search needs
 
 -- the highest mask of the attribute at hand
 value-count : (c : tie.In-loop Inv-loop μ-loop Inv-loop2 μ-loop2) → getD (counted (c .before .before)) (c .before .loop .i) 0 ≡ getD (c .before .before .args .t1) (c .before .loop .i) 0
 value-count c = getD-take (c .before .before .args .attributes) (c .before .before .args .t1) (c .before .loop .i) 0 (omega arith)
 
-highest : (c : tie.After-full Inv-loop μ-loop Inv-loop2 μ-loop2) → let turn = c .before .before .before in c .full .result ≡ 2 ^ getD (counted (turn .before)) (turn .loop .i) 0 - 1
-highest c = c .full .ensures ∙ ap (λ n. 2 ^ n - 1) (sym (value-count (c .before .before)))
+highest : (c : tie.After-full-mask Inv-loop μ-loop Inv-loop2 μ-loop2) → let turn = c .before .before .before in c .full-mask .result ≡ 2 ^ getD (counted (turn .before)) (turn .loop .i) 0 - 1
+highest c = c .full-mask .ensures ∙ ap (λ n. 2 ^ n - 1) (sym (value-count (c .before .before)))
 
-full-requires : tie.Need-full-requires Inv-loop μ-loop Inv-loop2 μ-loop2
-full-requires c κs = c .before .before .before .pre .few-values (c .before .before .loop .i) (omega arith)
+full-mask-requires : tie.Need-full-mask-requires Inv-loop μ-loop Inv-loop2 μ-loop2
+full-mask-requires c κs = c .before .before .before .pre .few-values (c .before .before .loop .i) (omega arith)
 
 returns-2 : tie.Need-returns-2 Inv-loop μ-loop Inv-loop2 μ-loop2
 returns-2 c =
@@ -148,9 +148,9 @@ bad-masks-spec =
     mul-mask
     array-read-mask
     returns
-    mul-full
-    array-read-full
-    full-requires
+    mul-full-mask
+    array-read-full-mask
+    full-mask-requires
     returns-2
     add-i
     loop-less
