@@ -1,0 +1,162 @@
+/* Compares libjogimaduve with the reference on generated inputs: valid files of many shapes, damaged ones, good and bad
+ * request lines, buffers too short, exact and longer. Lent memory is compared byte for byte.
+ *
+ * Usage: compare SEED COUNT. Each input is made from its own seed alone, SEED and those behind it, so that
+ * `compare <seed shown> 1` makes it again. Prints the number of differences; the exit status is 1 if there are any, or if
+ * many inputs missed some of the answers. */
+#include "generate.h"
+#include "jogimaduve.h"
+#include "reference.h"
+
+#include <stdio.h>
+#include <stdlib.h>
+#include <string.h>
+
+enum { BEHIND = 64, REPORT_BYTES = 65536 }; /* bytes watched behind each lent buffer; the program's buffer */
+enum { MANY = 10000, OFTEN = 100 };         /* of so many inputs, so many answers of each number */
+enum { NUMBERS = 12 };
+
+static unsigned long differences, seen[NUMBERS];
+static uint64_t input_seed;
+
+static void show_bytes(const char *what, const uint8_t *bytes, size_t length)
+{
+    printf("  %s, %lu bytes: \"", what, (unsigned long)length);
+    for (size_t i = 0; i < length; i++) {
+        if (bytes[i] == '\t')
+            printf("\\t");
+        else if (bytes[i] == '\n')
+            printf("\\n");
+        else if (bytes[i] < 32 || bytes[i] > 126 || bytes[i] == '"' || bytes[i] == '\\')
+            printf("\\%03o", bytes[i]);
+        else
+            putchar(bytes[i]);
+    }
+    printf("\"\n");
+}
+
+/* A copy of exactly these bytes, so that a memory checker sees a read behind them. */
+static uint8_t *exactly(const uint8_t *bytes, size_t length)
+{
+    uint8_t *copy = malloc(length > 0 ? length : 1);
+    if (copy == NULL)
+        abort();
+    memcpy(copy, bytes, length);
+    return copy;
+}
+
+static void difference(const char *what, struct answer wanted, jogimaduve_answer got, const struct bytes *file)
+{
+    if (++differences > 20)
+        return; /* enough shown */
+    printf("difference in %s, seed %llu: reference %lu %lu,", what, (unsigned long long)input_seed,
+           (unsigned long)wanted.number, (unsigned long)wanted.second);
+    printf(" library %lu %lu\n", (unsigned long)got.number, (unsigned long)got.second);
+    show_bytes("file", file->bytes, file->length);
+}
+
+static void compare_decide(const struct bytes *file, const struct bytes *request)
+{
+    uint8_t *lent_file = exactly(file->bytes, file->length), *line = exactly(request->bytes, request->length);
+    struct answer wanted = ref_decide(file->bytes, file->length, request->bytes, request->length);
+    jogimaduve_answer got = jogimaduve_decide(lent_file, file->length, line, request->length);
+
+    seen[wanted.number]++;
+    if (got.number != wanted.number || got.second != wanted.second
+        || memcmp(lent_file, file->bytes, file->length) != 0 || memcmp(line, request->bytes, request->length) != 0) {
+        difference("decide", wanted, got, file);
+        show_bytes("request", request->bytes, request->length);
+    }
+    free(lent_file);
+    free(line);
+}
+
+/* Trim and report alike: both fill a lent buffer of `room` bytes. */
+static struct answer compare_text(const char *what, const struct bytes *file, size_t room,
+                                  struct answer reference(const uint8_t *, size_t, uint8_t *, size_t),
+                                  jogimaduve_answer library(const uint8_t *, size_t, uint8_t *, size_t))
+{
+    uint8_t *lent_file = exactly(file->bytes, file->length);
+    uint8_t *wanted_bytes = malloc(room + BEHIND), *bytes = malloc(room + BEHIND);
+    if (wanted_bytes == NULL || bytes == NULL)
+        abort();
+    for (size_t i = 0; i < room + BEHIND; i++)
+        wanted_bytes[i] = bytes[i] = (uint8_t)(i * 37 + 131 + i / 256);
+
+    struct answer wanted = reference(file->bytes, file->length, wanted_bytes, room);
+    jogimaduve_answer got = library(lent_file, file->length, bytes, room);
+    seen[wanted.number]++;
+    if (got.number != wanted.number || got.second != wanted.second || memcmp(bytes, wanted_bytes, room + BEHIND) != 0
+        || memcmp(lent_file, file->bytes, file->length) != 0) {
+        difference(what, wanted, got, file);
+        if (differences <= 20)
+            printf("  buffer of %lu bytes\n", (unsigned long)room);
+    }
+    free(lent_file);
+    free(wanted_bytes);
+    free(bytes);
+    return wanted;
+}
+
+static void compare_rooms(const char *what, const struct bytes *file, size_t most_rooms, size_t first_room,
+                          struct answer reference(const uint8_t *, size_t, uint8_t *, size_t),
+                          jogimaduve_answer library(const uint8_t *, size_t, uint8_t *, size_t))
+{
+    struct answer answer = compare_text(what, file, first_room, reference, library);
+    size_t needed = answer.second;
+
+    if (answer.number != 0 && answer.number != 11)
+        return;
+    size_t more = 1 + below(200), less = below((uint32_t)needed);
+    size_t rooms[] = {needed, needed - 1, needed + more, less, 0};
+    for (size_t i = 0; i < most_rooms && i < sizeof rooms / sizeof *rooms; i++)
+        compare_text(what, file, rooms[i], reference, library);
+}
+
+static void compare_input(uint64_t seed)
+{
+    static struct bytes file, request;
+    static struct policy policy;
+
+    input_seed = seed;
+    start_random(seed);
+    make_file(&file);
+    int accepted = read_policy(file.bytes, file.length, &policy).number == 0;
+    int small = policy.space <= 256;
+
+    for (int i = accepted ? (small ? 24 : 6) : 2; i > 0; i--) {
+        make_request(&request, &policy, accepted && below(3) != 0);
+        compare_decide(&file, &request);
+    }
+    compare_rooms("trim", &file, small ? 5 : 1, below(2) ? file.length : below(64), ref_trim, jogimaduve_trim);
+    compare_rooms("report", &file, small ? 5 : 1, below(2) ? REPORT_BYTES : below(64), ref_report, jogimaduve_report);
+}
+
+/* Whether every number was answered often; prints how often. */
+static int all_seen(void)
+{
+    int all = 1;
+
+    printf("answers by number:");
+    for (int number = 0; number < NUMBERS; number++) {
+        printf(" %d:%lu", number, seen[number]);
+        all = all && seen[number] >= OFTEN;
+    }
+    printf("\n");
+    return all;
+}
+
+int main(int count, char **words)
+{
+    if (count != 3) {
+        fprintf(stderr, "usage: compare SEED COUNT\n");
+        return 2;
+    }
+    uint64_t seed = strtoull(words[1], NULL, 10), inputs = strtoull(words[2], NULL, 10);
+    for (uint64_t i = 0; i < inputs; i++)
+        compare_input(seed + i);
+
+    int enough = all_seen() || inputs < MANY;
+    printf("%lu differences in %llu inputs\n", differences, (unsigned long long)inputs);
+    return differences != 0 || !enough;
+}

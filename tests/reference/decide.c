@@ -1,0 +1,117 @@
+/* Requests and decisions. */
+#include "reference.h"
+
+/* The first attribute weighs most. */
+void values_of(const struct policy *policy, int request, int values[ATTRIBUTES])
+{
+    for (int i = policy->attributes - 1; i >= 0; i--) {
+        values[i] = request % policy->attribute[i].values;
+        request /= policy->attribute[i].values;
+    }
+}
+
+/* Whether the request matches the element's own target. */
+static int matches(const struct policy *policy, int place, const int values[ATTRIBUTES])
+{
+    for (int i = 0; i < policy->attributes; i++)
+        if (!(policy->element[place].target[i] >> values[i] & 1))
+            return 0;
+    return 1;
+}
+
+/* Whether it also matches that of every element above. */
+int applies(const struct policy *policy, int place, const int values[ATTRIBUTES])
+{
+    if (place < 0)
+        return 1; /* above the first element */
+    return matches(policy, place, values) && applies(policy, policy->element[place].parent, values);
+}
+
+static enum decision combined(const struct policy *policy, const struct element *element, const int values[ATTRIBUTES])
+{
+    int any[4] = {0};                         /* whether any child gives this decision */
+    enum decision first = NOT_APPLICABLE;     /* the first child's decision that isn't not-applicable */
+    enum decision the_match = NOT_APPLICABLE; /* decision of a child whose target matches, decide as it may */
+    int matching = 0;
+
+    for (int i = 0; i < element->children; i++) {
+        int child = element->child[i];
+        if (policy->element[child].struck)
+            continue;
+        enum decision decision = gives(policy, child, values);
+        any[decision] = 1;
+        if (first == NOT_APPLICABLE)
+            first = decision;
+        if (element->word == ONLY_ONE_APPLICABLE && matches(policy, child, values)) {
+            matching++;
+            the_match = decision;
+        }
+    }
+    switch (element->word) {
+    case DENY_OVERRIDES:
+        return any[DENY] || any[INDETERMINATE] ? DENY : any[PERMIT] ? PERMIT : NOT_APPLICABLE;
+    case PERMIT_OVERRIDES:
+        return any[PERMIT] ? PERMIT : any[DENY] ? DENY : any[INDETERMINATE] ? INDETERMINATE : NOT_APPLICABLE;
+    case FIRST_APPLICABLE:
+        return first;
+    default: /* only-one-applicable */
+        return matching >= 2 ? INDETERMINATE : the_match;
+    }
+}
+
+/* What the element itself decides, whatever stands above it. */
+enum decision gives(const struct policy *policy, int place, const int values[ATTRIBUTES])
+{
+    const struct element *element = &policy->element[place];
+
+    if (!matches(policy, place, values))
+        return NOT_APPLICABLE;
+    if (element->kind == 'R')
+        return element->word == EFFECT_PERMIT ? PERMIT : DENY;
+    return combined(policy, element, values);
+}
+
+/* The file's decision on every request. */
+void decide_space(const struct policy *policy, uint8_t decisions[SPACE])
+{
+    int values[ATTRIBUTES];
+
+    for (int request = 0; request < policy->space; request++) {
+        values_of(policy, request, values);
+        decisions[request] = (uint8_t)gives(policy, 0, values);
+    }
+}
+
+/* A request line: value names parted by tabs. Its other bytes are not tested: they are in no value's name. */
+static struct answer read_request(const struct policy *policy, struct slice line, int values[ATTRIBUTES])
+{
+    int fields = 1;
+    for (size_t i = 0; i < line.length; i++)
+        if (line.bytes[i] == '\t' && fields <= ATTRIBUTES)
+            fields++;
+    if (fields != policy->attributes)
+        return (struct answer){10, 0};
+
+    size_t start = 0, end;
+    for (int i = 0; i < policy->attributes; i++, start = end + 1) {
+        for (end = start; end < line.length && line.bytes[end] != '\t'; end++)
+            ;
+        values[i] = value_number(&policy->attribute[i], (struct slice){line.bytes + start, end - start});
+        if (values[i] < 0)
+            return (struct answer){10, (uint32_t)i + 1};
+    }
+    return (struct answer){0, 0};
+}
+
+struct answer ref_decide(const uint8_t *file, size_t file_len, const uint8_t *request, size_t request_len)
+{
+    struct policy policy;
+    int values[ATTRIBUTES] = {0};
+
+    struct answer answer = read_policy(file, file_len, &policy);
+    if (answer.number == 0)
+        answer = read_request(&policy, (struct slice){request, request_len}, values);
+    if (answer.number == 0)
+        answer.second = (uint32_t)gives(&policy, 0, values);
+    return answer;
+}

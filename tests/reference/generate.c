@@ -1,0 +1,289 @@
+/* Valid files and request lines, made as text. */
+#include "generate.h"
+
+#include <stdio.h>
+#include <string.h>
+
+static uint64_t state;
+
+void start_random(uint64_t seed)
+{
+    state = seed;
+}
+
+/* splitmix64: any seed will do, neighbours too. */
+uint32_t below(uint32_t limit)
+{
+    state += 0x9e3779b97f4a7c15u;
+    uint64_t z = state;
+    z = (z ^ z >> 30) * 0xbf58476d1ce4e5b9u;
+    z = (z ^ z >> 27) * 0x94d049bb133111ebu;
+    z ^= z >> 31;
+    return limit == 0 ? 0 : (uint32_t)(z >> 32) % limit;
+}
+
+int one_in(uint32_t many)
+{
+    return below(many) == 0;
+}
+
+void replace(struct bytes *text, size_t at, size_t length, const void *bytes, size_t count)
+{
+    if (text->length - length + count > sizeof text->bytes)
+        return;
+    memmove(text->bytes + at + count, text->bytes + at + length, text->length - at - length);
+    memcpy(text->bytes + at, bytes, count);
+    text->length = text->length - length + count;
+}
+
+void put(struct bytes *text, const char *string)
+{
+    replace(text, text->length, 0, string, strlen(string));
+}
+
+/* Valid files. */
+
+/* Names of one style, told apart by `number`, which is under 100. */
+static void name_of(int style, int number, char name[17])
+{
+    static const char letters[] = "abcdefghijklmnopqrstuvwxyz0123456789-";
+    int length = 0;
+
+    switch (style) {
+    case 0:
+        sprintf(name, "%c%d", 'a' + number % 26, number);
+        return;
+    case 1: /* one a beginning of the other: only the length tells them apart */
+        name[length++] = (char)('a' + number / 16);
+        while (length <= number % 16)
+            name[length++] = '-';
+        break;
+    case 2: /* 16 bytes, told apart by the last two */
+        memset(name, '9', 16);
+        name[14] = letters[number / 10];
+        name[15] = letters[number % 10];
+        length = 16;
+        break;
+    default: /* of any length */
+        length = 1 + (int)below(14);
+        for (int i = 0; i < length; i++)
+            name[i] = letters[below(i == 0 ? 36 : 37)];
+        name[length++] = letters[number / 10];
+        name[length++] = letters[26 + number % 10];
+        break;
+    }
+    name[length] = 0;
+}
+
+struct shape {
+    int attributes;
+    int values[8];
+    char value[8][20][17];
+    uint32_t stars; /* of ten targets so many are `*` */
+    int narrow;     /* the others have one value each, so that more rules are kept */
+};
+
+/* How many values each attribute has. */
+static void choose_values(struct shape *shape)
+{
+    static const int spaces[] = {8, 24, 24, 60, 60, 256, 1024, 4096};
+    static const int edges[][8] = { /* on both sides of 4,096; 4,116 is the next space over it that there can be */
+        {16, 16, 16}, {16, 16, 16, 2}, {16, 16, 16, 1, 1, 1}, {1, 16, 16, 1, 16, 2}, {14, 14, 7, 3}, {13, 9, 7, 5},
+        {16, 16, 17}, {17}, {16, 16, 16, 1, 1, 1, 1}, {4, 4, 4, 4, 4, 4}, {2, 2, 2, 2, 2, 2, 2}
+    };
+    int space = 1, most = spaces[below(8)];
+
+    shape->attributes = 0;
+    if (one_in(25)) {
+        uint32_t edge = below(sizeof edges / sizeof *edges);
+        for (int i = 0; i < 8 && edges[edge][i] > 0; i++)
+            shape->values[shape->attributes++] = edges[edge][i];
+        return;
+    }
+    int attributes = 1 + (int)below(6);
+    while (shape->attributes < attributes) {
+        int values = 1 + (int)below(one_in(2) ? 16 : 4);
+        if (space * values > most)
+            values = most / space > 0 ? most / space : 1;
+        space *= values;
+        shape->values[shape->attributes++] = values;
+    }
+}
+
+static void make_attributes(struct bytes *file, struct shape *shape)
+{
+    int attribute_style = (int)below(4);
+
+    choose_values(shape);
+    for (int i = 0; i < shape->attributes; i++) {
+        int style = (int)below(4);
+        char name[17];
+        name_of(attribute_style, i, name);
+        put(file, "A\t");
+        put(file, name);
+        for (int value = 0; value < shape->values[i]; value++) {
+            name_of(style, value, shape->value[i][value]);
+            put(file, "\t");
+            put(file, shape->value[i][value]);
+        }
+        put(file, "\n");
+    }
+}
+
+static void put_target(struct bytes *file, const struct shape *shape, int attribute)
+{
+    int values = shape->values[attribute], some = 0;
+    uint32_t all = (1u << values) - 1, mask = below(all + 1);
+
+    if (one_in(3))
+        mask &= below(all + 1);
+    if (one_in(3) || shape->narrow)
+        mask = 1u << below((uint32_t)values);
+    if (mask == 0 || mask == all || below(10) < shape->stars) {
+        put(file, "*");
+        return;
+    }
+    for (int value = 0; value < values; value++)
+        if (mask >> value & 1) {
+            put(file, some++ ? "," : "");
+            put(file, shape->value[attribute][value]);
+        }
+}
+
+static void make_elements(struct bytes *file, const struct shape *shape)
+{
+    static const char *const words[] = {
+        "deny-overrides", "permit-overrides", "first-applicable", "only-one-applicable" /* the last for sets */
+    };
+    static const int sizes[] = {1, 4, 8, 12, 16, 24, 40, 64};
+    char kinds[9] = ""; /* of the last element and all above it */
+    int last = 0, style = (int)below(4), deep = (int)below(3);
+    int deepest = one_in(20) ? 8 : 7; /* 8 is one too deep */
+    /* so many sets, each the only child of the one before */
+    int chain = deep == 2 ? (int)below((uint32_t)deepest + 1) : 0;
+    int elements = one_in(2) ? sizes[below(8)] : 1 + (int)below(30);
+    size_t targets = 0, targets_length = 0; /* of the element before */
+
+    if (one_in(50))
+        elements = 65 + (int)below(2);
+    for (int i = 0; i < elements; i++) {
+        char kind, start[40], name[17];
+        int depth = 0;
+        if (file->length > 15000 && !one_in(200))
+            return;
+        if (i == 0) {
+            kind = chain == 0 && one_in(3) ? 'P' : 'S';
+        } else if (i <= chain) {
+            kind = 'S';
+            depth = i;
+        } else {
+            do
+                depth = one_in(2) ? last + 1 - one_in(3) : 1 + (int)below((uint32_t)last + 1);
+            while (depth < 1 || depth > deepest || kinds[depth - 1] == 'R');
+            kind = kinds[depth - 1] == 'P' ? 'R' : one_in(deep == 0 ? 6 : 2) ? 'S' : 'P';
+        }
+        kinds[depth] = kind;
+        last = depth;
+        name_of(style, i, name);
+        sprintf(start, "%c\t%d\t", kind, depth);
+        put(file, start);
+        put(file, name);
+        put(file, "\t");
+        put(file, kind == 'R' ? (one_in(2) ? "permit" : "deny") : words[below(kind == 'P' ? 3 : 4)]);
+
+        size_t here = file->length;
+        if (i > 0 && one_in(5)) { /* the same targets again: twins and conflicts */
+            replace(file, here, 0, file->bytes + targets, targets_length);
+        } else {
+            int wide = depth == 0 ? !one_in(6) : one_in(kind == 'R' ? 12 : 2);
+            for (int attribute = 0; attribute < shape->attributes; attribute++) {
+                put(file, "\t");
+                if (wide)
+                    put(file, "*");
+                else
+                    put_target(file, shape, attribute);
+            }
+        }
+        targets = here;
+        targets_length = file->length - here;
+        put(file, "\n");
+    }
+}
+
+/* A file near 16,384 bytes, good but for its size: long rules, then short ones whose names' lengths find the size. */
+static void make_edge_file(struct bytes *file)
+{
+    size_t size = 16382 + below(5);
+    char line[80];
+    int rules = 0;
+
+    for (int i = 0; i < 3; i++) {
+        sprintf(line, "A\tx%d", i);
+        put(file, line);
+        for (int value = 0; value < 8; value++) {
+            sprintf(line, "\tvalue-of-16-byt%d", value);
+            put(file, line);
+        }
+        put(file, "\n");
+    }
+    put(file, "P\t0\ttop\tdeny-overrides\t*\t*\t*\n");
+    while (size - file->length > 500) {
+        sprintf(line, "R\t1\tlong%d\t%s", rules++, one_in(2) ? "deny" : "permit");
+        put(file, line);
+        for (int i = 0; i < 21; i++) {
+            sprintf(line, "%cvalue-of-16-byt%d", i % 7 == 0 ? '\t' : ',', i % 7);
+            put(file, line);
+        }
+        put(file, "\n");
+    }
+    for (size_t lines = (size - file->length + 31) / 32; lines > 0; lines--) {
+        int width = (int)((size - file->length) / lines) - 16;
+        sprintf(line, "R\t1\t%0*d\tdeny\t*\t*\t*\n", width, (int)lines);
+        put(file, line);
+    }
+}
+
+void make_file(struct bytes *file)
+{
+    struct shape shape;
+
+    file->length = 0;
+    if (one_in(100)) {
+        make_edge_file(file);
+        return;
+    }
+    make_attributes(file, &shape);
+    shape.stars = shape.attributes > 3 ? 5 + below(4) : below(7);
+    shape.narrow = one_in(3);
+    if (!one_in(100))
+        make_elements(file, &shape);
+    if (!one_in(3))
+        for (uint32_t i = 1 + below(one_in(3) ? 3 : 1); i > 0; i--)
+            damage(file);
+}
+
+void make_request(struct bytes *request, const struct policy *policy, int good)
+{
+    request->length = 0;
+    for (int i = 0; i < policy->attributes; i++) {
+        const struct attribute *attribute = &policy->attribute[i];
+        struct slice value = attribute->value[below((uint32_t)attribute->values)];
+        put(request, i > 0 ? "\t" : "");
+        replace(request, request->length, 0, value.bytes, value.length);
+    }
+    if (good)
+        return;
+    uint8_t byte = tricky_byte();
+    uint32_t at = below((uint32_t)request->length + 1);
+    size_t length, field = field_of(request, 0, request->length, below(6), &length);
+    switch (below(8)) {
+    case 0: put(request, one_in(2) ? "\n" : "\t"); break;
+    case 1: request->length = 0; break;
+    case 2: request->length = at; break;
+    case 3: replace(request, at, 0, &byte, 1); break;
+    case 4: replace(request, at, at < request->length, &byte, 1); break;
+    case 5: replace(request, at, at < request->length, "", 0); break;
+    case 6: put(request, "\tx\tx\tx\tx\tx\tx\tx"); break;
+    default: replace(request, field, length, "*", byte < 64); break; /* another field, or an empty one */
+    }
+}

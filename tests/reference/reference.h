@@ -1,0 +1,80 @@
+/* Reference implementation of paper 01, written from the paper alone: plain code, for comparing with.
+ *
+ * Every function answers two numbers. `number` is 0 where the work was done, and `second` is then the result; any other
+ * `number` is the paper's refusal with its second number. Lent memory is left as it was on every refusal. */
+#ifndef REFERENCE_H
+#define REFERENCE_H
+
+#include <stddef.h>
+#include <stdint.h>
+
+struct answer { uint32_t number, second; };
+
+/* `second` is the decision: permit 0, deny 1, not-applicable 2, indeterminate 3. */
+struct answer ref_decide(const uint8_t *file, size_t file_len, const uint8_t *request, size_t request_len);
+
+/* `second` is the length of the trimmed text. */
+struct answer ref_trim(const uint8_t *file, size_t len, uint8_t *out, size_t room);
+
+/* `second` is the length of the report. Each conflict is shown by its lowest request. */
+struct answer ref_report(const uint8_t *file, size_t len, uint8_t *out, size_t room);
+
+/* What follows is for the reference's own files. */
+
+enum { FILE_BYTES = 16384, NAME_BYTES = 16, ATTRIBUTES = 6, VALUES = 16, SPACE = 4096, ELEMENTS = 64 };
+
+enum decision { PERMIT, DENY, NOT_APPLICABLE, INDETERMINATE };
+
+enum word {
+    EFFECT_PERMIT, EFFECT_DENY,
+    DENY_OVERRIDES, PERMIT_OVERRIDES, FIRST_APPLICABLE, ONLY_ONE_APPLICABLE,
+    WORDS
+};
+
+/* Some bytes of the file, which the caller keeps. */
+struct slice { const uint8_t *bytes; size_t length; };
+
+struct attribute {
+    struct slice name;
+    int values;
+    struct slice value[VALUES];
+};
+
+struct element {
+    char kind;                   /* 'S' policy set, 'P' policy, 'R' rule */
+    int depth;
+    struct slice name;
+    enum word word;
+    unsigned target[ATTRIBUTES]; /* masks: bit 0 is the first value */
+    struct slice line;           /* its whole line, newline included */
+    int parent;                  /* place of the parent; -1 for the first element */
+    int children;
+    int child[ELEMENTS];         /* places of the children, in file order */
+    int struck;                  /* a struck rule is no child of its policy any more */
+};
+
+struct policy {
+    int attributes;
+    struct attribute attribute[ATTRIBUTES];
+    int space;
+    struct slice attribute_lines;
+    int elements;
+    struct element element[ELEMENTS];
+};
+
+/* read.c */
+struct answer read_policy(const uint8_t *file, size_t length, struct policy *policy);
+int same(struct slice a, struct slice b);
+int value_number(const struct attribute *attribute, struct slice name); /* -1 if it is no value */
+
+/* decide.c */
+void values_of(const struct policy *policy, int request, int values[ATTRIBUTES]);
+int applies(const struct policy *policy, int place, const int values[ATTRIBUTES]);
+enum decision gives(const struct policy *policy, int place, const int values[ATTRIBUTES]);
+void decide_space(const struct policy *policy, uint8_t decisions[SPACE]);
+
+/* trim.c */
+int first_change(struct policy *policy, int rule, const uint8_t decisions[SPACE]); /* the space if there is none */
+int strike_needless(struct policy *policy, const uint8_t decisions[SPACE], int order[ELEMENTS]);
+
+#endif

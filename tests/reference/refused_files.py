@@ -1,0 +1,102 @@
+"""Policy files that are refused: each refusal, each of its reasons. In the texts spaces stand for tabs."""
+from accepted_files import AB, LETTERS, LONG, SET, TOP, TOP2, TWO, add, attribute
+
+# Refusal 2, each reason.
+
+add("refused-2-empty-line-middle", AB, "\n", TOP)
+add("refused-2-empty-line-last", AB, TOP, "\n")
+add("refused-2-lone-newline", "\n")
+add("refused-2-leading-tab", AB, " P 0 top first-applicable *\n")
+add("refused-2-trailing-tab", AB, "P 0 top first-applicable * \n")
+add("refused-2-two-tabs", "A x  a b\n", TOP)
+add("refused-2-space", AB, TOP, b"R\t1\tr\tpermit\ta b\n")
+add("refused-2-carriage-return", AB, b"P\t0\ttop\tfirst-applicable\t*\r\n")
+add("refused-2-byte-127", b"A\tx\ta\x7f\tb\n", TOP)
+add("refused-2-byte-195", "A x a b\n", b"A\ty\t\xc3\xa9\n", TOP2)
+add("refused-2-no-last-newline", AB, TOP, "R 1 r permit a")
+add("refused-2-first-field-two-letters", AB, TOP, "RR 1 r permit a\n")
+add("refused-2-first-field-other", AB, TOP, "R 1 r permit a\n", "# a comment *\n")
+add("refused-2-attribute-one-field", "A\n", TOP)
+add("refused-2-attribute-no-value", AB, "A y\n", TOP2)
+add("refused-2-target-missing", TWO, TOP2, "R 1 r permit a\n")
+add("refused-2-target-too-many", AB, TOP, "R 1 r permit a b\n")
+add("refused-2-tree-line-first-with-target", TOP, AB)
+
+# Refusal 3 to 9, each reason.
+
+add("refused-3-attribute-uppercase", "A Role a b\n", TOP)
+add("refused-3-attribute-17-bytes", f"A {LONG}x a b\n", TOP)
+add("refused-3-value-17-bytes", f"A x a {LONG}x\n", TOP)
+add("refused-3-value-tilde", "A x a b~\n", TOP)
+add("refused-3-value-hyphen-first", "A x a -b\n", TOP)
+add("refused-3-value-17-is-bad", attribute("x", [*LETTERS, "Q"]), TOP)
+add("refused-3-element-17-bytes", AB, f"P 0 {LONG}x first-applicable *\n")
+add("refused-3-element-hyphen-first", AB, TOP, "R 1 -r permit a\n")
+add("refused-3-element-underscore", AB, TOP, "R 1 r permit a\nR 1 r_2 deny a\n")
+
+add("refused-4-attribute-twice", AB, "A y c\nA x d e\n", "P 0 top first-applicable * * *\n")
+add("refused-4-value-twice", "A x a b a\n", TOP)
+add("refused-4-value-17-is-double", attribute("x", [*LETTERS, "c"]), TOP)
+add("refused-4-rule-twice", AB, "S 0 top first-applicable *\nP 1 p first-applicable *\nR 2 r permit a\n"
+    "P 1 q first-applicable *\nR 2 r permit b\n")
+add("refused-4-rule-named-as-set", AB, "S 0 top first-applicable *\nP 1 p first-applicable *\nR 2 top permit a\n")
+add("refused-4-attribute-7-is-double", *(attribute(name, "a") for name in "uvwxyzu"),
+    "P 0 top first-applicable" + " *" * 7 + "\n")
+
+SIX = "".join(attribute(name, "a") for name in "uvwxyz")
+SIXTYFOUR = AB + TOP + "".join(f"R 1 r{number} permit a\n" for number in range(63))
+add("refused-5-attribute-7", SIX, "A t a\n", "P 0 top first-applicable" + " *" * 7 + "\n")
+add("refused-5-value-17", attribute("x", [*LETTERS, "q"]), TOP)
+# No space lies nearer over 4,096: 4,097 to 4,115 all have a prime factor over 16.
+add("refused-5-space-4116", *(attribute(name, LETTERS[:count]) for name, count in zip("wxyz", (14, 14, 7, 3))),
+    "P 0 top first-applicable * * * *\n")
+add("refused-5-element-65", SIXTYFOUR, "R 1 one-too-many deny b\n")
+add("refused-5-element-65-bad-place", SIXTYFOUR, "S 0 one-too-many permit a,b\n")
+add("refused-5-17-values-behind-tree", AB, TOP, attribute("y", [*LETTERS, "q"]))
+
+add("refused-6-attribute-behind-tree", AB, TOP, "A y c\n")
+add("refused-6-tree-line-first", "P 0 top first-applicable\n", AB, TOP)
+add("refused-6-depth-minus-1", AB, TOP, "R -1 r permit a\n")
+add("refused-6-depth-11", AB, TOP, "R 11 r permit a\n")
+add("refused-6-first-element-at-depth-1", AB, "P 1 top first-applicable *\n")
+add("refused-6-first-element-a-rule", AB, "R 0 top permit *\n")
+add("refused-6-second-at-depth-0", AB, TOP, "P 0 second first-applicable *\n")
+add("refused-6-step-of-two", AB, SET, "P 1 p first-applicable *\nS 1 s first-applicable *\nP 3 q first-applicable *\n")
+add("refused-6-rule-under-set", AB, SET, "R 1 r permit a\n")
+add("refused-6-rule-under-rule", AB, TOP, "R 1 r1 permit a\nR 2 r2 permit a\n")
+add("refused-6-set-under-policy", AB, TOP, "S 1 s first-applicable *\n")
+add("refused-6-policy-under-policy", AB, SET, "P 1 p first-applicable *\nR 2 r permit a\nP 2 q first-applicable *\n")
+add("refused-6-policy-under-rule", AB, TOP, "R 1 r permit a\nP 2 q first-applicable *\n")
+
+add("refused-7-only-one-on-policy", AB, "P 0 top only-one-applicable *\n")
+add("refused-7-permit-on-set", AB, "S 0 top permit *\n")
+add("refused-7-deny-on-set", AB, SET, "S 1 s deny *\n")
+add("refused-7-permit-on-policy", AB, "P 0 top permit *\n")
+add("refused-7-deny-on-policy", AB, SET, "P 1 p deny *\n")
+add("refused-7-algorithm-on-rule", AB, TOP, "R 1 r first-applicable a\n")
+add("refused-7-unknown-word", AB, TOP, "R 1 r1 permit a\nR 1 r2 allow b\n")
+add("refused-7-word-a-letter-short", AB, "S 0 top deny-override *\n")
+
+add("refused-8-wrong-order", "A x a b c\n", TOP, "R 1 r permit b,a\n")
+add("refused-8-value-twice", "A x a b c\n", TOP, "R 1 r permit a,a\n")
+add("refused-8-unknown-value", AB, TOP, "R 1 r permit c\n")
+add("refused-8-value-of-other-attribute", TWO, TOP2, "R 1 r permit a c\nR 1 s permit c *\n")
+add("refused-8-star-among-values", "A x a b c\n", TOP, "R 1 r permit a,*\n")
+add("refused-8-leading-comma", "A x a b c\n", TOP, "R 1 r permit ,b\n")
+add("refused-8-trailing-comma", "A x a b c\n", TOP, "R 1 r permit a,\n")
+add("refused-8-double-comma", "A x a b c\n", TOP, "R 1 r permit a,,b\n")
+add("refused-8-one-value-listed", "A x a\n", TOP, "R 1 r permit a\n")
+add("refused-8-no-possible-name", AB, TOP, "R 1 r permit A~\n")
+add("refused-8-last-target", TWO, TOP2, "R 1 r permit a d,c\n")
+
+add("refused-9-attributes-only", TWO)
+
+# The lowest number on the first bad line.
+
+add("lowest-2-over-all", AB, TOP, "A -X b b c")
+add("lowest-3-over-4-to-8", AB, TOP, "S 9 Top permit a,b\n")
+add("lowest-4-over-6-7-8", AB, TOP, "S 0 top permit a,b\n")
+add("lowest-4-behind-tree", AB, TOP, "A x c\n")
+add("lowest-6-over-7-and-8", AB, TOP, "R 0 r first-applicable a,b\n")
+add("lowest-7-over-8", AB, TOP, "R 1 r first-applicable a,b\n")
+add("first-bad-line-8-before-2", AB, TOP, "R 1 r permit a,b\n", "\n")

@@ -1,0 +1,169 @@
+/* The report: segments (G), conflicts (C), struck rules (X) and kept rules (K). */
+#include "reference.h"
+
+#include <stdio.h>
+#include <stdlib.h>
+#include <string.h>
+
+/* The report grows here and is lent out only when it is whole: a refusal leaves the caller's buffer as it was. */
+struct text { uint8_t *bytes; size_t length, room; };
+
+static void put(struct text *text, const void *bytes, size_t length)
+{
+    if (text->length + length > text->room) {
+        text->room = 2 * (text->length + length);
+        text->bytes = realloc(text->bytes, text->room);
+        if (text->bytes == NULL)
+            abort();
+    }
+    memcpy(text->bytes + text->length, bytes, length);
+    text->length += length;
+}
+
+static void put_string(struct text *text, const char *string)
+{
+    put(text, string, strlen(string));
+}
+
+static void put_number(struct text *text, int number)
+{
+    char digits[16];
+    put(text, digits, (size_t)sprintf(digits, "%d", number));
+}
+
+static void put_name(struct text *text, const struct policy *policy, int place)
+{
+    put(text, policy->element[place].name.bytes, policy->element[place].name.length);
+}
+
+static void put_segments(struct text *text, const struct policy *policy, const uint8_t decisions[SPACE])
+{
+    static const char *const decision_words[] = {"permit", "deny", "not-applicable", "indeterminate"};
+    static uint64_t applying[SPACE]; /* for each request the elements that apply, bit 0 the first element */
+    int values[ATTRIBUTES];
+
+    for (int request = 0; request < policy->space; request++) {
+        values_of(policy, request, values);
+        applying[request] = 0;
+        for (int place = 0; place < policy->elements; place++)
+            if (applies(policy, place, values))
+                applying[request] |= (uint64_t)1 << place;
+    }
+    for (int request = 0; request < policy->space; request++) {
+        int earlier = 0, count = 0;
+        while (applying[earlier] != applying[request])
+            earlier++;
+        if (earlier < request)
+            continue; /* told with the segment's first request */
+        for (int later = request; later < policy->space; later++)
+            count += applying[later] == applying[request];
+
+        put_string(text, "G\t");
+        put_number(text, request);
+        put_string(text, "\t");
+        put_number(text, count);
+        put_string(text, "\t");
+        put_string(text, decision_words[decisions[request]]);
+        const char *before = "\t";
+        for (int place = 0; place < policy->elements; place++)
+            if (applying[request] >> place & 1) {
+                put_string(text, before);
+                put_name(text, policy, place);
+                before = ",";
+            }
+        put_string(text, applying[request] == 0 ? "\t-\n" : "\n");
+    }
+}
+
+/* For each element and request: what the element gives if its parent applies, else not-applicable. A pair of children
+ * conflicts where one of these is permit and the other deny. */
+static uint8_t under_parent[ELEMENTS][SPACE];
+
+static void fill_under_parent(const struct policy *policy)
+{
+    int values[ATTRIBUTES];
+
+    for (int request = 0; request < policy->space; request++) {
+        values_of(policy, request, values);
+        for (int place = 0; place < policy->elements; place++)
+            under_parent[place][request] = applies(policy, policy->element[place].parent, values)
+                ? (uint8_t)gives(policy, place, values) : NOT_APPLICABLE;
+    }
+}
+
+/* The lowest request that shows a conflict, or the space if there is none. */
+static int conflict_of(const struct policy *policy, int one, int other)
+{
+    int request = 0;
+    for (; request < policy->space; request++) {
+        uint8_t a = under_parent[one][request], b = under_parent[other][request];
+        if ((a == PERMIT && b == DENY) || (a == DENY && b == PERMIT))
+            break;
+    }
+    return request;
+}
+
+static void put_conflicts(struct text *text, const struct policy *policy)
+{
+    fill_under_parent(policy);
+    for (int parent = 0; parent < policy->elements; parent++) {
+        const struct element *element = &policy->element[parent];
+        for (int i = 0; i < element->children; i++)
+            for (int j = i + 1; j < element->children; j++) {
+                int request = conflict_of(policy, element->child[i], element->child[j]);
+                if (request == policy->space)
+                    continue;
+                put_string(text, "C\t");
+                put_name(text, policy, parent);
+                put_string(text, "\t");
+                put_name(text, policy, element->child[i]);
+                put_string(text, "\t");
+                put_name(text, policy, element->child[j]);
+                put_string(text, "\t");
+                put_number(text, request);
+                put_string(text, "\n");
+            }
+    }
+}
+
+static void put_rules(struct text *text, struct policy *policy, const uint8_t decisions[SPACE])
+{
+    int order[ELEMENTS];
+    int strikes = strike_needless(policy, decisions, order);
+
+    for (int i = 0; i < strikes; i++) {
+        put_string(text, "X\t");
+        put_name(text, policy, order[i]);
+        put_string(text, "\n");
+    }
+    for (int place = 0; place < policy->elements; place++) {
+        if (policy->element[place].kind != 'R' || policy->element[place].struck)
+            continue;
+        put_string(text, "K\t");
+        put_name(text, policy, place);
+        put_string(text, "\t");
+        put_number(text, first_change(policy, place, decisions));
+        put_string(text, "\n");
+    }
+}
+
+struct answer ref_report(const uint8_t *file, size_t len, uint8_t *out, size_t room)
+{
+    struct policy policy;
+    uint8_t decisions[SPACE];
+    struct text text = {NULL, 0, 0};
+
+    struct answer answer = read_policy(file, len, &policy);
+    if (answer.number != 0)
+        return answer;
+    decide_space(&policy, decisions);
+    put_segments(&text, &policy, decisions);
+    put_conflicts(&text, &policy);
+    put_rules(&text, &policy, decisions); /* last: it strikes rules, and the rest is told of the whole file */
+
+    answer = (struct answer){text.length > room ? 11 : 0, (uint32_t)text.length};
+    if (answer.number == 0)
+        memcpy(out, text.bytes, text.length);
+    free(text.bytes);
+    return answer;
+}
