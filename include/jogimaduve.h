@@ -4,7 +4,7 @@
  * may be called from several threads at once. Pointers must not be NULL, also where a length is 0.
  *
  * Each answers two numbers. `number` is 0 where the operation did its work; `second` is then its result. Any other
- * `number` is a refusal:
+ * `number` is a refusal, so test it first: the `second` of a refusal can be JOGIMADUVE_PERMIT.
  *
  *   number  second   the policy file, or what goes with it
  *   1       0        exceeds 16,384 bytes
@@ -49,7 +49,8 @@ jogimaduve_answer jogimaduve_decide(const uint8_t *file, size_t file_length,
                                     const uint8_t *request, size_t request_length);
 
 /* Strikes the rules that do no work: the file's lines less theirs go into the buffer, and `second` is the length of that
- * text, never more than the file's. It decides every request as the file does. Bytes behind the text stay as they were. */
+ * text, never more than the file's. It decides every request as the file does, faults of the file included: a rule that is
+ * struck would not come back if they were repaired in the text. Bytes behind the text stay as they were. */
 jogimaduve_answer jogimaduve_trim(const uint8_t *file, size_t file_length, uint8_t *buffer, size_t buffer_length);
 
 /* Reports on a file: its segments (G), conflicts (C), the rules that trimming strikes (X) and those that it keeps (K), as
