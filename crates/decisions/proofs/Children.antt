@@ -82,16 +82,21 @@ module _ (hit : Element → Bool) (t s : List ℕ) (n d i : ℕ) where
         ∙ sym (fold-step a so child (repliesFrom hit t s n d (i + 1)))
         ∙ ap (λ c. combined (algorithmAt a) (c ∷ repliesFrom hit t s n d (i + 1))) (sym stepped)
 
--- What element i gives, by its own target
-module _ (q : List ℕ) (t s : List ℕ) (n i : ℕ) where
-  pub reply-off : within (take 6 (drop (8 * i + 2) t)) q ≡ false → replyAt (matches q) t s n i ≡ start
-  unfolding replyAt elementAt
+-- What element i gives, by the test of its own target
+module _ (hit : Element → Bool) (t s : List ℕ) (n i : ℕ) where
+  pub reply-off : hit (elementAt t i) ≡ false → replyAt hit t s n i ≡ start
+  unfolding replyAt
   reply-off e = rw e
 
-  pub reply-on : within (take 6 (drop (8 * i + 2) t)) q ≡ true
-      → replyAt (matches q) t s n i ≡ record { matched = true; decision = combined (wordAt (getD t (8 * i) 0)) (repliesFrom (matches q) t s n (suc (depthOf t i)) (i + 1)) }
+  pub reply-on : hit (elementAt t i) ≡ true
+      → replyAt hit t s n i ≡ record { matched = true; decision = combined (wordAt (getD t (8 * i) 0)) (repliesFrom hit t s n (suc (depthOf t i)) (i + 1)) }
   unfolding replyAt elementAt
   reply-on e = rw e
+
+-- the test of a request
+pub target-test : (q t : List ℕ) (i : ℕ) (b : Bool) → within (take 6 (drop (8 * i + 2) t)) q ≡ b → matches q (elementAt t i) ≡ b
+unfolding elementAt
+target-test q t i b e = e
 
 pub algorithm-word : (w : ℕ) → 2 ≤ w → wordAt w ≡ algorithmAt (w - 2)
 algorithm-word zero l = let no : ⊥ = omega arith in absurd no

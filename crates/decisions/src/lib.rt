@@ -52,14 +52,14 @@ pub fn wide(x: u16) -> usize
 }
 
 // The number of element i's word, and its depth.
-fn word_at(table: &[u16], i: usize) -> usize
+pub fn word_at(table: &[u16], i: usize) -> usize
     requires { ⌜ 8 * i + 8 ≤ length (now table) ⌝ }
     ensures { λ r. ⌜ r ≡ getD (now (table .entry)) (8 * i) 0 ⌝ }
 {
     wide(table[8 * i])
 }
 
-fn depth_at(table: &[u16], i: usize) -> usize
+pub fn depth_at(table: &[u16], i: usize) -> usize
     requires { ⌜ 8 * i + 8 ≤ length (now table) ⌝ }
     ensures { λ r. ⌜ (r ≡ depthOf (now (table .entry)) i) × (r < 65536) ⌝ }
 {

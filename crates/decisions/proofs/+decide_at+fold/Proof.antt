@@ -13,7 +13,7 @@ use Rattle.requests.specs.Values.{valuesOf}
 use Rattle.decisions.specs.Table.{algorithmAt, wordAt, depthOf}
 use Rattle.decisions.specs.Replies.{replyOf, repliesFrom}
 use Rattle.decisions.proofs.Combining.{Settled, neutral, start-settled, step-settled}
-use Rattle.decisions.proofs.Children.{replies-none, replies-struck, replies-over, replies-deeper, replies-step, reply-off, reply-on, algorithm-word}
+use Rattle.decisions.proofs.Children.{replies-none, replies-struck, replies-over, replies-deeper, replies-step, reply-off, reply-on, target-test, algorithm-word}
 use borrow.Fn.Kinds.{In}
 use borrow.Fn.PlainCycle.{Measures, is, falls, and}
 use Rattle.decisions.proofs.decide_at.Reads as decide-at
@@ -68,7 +68,7 @@ decide-at-returns : (t : ℕ) → decide-at-lts.Need-returns (decide-at-claims t
 decide-at-returns t c =
     let args = c .before .before .before .before .args in
     let tested : within (take 6 (drop (8 * args .at + 2) (args .table .now))) (valuesOf (args .q)) ≡ false = sym (c .before .matches .ensures) ∙ not-true _ (c .if1 .taken) in
-    let given = reply-off (valuesOf (args .q)) (args .table .now) (args .struck .now) (args .n) (args .at) tested in
+    let given = reply-off (matches (valuesOf (args .q))) (args .table .now) (args .struck .now) (args .n) (args .at) (target-test (valuesOf (args .q)) (args .table .now) (args .at) false tested) in
     sym given
 
 decide-at-word-at-requires : (t : ℕ) → decide-at-lts.Need-word-at-requires (decide-at-claims t) (decide-at-at t) decide-at.Post
@@ -78,14 +78,14 @@ decide-at-returns-2 : (t : ℕ) → decide-at-lts.Need-returns-2 (decide-at-clai
 decide-at-returns-2 t c =
     let args = c .before .before .before .before .before .before .args in
     let tested : within (take 6 (drop (8 * args .at + 2) (args .table .now))) (valuesOf (args .q)) ≡ true = sym (c .before .before .before .matches .ensures) ∙ not-false _ (c .before .before .if1 .left) in
-    let given = reply-on (valuesOf (args .q)) (args .table .now) (args .struck .now) (args .n) (args .at) tested in
+    let given = reply-on (matches (valuesOf (args .q))) (args .table .now) (args .struck .now) (args .n) (args .at) (target-test (valuesOf (args .q)) (args .table .now) (args .at) true tested) in
     sym (given ∙ rw (← c .before .word-at .ensures, c .if2 .taken))
 
 decide-at-returns-3 : (t : ℕ) → decide-at-lts.Need-returns-3 (decide-at-claims t) (decide-at-at t) decide-at.Post
 decide-at-returns-3 t c =
     let args = c .before .before .before .before .before .before .before .args in
     let tested : within (take 6 (drop (8 * args .at + 2) (args .table .now))) (valuesOf (args .q)) ≡ true = sym (c .before .before .before .before .matches .ensures) ∙ not-false _ (c .before .before .before .if1 .left) in
-    let given = reply-on (valuesOf (args .q)) (args .table .now) (args .struck .now) (args .n) (args .at) tested in
+    let given = reply-on (matches (valuesOf (args .q))) (args .table .now) (args .struck .now) (args .n) (args .at) (target-test (valuesOf (args .q)) (args .table .now) (args .at) true tested) in
     sym (given ∙ rw (← c .before .before .word-at .ensures, c .if3 .taken))
 
 decide-at-depth-at-requires : (t : ℕ) → decide-at-lts.Need-depth-at-requires (decide-at-claims t) (decide-at-at t) decide-at.Post
@@ -107,7 +107,7 @@ decide-at-returns-4 : (t : ℕ) → decide-at-lts.Need-returns-4 (decide-at-clai
 decide-at-returns-4 t c =
     let args = c .before .before .before .before .before .before .before .before .before .args in
     let tested : within (take 6 (drop (8 * args .at + 2) (args .table .now))) (valuesOf (args .q)) ≡ true = sym (c .before .before .before .before .before .before .matches .ensures) ∙ not-false _ (c .before .before .before .before .before .if1 .left) in
-    let given = reply-on (valuesOf (args .q)) (args .table .now) (args .struck .now) (args .n) (args .at) tested in
+    let given = reply-on (matches (valuesOf (args .q))) (args .table .now) (args .struck .now) (args .n) (args .at) (target-test (valuesOf (args .q)) (args .table .now) (args .at) true tested) in
     let word = c .before .before .before .before .word-at in
     let algorithm : wordAt (word .result) ≡ algorithmAt (word .result - 2) = algorithm-word (word .result) (omega arith) in
     let asked : c .fold .result ≡ combined (wordAt (getD (args .table .now) (8 * args .at) 0)) (repliesFrom (matches (valuesOf (args .q))) (args .table .now) (args .struck .now) (args .n) (suc (depthOf (args .table .now) (args .at))) (args .at + 1)) =

@@ -1,0 +1,4 @@
+-- The laws that the functions' proofs cite.
+pub mod Combining
+pub mod Words
+pub mod Replying
