@@ -1,0 +1,46 @@
+/* A policy that was read, for plain.c and plain_read.c alone. */
+#ifndef PLAIN_POLICY_H
+#define PLAIN_POLICY_H
+
+#include "jogimaduve.h"
+
+#include <stdbool.h>
+
+enum { FILE_BYTES = 16384, NAME_BYTES = 16, ATTRIBUTES = 6, VALUES = 16, SPACE = 4096, ELEMENTS = 64 };
+
+enum word {
+    EFFECT_PERMIT, EFFECT_DENY,
+    DENY_OVERRIDES, PERMIT_OVERRIDES, FIRST_APPLICABLE, ONLY_ONE_APPLICABLE,
+    WORDS
+};
+
+/* A name's bytes with zeros behind, so that two names are compared as two numbers each. */
+struct name { uint64_t half[2]; };
+
+struct attribute {
+    struct name name, value[VALUES];
+    uint8_t values, length[VALUES];
+};
+
+struct element {
+    uint8_t kind, word, parent, length;
+    uint8_t label[NAME_BYTES + 1]; /* the name, then a comma */
+    uint16_t line, line_length;    /* newline included */
+    uint16_t target[8];            /* met with the targets above, so that it holds exactly where the element applies */
+};
+
+struct policy {
+    unsigned attributes, space, elements;
+    struct attribute attribute[ATTRIBUTES];
+    struct element element[ELEMENTS];
+    struct name name[ELEMENTS];
+    uint8_t text[FILE_BYTES + 2 * NAME_BYTES]; /* the file, with room behind so that names may be loaded whole */
+};
+
+jogimaduve_answer plain_read_policy(struct policy *policy, const uint8_t *file, size_t length);
+
+/* Sets one bit a lane: the value that the request has. */
+jogimaduve_answer plain_read_request(const struct policy *policy, const uint8_t *line, size_t length,
+                                     uint16_t values[8]);
+
+#endif
