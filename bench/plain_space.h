@@ -1,0 +1,47 @@
+/* Evaluating the whole space, 64 requests at a time: bit i of a word stands for request i of a block. */
+#ifndef PLAIN_SPACE_H
+#define PLAIN_SPACE_H
+
+#include "plain_policy.h"
+
+enum { BLOCKS = SPACE / 64 };
+
+/* Requests to which an element gives these; not-applicable to those in none. */
+struct gives { uint64_t permit, deny, indeterminate; };
+
+/* Requests whose decision would be another one if an element gave this instead of what it gives. */
+struct changes { uint64_t permit, deny, indeterminate, not_applicable; };
+
+struct block {
+    uint64_t active;             /* elements that apply to any of the requests */
+    struct gives gives[ELEMENTS];
+    struct gives asked[ELEMENTS]; /* what the children give, put together */
+    struct gives later[ELEMENTS]; /* the same, of the siblings behind an element alone */
+    uint64_t matched[ELEMENTS], matched_twice[ELEMENTS]; /* by the target of one child, of two, if only one may be */
+};
+
+struct trimming {
+    uint64_t applies[BLOCKS][ELEMENTS]; /* none for a rule that was struck */
+    uint64_t active[BLOCKS], needed[BLOCKS];
+    uint8_t first[BLOCKS][ELEMENTS]; /* of the needed rules: a request that needs it, counted in its block */
+    unsigned blocks, strikes;
+    uint64_t kept;               /* rules */
+    uint8_t struck[ELEMENTS];    /* in the order struck */
+};
+
+static inline int lowest(uint64_t set) { return __builtin_ctzll(set); }
+static inline int highest(uint64_t set) { return 63 - __builtin_clzll(set); }
+static inline uint64_t bit(int place) { return (uint64_t)1 << place; }
+
+/* The elements that apply to each request; none to those between the space's end and the block's. */
+void plain_apply(const struct policy *policy, uint64_t applying[SPACE]);
+
+void plain_start_trimming(struct trimming *trimming, const struct policy *policy, const uint64_t applying[SPACE]);
+
+/* What every element gives on a block's requests, and then which rules are needed there. */
+void plain_look_at(struct trimming *trimming, const struct policy *policy, unsigned number, struct block *block);
+
+/* Strikes the last needless rule while there is one, once every block was looked at. */
+void plain_strike_needless(struct trimming *trimming, const struct policy *policy);
+
+#endif
