@@ -1,0 +1,22 @@
+/* Policy files and request lines to measure with. All are made here and are the same in every run. */
+#ifndef FILES_H
+#define FILES_H
+
+#include <stddef.h>
+#include <stdint.h>
+
+enum { REQUESTS = 8, REQUEST_BYTES = 6 * 17, MOST_FILE_BYTES = 16384 };
+
+struct policy_file {
+    const char *name;
+    size_t length;
+    uint8_t bytes[MOST_FILE_BYTES];
+    unsigned requests; /* 0 for a file that is refused */
+    size_t request_length[REQUESTS];
+    uint8_t request[REQUESTS][REQUEST_BYTES];
+};
+
+/* 0 if there are not so many. */
+int make_file(struct policy_file *file, unsigned number);
+
+#endif
