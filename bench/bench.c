@@ -1,0 +1,127 @@
+/* Measures the proved library beside the plain C operations, in one run: each file and operation first checked to give
+ * the same answer and bytes from both, then timed in turns. Times are processor time, the best round of each. */
+#define _POSIX_C_SOURCE 200809L
+#include "files.h"
+#include "jogimaduve.h"
+#include "plain.h"
+
+#include <stdio.h>
+#include <stdlib.h>
+#include <string.h>
+#include <time.h>
+
+enum { ROUNDS = 7, TEXT_BYTES = 6 << 20, OPERATIONS = 3 };
+
+static const double round_seconds = 0.02, most_seconds = 0.4; /* of a round; of all rounds if calls are long */
+
+struct side {
+    jogimaduve_answer (*decide)(const uint8_t *, size_t, const uint8_t *, size_t);
+    jogimaduve_answer (*text[2])(const uint8_t *, size_t, uint8_t *, size_t); /* trim, report */
+    uint8_t *buffer;
+};
+
+static uint8_t library_text[TEXT_BYTES], plain_text[TEXT_BYTES];
+static const struct side sides[2] = {
+    {jogimaduve_decide, {jogimaduve_trim, jogimaduve_report}, library_text},
+    {plain_decide, {plain_trim, plain_report}, plain_text},
+};
+static const char *const operation_names[OPERATIONS] = {"decide", "trim", "report"};
+
+static volatile uint32_t seen; /* keeps calls from being left out */
+
+/* Decides one request line, or fills the buffer. */
+static jogimaduve_answer call(const struct side *side, const struct policy_file *file, int operation, unsigned number)
+{
+    static const uint8_t none[1];
+
+    if (operation == 0 && file->requests == 0)
+        return side->decide(file->bytes, file->length, none, 0);
+    if (operation == 0)
+        return side->decide(file->bytes, file->length, file->request[number % file->requests],
+                            file->request_length[number % file->requests]);
+    return side->text[operation - 1](file->bytes, file->length, side->buffer, TEXT_BYTES);
+}
+
+static void check_same(const struct policy_file *file, int operation)
+{
+    unsigned calls = operation == 0 ? REQUESTS : 1;
+
+    memset(library_text, 255, TEXT_BYTES);
+    memset(plain_text, 255, TEXT_BYTES);
+    for (unsigned i = 0; i < calls; i++) {
+        jogimaduve_answer library = call(&sides[0], file, operation, i), plain = call(&sides[1], file, operation, i);
+        if (library.number == plain.number && library.second == plain.second
+            && memcmp(library_text, plain_text, TEXT_BYTES) == 0 && (library.number == 0) == (file->requests > 0))
+            continue;
+        fprintf(stderr, "%s, %s: library %lu %lu, plain %lu %lu, or other bytes\n", file->name,
+                operation_names[operation], (unsigned long)library.number, (unsigned long)library.second,
+                (unsigned long)plain.number, (unsigned long)plain.second);
+        exit(1);
+    }
+}
+
+static double seconds_of(const struct side *side, const struct policy_file *file, int operation, unsigned calls)
+{
+    struct timespec start, end;
+    uint32_t sum = 0;
+
+    clock_gettime(CLOCK_THREAD_CPUTIME_ID, &start);
+    for (unsigned i = 0; i < calls; i++)
+        sum += call(side, file, operation, i).second;
+    clock_gettime(CLOCK_THREAD_CPUTIME_ID, &end);
+    seen = sum;
+    return (double)(end.tv_sec - start.tv_sec) + 1e-9 * (double)(end.tv_nsec - start.tv_nsec);
+}
+
+/* Calls that take about a round; always as many decisions as there are request lines, or a multiple. */
+static unsigned calls_in_round(const struct side *side, const struct policy_file *file, int operation)
+{
+    unsigned least = operation == 0 ? REQUESTS : 1, calls = least;
+
+    for (;;) {
+        double seconds = seconds_of(side, file, operation, calls);
+        if (seconds >= round_seconds / 4)
+            return calls * (1 + (unsigned)(round_seconds / seconds)) / least * least;
+        calls *= 4;
+    }
+}
+
+/* Seconds a call, by side. */
+static void measure(const struct policy_file *file, int operation, double best[2])
+{
+    unsigned calls[2];
+    double spent = 0;
+
+    for (int side = 0; side < 2; side++)
+        calls[side] = calls_in_round(&sides[side], file, operation);
+    best[0] = best[1] = 1e9;
+    for (int round = 0; round < ROUNDS && (round < 2 || spent < most_seconds); round++)
+        for (int side = 0; side < 2; side++) {
+            double seconds = seconds_of(&sides[side], file, operation, calls[side]);
+            spent += seconds;
+            if (seconds / calls[side] < best[side])
+                best[side] = seconds / calls[side];
+        }
+}
+
+int main(void)
+{
+    static struct policy_file file;
+    double largest[OPERATIONS] = {0};
+
+    printf("%-20s %6s  %-7s %14s %14s %9s\n", "file", "bytes", "", "library, us", "plain C, us", "ratio");
+    for (unsigned number = 0; make_file(&file, number); number++)
+        for (int operation = 0; operation < (file.requests > 0 ? OPERATIONS : 1); operation++) {
+            double best[2];
+            check_same(&file, operation);
+            measure(&file, operation, best);
+            double ratio = best[0] / best[1];
+            printf("%-20s %6lu  %-7s %14.2f %14.2f %9.2f\n", file.name, (unsigned long)file.length,
+                   operation_names[operation], 1e6 * best[0], 1e6 * best[1], ratio);
+            fflush(stdout);
+            if (ratio > largest[operation])
+                largest[operation] = ratio;
+        }
+    printf("largest ratio: decide %.2f, trim %.2f, report %.2f\n", largest[0], largest[1], largest[2]);
+    return 0;
+}
