@@ -10,7 +10,10 @@
 #include <string.h>
 #include <time.h>
 
-enum { ROUNDS = 7, TEXT_BYTES = 6 << 20, OPERATIONS = 3 };
+/* Refusing a file is the same for all three; it is measured by decide. */
+enum operation { DECIDE, TRIM, REPORT, REFUSE, OPERATIONS };
+
+enum { ROUNDS = 7, TEXT_BYTES = 6 << 20 };
 
 static const double round_seconds = 0.02, most_seconds = 0.4; /* of a round; of all rounds if calls are long */
 
@@ -25,7 +28,7 @@ static const struct side sides[2] = {
     {jogimaduve_decide, {jogimaduve_trim, jogimaduve_report}, library_text},
     {plain_decide, {plain_trim, plain_report}, plain_text},
 };
-static const char *const operation_names[OPERATIONS] = {"decide", "trim", "report"};
+static const char *const operation_names[OPERATIONS] = {"decide", "trim", "report", "refuse"};
 
 static volatile uint32_t seen; /* keeps calls from being left out */
 
@@ -34,24 +37,24 @@ static jogimaduve_answer call(const struct side *side, const struct policy_file 
 {
     static const uint8_t none[1];
 
-    if (operation == 0 && file->requests == 0)
+    if (operation == REFUSE)
         return side->decide(file->bytes, file->length, none, 0);
-    if (operation == 0)
+    if (operation == DECIDE)
         return side->decide(file->bytes, file->length, file->request[number % file->requests],
                             file->request_length[number % file->requests]);
-    return side->text[operation - 1](file->bytes, file->length, side->buffer, TEXT_BYTES);
+    return side->text[operation - TRIM](file->bytes, file->length, side->buffer, TEXT_BYTES);
 }
 
 static void check_same(const struct policy_file *file, int operation)
 {
-    unsigned calls = operation == 0 ? REQUESTS : 1;
+    unsigned calls = operation == DECIDE ? REQUESTS : 1;
 
     memset(library_text, 255, TEXT_BYTES);
     memset(plain_text, 255, TEXT_BYTES);
     for (unsigned i = 0; i < calls; i++) {
         jogimaduve_answer library = call(&sides[0], file, operation, i), plain = call(&sides[1], file, operation, i);
         if (library.number == plain.number && library.second == plain.second
-            && memcmp(library_text, plain_text, TEXT_BYTES) == 0 && (library.number == 0) == (file->requests > 0))
+            && memcmp(library_text, plain_text, TEXT_BYTES) == 0 && (library.number == 0) == (operation != REFUSE))
             continue;
         fprintf(stderr, "%s, %s: library %lu %lu, plain %lu %lu, or other bytes\n", file->name,
                 operation_names[operation], (unsigned long)library.number, (unsigned long)library.second,
@@ -76,7 +79,7 @@ static double seconds_of(const struct side *side, const struct policy_file *file
 /* Calls that take about a round; always as many decisions as there are request lines, or a multiple. */
 static unsigned calls_in_round(const struct side *side, const struct policy_file *file, int operation)
 {
-    unsigned least = operation == 0 ? REQUESTS : 1, calls = least;
+    unsigned least = operation == DECIDE ? REQUESTS : 1, calls = least;
 
     for (;;) {
         double seconds = seconds_of(side, file, operation, calls);
@@ -104,6 +107,19 @@ static void measure(const struct policy_file *file, int operation, double best[2
         }
 }
 
+/* Prints a line of the table and gives the ratio. */
+static double compare(const struct policy_file *file, int operation)
+{
+    double best[2];
+
+    check_same(file, operation);
+    measure(file, operation, best);
+    printf("%-20s %6lu  %-7s %14.2f %14.2f %9.2f\n", file->name, (unsigned long)file->length,
+           operation_names[operation], 1e6 * best[0], 1e6 * best[1], best[0] / best[1]);
+    fflush(stdout);
+    return best[0] / best[1];
+}
+
 int main(void)
 {
     static struct policy_file file;
@@ -111,17 +127,16 @@ int main(void)
 
     printf("%-20s %6s  %-7s %14s %14s %9s\n", "file", "bytes", "", "library, us", "plain C, us", "ratio");
     for (unsigned number = 0; make_file(&file, number); number++)
-        for (int operation = 0; operation < (file.requests > 0 ? OPERATIONS : 1); operation++) {
-            double best[2];
-            check_same(&file, operation);
-            measure(&file, operation, best);
-            double ratio = best[0] / best[1];
-            printf("%-20s %6lu  %-7s %14.2f %14.2f %9.2f\n", file.name, (unsigned long)file.length,
-                   operation_names[operation], 1e6 * best[0], 1e6 * best[1], ratio);
-            fflush(stdout);
+        for (int operation = 0; operation < OPERATIONS; operation++) {
+            if ((operation == REFUSE) != (file.requests == 0))
+                continue;
+            double ratio = compare(&file, operation);
             if (ratio > largest[operation])
                 largest[operation] = ratio;
         }
-    printf("largest ratio: decide %.2f, trim %.2f, report %.2f\n", largest[0], largest[1], largest[2]);
+    printf("largest ratio:");
+    for (int operation = 0; operation < OPERATIONS; operation++)
+        printf("%s %s %.2f", operation > 0 ? "," : "", operation_names[operation], largest[operation]);
+    printf("\n");
     return 0;
 }

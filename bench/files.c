@@ -152,8 +152,8 @@ static const struct laboratory_element small[] = {
 
 static const struct laboratory_element common[] = {
     {'S', 0, "arm", "", {0}},
-    {'P', 1, "emergency", "deny-overrides", {0, UNLOCK | CALIBRATE, 0}},
-    {'R', 2, "no-guest-unlock", "deny", {GUEST | STUDENT, UNLOCK, 0}},
+    {'P', 1, "emergency", "deny-overrides", {0, GRIP | UNLOCK | CALIBRATE, 0}},
+    {'R', 2, "no-guest-unlock", "deny", {GUEST | STUDENT, GRIP | UNLOCK, 0}},
     {'R', 2, "no-calibration", "deny", {TECH | STUDENT | GUEST, CALIBRATE, 0}},
     {'R', 2, "service-unlock", "permit", {SERVICE | LEAD, UNLOCK | CALIBRATE, 0}},
     {'S', 1, "motion", "permit-overrides", {0, JOG | RUN | TEACH, 0}},
@@ -200,7 +200,7 @@ static void largest(struct policy_file *file, struct shape *shape)
         for (unsigned j = 0; j < 6; j++) {
             unsigned first = random_below(&state, 4);
             targets[j] = 1u << first | 1u << (first + 1 + random_below(&state, 3)) % 4;
-            if (j == 0 || (j == 1 && i % 4 == 0)) /* three values, to fill the file */
+            if (i % 10 == 1 || (j == 0 && i % 4 != 0)) /* wide policies; the rest fills the file */
                 targets[j] = 15u & ~(1u << first);
         }
         if (i % 10 == 1)
@@ -289,8 +289,7 @@ static void needless_first(struct policy_file *file, struct shape *shape)
     numbered(file, shape, 'S', 0, number++, "deny-overrides", everything);
     numbered(file, shape, 'P', 1, number++, "permit-overrides", everything);
     for (unsigned i = 0; i < 26; i++) {
-        unsigned targets[6] = {0, 0, 0};
-        targets[i % 3] = 1u << 15 | 1u << i / 3;
+        unsigned targets[6] = {1u << i % 12, 1u << (11 - i % 12), 3u << i / 2}; /* where a policy denies anyway */
         numbered(file, shape, 'R', 2, number++, "permit", targets);
     }
     for (unsigned i = 0; i < 12; i++) {
@@ -343,7 +342,7 @@ static void many_policies(struct policy_file *file, struct shape *shape)
     for (unsigned i = 0; i < 31; i++) {
         unsigned policy[6] = {0, 0, 0, 0, 0, 1u << i % 4}, rule[6] = {1u << i / 8 % 4, 0, 3u << i % 3, 0, 0, 0};
         numbered(file, shape, 'P', 1, 2 * i + 1, algorithms[i % 3], policy);
-        numbered(file, shape, 'R', 2, 2 * i + 2, effects[i % 2], rule);
+        numbered(file, shape, 'R', 2, 2 * i + 2, effects[i / 4 % 2], rule);
     }
 }
 
