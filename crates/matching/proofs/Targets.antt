@@ -1,0 +1,135 @@
+-- The plane of a target: from the last attribute to the first, and then copied to its element's words.
+use mathlib.Core.Path.{_≡_, refl, ap, _∙_}
+use Prim.Native.Nat.{ℕ, zero, suc, _+_, _-_, _*_, _/_, _%_, _≤_, _<_}
+use native.Mathlib.Nat.{mul-comm, le-refl, le-trans, le-mul-of-pos-right, mod-lt}
+use native.Mathlib.Omega.{arith}
+use mathlib.Core.Bool.{Bool, true, false, _&&_}
+use mathlib.Core.List.{List, [], _∷_}
+use lib.Dec.{eqb}
+use lib.ListN.{length, take, drop, getD, set, replicate, getD-replicate, length-drop}
+use lib.Seq.{getD-drop, getD-set-same, getD-set-other}
+use borrow.Author.Tests.{eqb-true, eqb-false}
+use Rattle.meaning.specs.Model.{product}
+use Rattle.meaning.specs.Deciding.{bit, within, requestOf, matches}
+use Rattle.laws.proofs.Bits.{bit-zero, bit-above}
+use Rattle.laws.proofs.Bools.{Test, passed, failed, test}
+use Rattle.laws.proofs.Requests.{Positive, product-pos}
+use Rattle.requests.proofs.Laws.{rest-cons, rest-none, counts-positive}
+use Rattle.decisions.specs.Table.{elementAt}
+use Rattle.matching.specs.Hits.{Hits}
+use Rattle.matching.specs.Planes.{laid, Clear, Plane, Put}
+use Rattle.matching.proofs.Spreading.{spreads}
+
+-- the requests of the later attributes are some, and no more than all
+later : (i : ℕ) (ss : List ℕ) → Positive ss → (0 < product (drop i ss)) × (product (drop i ss) ≤ product ss)
+later zero ss p = (product-pos ss p, le-refl (product ss))
+later (suc i) [] p = (omega arith, omega arith)
+later (suc i) (s ∷ ss) p =
+    let (some, few) = later i ss (p .1) in
+    (some, le-trans few (rw mul-comm (le-mul-of-pos-right (product ss) (p .0))))
+
+-- the plane before any attribute: the one request of none
+abbrev pub one : List ℕ
+one = set (replicate 64 0) 0 1
+
+one-clear : Clear one 1
+one-clear m a b = go (test (eqb (m / 64) 0))
+  where
+    go : Test (eqb (m / 64) 0) → laid one m ≡ false
+    go (passed t) = let word = eqb-true (m / 64) 0 t in rw word (bit-above 1 1 (m % 64) (omega arith) (omega arith))
+    go (failed t) =
+        rw (getD-set-other {A = ℕ} (replicate 64 0) 0 (m / 64) 1 0 (eqb-false (m / 64) 0 t), getD-replicate {A = ℕ} 64 (m / 64) 0 0 (omega arith))
+        (bit-zero (m % 64))
+
+module _ (masks : List ℕ) (at : ℕ) (counts : List ℕ) (len : ℕ) where
+  -- request m of the attributes from place a on matches their masks
+  abbrev pub passes : ℕ → ℕ → Bool
+  passes a m = within (drop a (take 6 (drop at masks))) (requestOf (drop a (take len counts)) m)
+
+  -- the attributes from place a on are looked at
+  pub record Looks (plane : List ℕ) (size a : ℕ) : Type 0 where
+    pub few : a ≤ len
+    pub all : size ≡ product (drop a (take len counts))
+    pub bits : Plane plane size (passes a)
+
+  module _ (room : at + 6 ≤ length masks) (short : len ≤ 6) (six : length counts ≡ 6) where
+    pub looks-none : Looks one 1 len
+    looks-none =
+        let none = rest-none len len counts (omega arith) refl in
+        record {
+          few = le-refl len;
+          all = rw none;
+          bits = record { bits = λ m l. rw none (first m l); clear = one-clear };
+        }
+      where
+        first : (m : ℕ) → m < 1 → laid one m ≡ true
+        first zero l = refl
+        first (suc m) l = absurd (omega arith)
+
+    -- the attribute before place a
+    module _ (some : 0 < product (take len counts)) (small : product (take len counts) ≤ 4096) (plane : List ℕ) (size a : ℕ) (so-far : Looks plane size a) (more : 0 < a) where
+      back : a - 1 + 1 ≡ a
+      back = omega arith
+
+      counts-at : drop (a - 1) (take len counts) ≡ getD counts (a - 1) 0 ∷ drop a (take len counts)
+      counts-at = rw back at (rest-cons len (a - 1) counts (omega (arith, so-far .few)) (omega arith))
+
+      masks-at : drop (a - 1) (take 6 (drop at masks)) ≡ getD masks (at + (a - 1)) 0 ∷ drop a (take 6 (drop at masks))
+      masks-at =
+          let enough : 6 ≤ length (drop at masks) = simp length-drop (omega arith) in
+          rw (back, getD-drop) at (rest-cons 6 (a - 1) (drop at masks) (omega (arith, so-far .few)) enough)
+
+      next-size : getD counts (a - 1) 0 * size ≡ product (drop (a - 1) (take len counts))
+      next-size = rw (so-far .all, counts-at)
+
+      pub size-some : 0 < size
+      size-some = rw (so-far .all) (later a (take len counts) (counts-positive (take len counts) some) .0)
+
+      pub next-small : getD counts (a - 1) 0 * size ≤ 4096
+      next-small = rw next-size (le-trans (later (a - 1) (take len counts) (counts-positive (take len counts) some) .1) small)
+
+      pub looks-next : (new : List ℕ) → Plane new (getD counts (a - 1) 0 * size) (spreads plane size (getD masks (at + (a - 1)) 0)) → Looks new (getD counts (a - 1) 0 * size) (a - 1)
+      looks-next new spread =
+          record {
+            few = omega (arith, so-far .few);
+            all = next-size;
+            bits = record { bits = λ m l. spread .bits m l ∙ one-more m; clear = spread .clear };
+          }
+        where
+          one-more : (m : ℕ) → spreads plane size (getD masks (at + (a - 1)) 0) m ≡ passes (a - 1) m
+          one-more m =
+              ap (λ b. bit (getD masks (at + (a - 1)) 0) (m / size) && b) (so-far .bits .bits (m % size) (mod-lt m size-some))
+              ∙ rw (counts-at, masks-at, so-far .all)
+
+module _ (plane : List ℕ) (at : ℕ) (old : List ℕ) where
+  pub put-none : Put plane 0 at old old
+  put-none = record { here = λ k l. absurd (omega arith); before = λ k l. refl }
+
+  pub put-next : (new : List ℕ) (k : ℕ) → at + k < length new → Put plane k at old new → Put plane (k + 1) at old (set new (at + k) (getD plane k 0))
+  put-next new k room so-far =
+      record {
+        here = λ j l. go j l (test (eqb j k));
+        before = λ j l. getD-set-other new (at + k) j (getD plane k 0) 0 (λ e. omega arith) ∙ so-far .before j l;
+      }
+    where
+      go : (j : ℕ) → j < k + 1 → Test (eqb j k) → getD (set new (at + k) (getD plane k 0)) (at + j) 0 ≡ getD plane j 0
+      go j l (passed t) = rw (eqb-true j k t) (getD-set-same new (at + k) (getD plane k 0) 0 room)
+      go j l (failed t) =
+          let other = eqb-false j k t in
+          getD-set-other new (at + k) (at + j) (getD plane k 0) 0 (λ e. other (omega arith)) ∙ so-far .here j (omega (arith, other))
+
+module _ (t counts : List ℕ) where
+  pub hits-none : (hits : List ℕ) → Hits t 0 counts hits
+  hits-none hits i m l k = absurd (omega arith)
+
+  pub hits-next : {i words : ℕ} {plane old new : List ℕ} → words ≤ 64 → product counts ≤ 64 * words → Hits t i counts old
+      → ((m : ℕ) → m < product counts → laid plane m ≡ within (take 6 (drop (8 * i + 2) t)) (requestOf counts m))
+      → Put plane words (64 * i) old new → Hits t (i + 1) counts new
+  unfolding elementAt
+  hits-next {i} {words} {plane} {old} {new} few enough so-far here copied j m l k = go (test (eqb j i))
+    where
+      go : Test (eqb j i) → bit (getD new (64 * j + m / 64) 0) (m % 64) ≡ matches (requestOf counts m) (elementAt t j)
+      go (passed e) = rw (eqb-true j i e) (ap (λ x. bit x (m % 64)) (copied .here (m / 64) (omega arith)) ∙ here m k)
+      go (failed e) =
+          let other = eqb-false j i e in
+          ap (λ x. bit x (m % 64)) (copied .before (64 * j + m / 64) (omega (arith, other))) ∙ so-far j m (omega (arith, other)) k

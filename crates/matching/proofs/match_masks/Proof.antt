@@ -1,0 +1,98 @@
+-- `match_masks`: the plane has the requests of the attributes looked at. Assumes nothing.
+use native.Mathlib.Omega.{arith}
+use mathlib.Core.Path.{_≡_}
+use lib.ListN.{length}
+use borrow.Author.Needs.{needs}
+use Rattle.matching.proofs.Targets.{Looks, looks-none, size-some, next-small, looks-next}
+use Rattle.matching.proofs.match_masks.Statement.{statement}
+use Rattle.matching.proofs.match_masks.Tie as tie
+
+abbrev Inv-loop : tie.InvT-loop
+Inv-loop masks at len counts plane₀ size₀ a₀ plane size a = Looks masks at counts len plane size a
+
+abbrev μ-loop : tie.MeasureT-loop
+μ-loop masks at len counts plane₀ size₀ a₀ plane size a = a
+
+array-write-plane : tie.Need-array-write-plane Inv-loop μ-loop
+array-write-plane c = search needs
+
+loop-holds : tie.Need-loop-holds Inv-loop μ-loop
+loop-holds c = let start = c .before in looks-none _ _ _ _ (start .pre .0) (start .pre .1) (search needs)
+
+sub-a : tie.Need-sub-a Inv-loop μ-loop
+sub-a c = search needs
+
+mul-count : tie.Need-mul-count Inv-loop μ-loop
+mul-count c = search needs
+
+array-read-count : tie.Need-array-read-count Inv-loop μ-loop
+array-read-count c = search needs
+
+add-spread : tie.Need-add-spread Inv-loop μ-loop
+add-spread c = search needs
+
+mul-spread : tie.Need-mul-spread Inv-loop μ-loop
+mul-spread c = search needs
+
+shared-slice-read-spread : tie.Need-shared-slice-read-spread Inv-loop μ-loop
+shared-slice-read-spread c = search needs
+
+spread-requires : tie.Need-spread-requires Inv-loop μ-loop
+spread-requires c κs =
+    let start = c .before .before .before .before .before in
+    let turn = c .before .before .before .loop in
+    let more = c .before .before .loop-test .taken in
+    let pre = start .pre in
+    let six : length (start .args .t3) ≡ 6 = search needs in (
+      size-some _ _ _ _ (pre .0) (pre .1) six (pre .2) (pre .3) _ _ _ (turn .inv) more,
+      next-small _ _ _ _ (pre .0) (pre .1) six (pre .2) (pre .3) _ _ _ (turn .inv) more,
+      turn .inv .bits .clear,
+    )
+
+mul-size : tie.Need-mul-size Inv-loop μ-loop
+mul-size c =
+    let start = c .before .before .before .before .before .before in
+    let turn = c .before .before .before .before .loop in
+    let more = c .before .before .before .loop-test .taken in
+    let pre = start .pre in
+    let six : length (start .args .t3) ≡ 6 = search needs in
+    omega (arith, next-small _ _ _ _ (pre .0) (pre .1) six (pre .2) (pre .3) _ _ _ (turn .inv) more)
+
+loop-less : tie.Need-loop-less Inv-loop μ-loop
+loop-less c = search needs
+
+loop-again : tie.Need-loop-again Inv-loop μ-loop
+loop-again c =
+    let start = c .before .before .before .before .before .before in
+    let turn = c .before .before .before .before .loop in
+    let more = c .before .before .before .loop-test .taken in
+    let pre = start .pre in
+    let six : length (start .args .t3) ≡ 6 = search needs in
+    looks-next _ _ _ _ (pre .0) (pre .1) six (pre .2) (pre .3) _ _ _ (turn .inv) more _ (c .spread .ensures)
+
+returns : tie.Need-returns Inv-loop μ-loop
+returns c =
+    let turn = c .before .loop in
+    let first : turn .a ≡ 0 = omega arith in
+    let all = rw first at (turn .inv) in
+    λ m l. all .bits .bits m (rw (all .all) l)
+
+pub match-masks-spec : {M : Type 1} → statement M
+match-masks-spec =
+    tie.close
+    (tie.spec
+    Inv-loop
+    μ-loop
+    array-write-plane
+    loop-holds
+    sub-a
+    mul-count
+    array-read-count
+    add-spread
+    mul-spread
+    shared-slice-read-spread
+    spread-requires
+    mul-size
+    loop-less
+    loop-again
+    returns)

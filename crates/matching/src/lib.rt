@@ -1,0 +1,115 @@
+// Which requests match each element's own target, 64 requests in a word.
+ghost use mathlib.Core.Path.{_≡_};
+ghost use mathlib.Core.Bool.{_&&_, _||_};
+ghost use Prim.Native.Nat.{ℕ, _+_, _*_, _/_, _%_, _≤_, _<_};
+ghost use lib.ListN.{length, take, drop};
+ghost use Rattle.meaning.specs.Model.{product};
+ghost use Rattle.meaning.specs.Deciding.{bit, within, requestOf};
+ghost use Rattle.matching.specs.Planes.{laid, raised, Moved, Clear, Plane, Put};
+ghost use Rattle.matching.specs.Hits.{Hits, Matchable};
+
+// A word moved up by s bits, the highest bits of the word before it coming in.
+fn moved(word: u64, before: u64, s: usize) -> u64
+    requires { ⌜ s < 64 ⌝ }
+    ensures { λ r. ⌜ ((v : ℕ) → v < 64 → Moved word before s r v) ⌝ }
+{
+    (word << s) | ((before >> 1) >> (63 - s))
+}
+
+// Word k of the plane moved up by s bits.
+fn word_moved(plane: &[u64; 64], k: usize, s: usize) -> u64
+    requires { ⌜ (k < 64) × (s < 64) ⌝ }
+    ensures { λ r. ⌜ ((v : ℕ) → v < 64 → bit r v ≡ raised (now (plane .entry)) s (64 * k + v)) ⌝ }
+{
+    if k == 0 {
+        moved(plane[0], 0, s)
+    } else {
+        moved(plane[k], plane[k - 1], s)
+    }
+}
+
+// Lays a plane of `size` bits, moved up by `at`, over another one.
+fn lay(plane: &[u64; 64], size: usize, at: usize, to: &mut [u64])
+    requires { ⌜ (at + size ≤ 4096) × Clear (now plane) size × (length (now to) ≡ 64) ⌝ }
+    ensures { λ _. ⌜ ((m : ℕ) → m < 4096 → laid (now (to .exit)) m ≡ (laid (now (to .entry)) m || raised (now (plane .entry)) at m)) ⌝ }
+{
+    let first = at / 64;
+    let s = at % 64;
+    let end = (at + size + 63) / 64;
+    let mut w = first;
+    while w < end {
+        to[w] |= word_moved(plane, w - first, s);
+        w += 1;
+    }
+}
+
+// The plane of one attribute more: request m has value m / size of it, and the later ones are those of request m % size.
+fn spread(plane: &[u64; 64], size: usize, mask: u16, count: usize) -> [u64; 64]
+    requires { ⌜ (0 < size) × (count * size ≤ 4096) × Clear (now plane) size ⌝ }
+    ensures { λ r. ⌜ Plane r (count * size) (λ m. bit mask (m / size) && laid (now (plane .entry)) (m % size)) ⌝ }
+{
+    let mut to = [0u64; 64];
+    let mut rest = mask;
+    let mut at = 0;
+    let mut v = 0;
+    while v < count {
+        if rest % 2 == 1 {
+            lay(plane, size, at, &mut to);
+        }
+        rest /= 2;
+        at += size;
+        v += 1;
+    }
+    to
+}
+
+// The requests that match the masks from `at` on, from the last attribute to the first.
+fn match_masks(masks: &[u16], at: usize, counts: [usize; 6], len: usize) -> [u64; 64]
+    requires { ⌜ (at + 6 ≤ length (now masks)) × (len ≤ 6) × (0 < product (take len counts)) × (product (take len counts) ≤ 4096) ⌝ }
+    ensures { λ r. ⌜ ((m : ℕ) → m < product (take len counts) → laid r m ≡ within (take 6 (drop at (now (masks .entry)))) (requestOf (take len counts) m)) ⌝ }
+{
+    let mut plane = [0u64; 64];
+    plane[0] = 1;
+    let mut size = 1;
+    let mut a = len;
+    while 0 < a {
+        a -= 1;
+        let count = counts[a];
+        plane = spread(&plane, size, masks[at + a], count);
+        size = count * size;
+    }
+    plane
+}
+
+// Copies the first `words` words of a plane to those from `at` on; the words before them stay.
+fn put(plane: &[u64; 64], words: usize, at: usize, hits: &mut [u64])
+    requires { ⌜ (words ≤ 64) × (at + words ≤ length (now hits)) ⌝ }
+    ensures { λ _. ⌜ Put (now (plane .entry)) words at (now (hits .entry)) (now (hits .exit)) ⌝ }
+{
+    let mut k = 0;
+    while k < words {
+        hits[at + k] = plane[k];
+        k += 1;
+    }
+}
+
+// Lays down which requests match each element's own target.
+pub fn match_all(
+    table: &[u16],
+    n: usize,
+    counts: [usize; 6],
+    len: usize,
+    space: usize,
+    hits: &mut [u64],
+)
+    requires { ⌜ Matchable (now table) n counts len space (now hits) ⌝ }
+    ensures { λ _. ⌜ Hits (now (table .entry)) n (take len counts) (now (hits .exit)) ⌝ }
+{
+    let words = (space + 63) / 64;
+    let mut i = 0;
+    while i < n {
+        let plane = match_masks(table, 8 * i + 2, counts, len);
+        put(&plane, words, 64 * i, hits);
+        i += 1;
+    }
+}
