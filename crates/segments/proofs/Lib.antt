@@ -2,4 +2,5 @@
 pub mod Marks
 pub mod Making
 pub mod Sizing
+mod Chains
 mod PairSteps

@@ -1,3 +1,4 @@
 -- What the contracts of segments cite.
 pub mod Words
+pub mod Chains
 pub mod Pairs

@@ -13,6 +13,7 @@ ghost use Rattle.requests.specs.Values.{valuesOf};
 ghost use Rattle.decisions.specs.Table.{parentOf, placeOr, Room};
 ghost use Rattle.flags.specs.Ready.{countsOf, Ready};
 ghost use Rattle.segments.specs.Words.{wordFrom, appliesAt, givesAt, applyingAt, givingAt, alike, sizeAt, showsAt};
+ghost use Rattle.segments.specs.Chains.{bucketOf, Chained};
 ghost use Rattle.segments.specs.Pairs.{PairsOf, Pairs, Pairing};
 
 // The elements that permit and those that deny.
@@ -98,20 +99,43 @@ pub fn mark_all(
     }
 }
 
-// The first request before m that has its word, or m.
-fn first_alike(words: &[u64], m: usize) -> usize
-    requires { ⌜ m < length (now words) ⌝ }
+// The bucket of a word. heads has for each bucket 1 + the last request that opened a segment in it, links for each of these requests the same before it; 0 where there is none.
+fn bucket(word: u64) -> usize
+    ensures { λ r. ⌜ (r ≡ bucketOf word) × (r < 1021) ⌝ }
+{
+    (word % 1021) as usize
+}
+
+// The first request before m that has its word, or m: only the chain of the word's bucket is looked at.
+fn first_alike(words: &[u64], heads: &[u16; 1021], links: &[u16; 4096], m: usize) -> usize
+    requires { ⌜ Chained (now words) (now heads) (now links) m × (m < length (now words)) × (m < 4096) ⌝ }
     ensures { λ r. ⌜ (r ≡ placeOr m (firstFrom (alike (now (words .entry)) m) 0 m)) × (r ≤ m) ⌝ }
 {
     let word = words[m];
-    let mut k = 0;
-    while k < m {
+    let head = bucket(word);
+    let mut next = heads[head] as usize;
+    while 0 < next {
+        let k = next - 1;
         if words[k] == word {
             return k;
         }
-        k += 1;
+        next = links[k] as usize;
     }
     m
+}
+
+// The same, and chains m if it is the first of its segment.
+fn enter(words: &[u64], heads: &mut [u16; 1021], links: &mut [u16; 4096], m: usize) -> usize
+    requires { ⌜ Chained (now words) (now heads) (now links) m × (m < length (now words)) × (m < 4096) ⌝ }
+    ensures { λ r. ⌜ (r ≡ placeOr m (firstFrom (alike (now (words .entry)) m) 0 m)) × (r ≤ m) × Chained (now (words .entry)) (now (heads .exit)) (now (links .exit)) (m + 1) ⌝ }
+{
+    let first = first_alike(words, heads, links, m);
+    if first == m {
+        let head = bucket(words[m]);
+        links[m] = heads[head];
+        heads[head] = (m + 1) as u16;
+    }
+    first
 }
 
 // Lays down how many requests have the same word as each request that is the first of its segment, 0 for the others.
@@ -119,9 +143,11 @@ pub fn size_all(words: &[u64], space: usize, sizes: &mut [u16])
     requires { ⌜ (space ≤ length (now words)) × (space ≤ length (now sizes)) × (space ≤ 4096) ⌝ }
     ensures { λ _. ⌜ now (sizes .exit) ≡ map (sizeAt (now (words .entry)) space) (counting 0 space) ++ drop space (now (sizes .entry)) ⌝ }
 {
+    let mut heads = [0u16; 1021];
+    let mut links = [0u16; 4096];
     let mut m = 0;
     while m < space {
-        let first = first_alike(words, m);
+        let first = enter(words, &mut heads, &mut links, m);
         sizes[m] = 0;
         sizes[first] += 1;
         m += 1;

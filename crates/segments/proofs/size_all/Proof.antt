@@ -3,21 +3,23 @@ use Prim.Native.Nat.{_-_, _≤_}
 use native.Mathlib.Omega.{arith}
 use borrow.Author.Needs.{needs}
 use lib.ListN.{length-set}
+use Rattle.segments.specs.Chains.{Chained}
+use Rattle.segments.proofs.Chains.{chained-none}
 use Rattle.segments.proofs.Sizing.{first-of, Sized, sized-none, counted-most, sized-next, sized-all}
 use Rattle.segments.proofs.size_all.Statement.{statement}
 use Rattle.segments.proofs.size_all.Tie as tie
 
 abbrev Inv-loop : tie.InvT-loop
-Inv-loop words space sizes₀ m₀ sizes m = (m ≤ space) × Sized words sizes₀ sizes m
+Inv-loop words space sizes₀ heads₀ links₀ m₀ sizes heads links m = (m ≤ space) × Sized words sizes₀ sizes m × Chained words heads links m
 
 abbrev μ-loop : tie.MeasureT-loop
-μ-loop words space sizes₀ m₀ sizes m = space - m
+μ-loop words space sizes₀ heads₀ links₀ m₀ sizes heads links m = space - m
 
 loop-holds : tie.Need-loop-holds Inv-loop μ-loop
-loop-holds c = (omega arith, sized-none _ _)
+loop-holds c = (omega arith, sized-none _ _, chained-none _)
 
-first-alike-requires : tie.Need-first-alike-requires Inv-loop μ-loop
-first-alike-requires c κs = search needs
+enter-requires : tie.Need-enter-requires Inv-loop μ-loop
+enter-requires c κs = (c .before .before .before .loop .inv .2, omega arith, omega arith)
 
 mul-sizes : tie.Need-mul-sizes Inv-loop μ-loop
 mul-sizes c = search needs
@@ -33,8 +35,8 @@ slice-read-sizes c = rw length-set (omega arith)
 
 add-sizes : tie.Need-add-sizes Inv-loop μ-loop
 add-sizes c =
-    let turn = c .before .before .before .loop in
-    let first = first-of (c .before .before .before .before .before .before .args .words .now) (turn .m) _ (c .before .first-alike .ensures .0) in
+    let turn = c .before .before .before .before .before .loop in
+    let first = first-of (c .before .before .before .before .before .before .before .before .args .words .now) (turn .m) _ (c .before .enter .ensures .0) in
     omega (arith, counted-most (turn .inv .1) (omega arith) _ first)
 
 slice-write-sizes-2 : tie.Need-slice-write-sizes-2 Inv-loop μ-loop
@@ -48,9 +50,9 @@ loop-less c = search needs
 
 loop-again : tie.Need-loop-again Inv-loop μ-loop
 loop-again c =
-    let turn = c .before .before .before .loop in
-    let first = first-of (c .before .before .before .before .before .before .args .words .now) (turn .m) _ (c .before .first-alike .ensures .0) in
-    (omega arith, sized-next (turn .inv .1) (omega arith) _ first)
+    let turn = c .before .before .before .before .before .loop in
+    let first = first-of (c .before .before .before .before .before .before .before .before .args .words .now) (turn .m) _ (c .before .enter .ensures .0) in
+    (omega arith, sized-next (turn .inv .1) (omega arith) _ first, c .before .enter .ensures .2)
 
 same-length : tie.Need-same-length Inv-loop μ-loop
 same-length c = search needs
@@ -65,7 +67,7 @@ size-all-spec =
     Inv-loop
     μ-loop
     loop-holds
-    first-alike-requires
+    enter-requires
     mul-sizes
     slice-write-sizes
     mul-sizes-2
