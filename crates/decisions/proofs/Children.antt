@@ -15,7 +15,7 @@ use Rattle.decisions.proofs.Combining.{start, fold-step}
 
 -- how two numbers compare
 module _ (m n : ℕ) where
-  below : m < n → compare m n ≡ Ordering·lt
+  pub below : m < n → compare m n ≡ Ordering·lt
   below l = go (compare m n) refl
     where
       go : (o : Ordering) → compare m n ≡ o → o ≡ Ordering·lt
@@ -45,7 +45,7 @@ module _ (t s : List ℕ) (n i : ℕ) (l : i < n) where
   unfolding left
   left-struck flag = let e : n - i ≡ suc (n - (i + 1)) = omega arith in rw (e, ne-eqb (getD s i 0) 0 flag)
 
-  left-here : getD s i 0 ≡ 0 → left t s i (n - i) ≡ elementAt t i ∷ left t s (i + 1) (n - (i + 1))
+  pub left-here : getD s i 0 ≡ 0 → left t s i (n - i) ≡ elementAt t i ∷ left t s (i + 1) (n - (i + 1))
   unfolding left
   left-here flag = let e : n - i ≡ suc (n - (i + 1)) = omega arith in rw (e, eq-eqb (getD s i 0) 0 flag)
 

@@ -1,5 +1,6 @@
 -- The elements that a table of numbers stands for: a row of eight for each, its word's number, its depth and six masks.
-use Prim.Native.Nat.{ℕ, zero, suc, _+_, _*_, _≤_}
+use Prim.Native.Nat.{ℕ, zero, suc, _+_, _*_, _≤_, _<_}
+use mathlib.Core.Path.{_≡_}
 use mathlib.Core.Bool.{cond}
 use mathlib.Core.List.{List, [], _∷_}
 use mathlib.Core.Option.{Option, none, some}
@@ -65,3 +66,11 @@ pub record Room (t struck : List ℕ) (n i attributes : ℕ) : Type 0 where
   pub flags : n ≤ length struck
   pub place : i ≤ n
   pub few : attributes ≤ 6
+
+-- what stands behind a rule is no deeper than it: a rule has no children
+abbrev pub Leaves : List ℕ → ℕ → Type 0
+Leaves t n = (k : ℕ) → k + 1 < n → getD t (8 * k) 0 < 2 → depthOf t (k + 1) ≤ depthOf t k
+
+-- only rules are struck
+abbrev pub RulesStruck : List ℕ → List ℕ → ℕ → Type 0
+RulesStruck t struck n = (k : ℕ) → k < n → (getD struck k 0 ≡ 0 → ⊥) → getD t (8 * k) 0 < 2
