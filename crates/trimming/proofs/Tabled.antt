@@ -1,21 +1,23 @@
 -- Trimming over a table and flags is trimming over the policy that was read into the table.
 use mathlib.Core.Path.{_≡_, refl, sym, ap, ap₂, _∙_}
-use Prim.Native.Nat.{ℕ, zero, suc, _*_, _≤_, _<_}
+use Prim.Native.Nat.{ℕ, zero, suc, _+_, _*_, _≤_, _<_}
 use native.Mathlib.Omega.{arith}
-use mathlib.Core.Bool.{Bool, false, _&&_, cond}
+use mathlib.Core.Bool.{Bool, true, false, _&&_, cond}
 use mathlib.Core.List.{List, [], _∷_, map, reverse}
 use mathlib.Core.Option.{Option, none, some}
 use lib.Dec.{ltb}
 use lib.ListN.{length, getD, set}
-use borrow.Author.Tests.{le-ltb, ltb-false}
+use borrow.Author.Tests.{lt-ltb, le-ltb, ltb-false}
 use Rattle.meaning.specs.declared.Element.{Element}
 use Rattle.meaning.specs.Text.{Bytes, isNone, firstFrom, lastBelow}
 use Rattle.meaning.specs.Model.{Policy, sizes, product, given}
 use Rattle.meaning.specs.Reading.{read}
 use Rattle.meaning.specs.Deciding.{requestOf, outcome, decide}
+use Rattle.meaning.specs.Segments.{depthAt}
 use Rattle.meaning.specs.Claims.{All, isRule}
+use Rattle.laws.proofs.Children.{accepted-steps, no-deeper}
 use Rattle.laws.proofs.ElementKinds.{isEffect, WordFits, kinds}
-use Rattle.decisions.specs.Table.{wordAt, elementAt}
+use Rattle.decisions.specs.Table.{wordAt, depthOf, elementAt, Leaves}
 use Rattle.flags.specs.Decided as table-level
 use Rattle.layout.specs.Places.{elementIn, elementsTo}
 use Rattle.trimming.specs.Flags.{isLeft, leftPolicy, changesAt, firstChangeAt, ruleIn, keptAt, needlessAt, nextAt, trimmingAt}
@@ -61,6 +63,16 @@ module _ (f : Bytes) (p : Policy) (h : read f ≡ given p) (table places : List 
 
   pub root-word : 0 < n → 2 ≤ getD table 0 0
   root-word l = ltb-false (getD table 0 0) 2 (effect-is 0 l ∙ kinds f p h .root)
+
+  -- a rule of the table has no children, as none of the file has
+  pub leaves : Leaves table n
+  unfolding elementIn elementAt
+  leaves k l rule =
+      let depth-is : (i : ℕ) → i < n → depthAt (p .elements) i ≡ depthOf table i = element-at f table places n p is (λ e. e .depth) 0 in
+      let is-rule : ruleIn (p .elements) k ≡ true = sym (effect-is k (omega arith)) ∙ lt-ltb (getD table (8 * k) 0) 2 rule in
+      let low = no-deeper (p .elements) (accepted-steps f p h) k (omega arith) is-rule in
+      let next : k + 1 ≡ suc k = omega arith in
+      rw (next, ← depth-is (suc k) (omega arith), ← depth-is k (omega arith)) low
 
   pub rule-is : (struck : List ℕ) (i : ℕ) → i < n → table-level.ruleLeft table struck i ≡ keptAt p struck i
   rule-is struck i l = ap (λ b. isLeft struck i && b) (effect-is i l)
