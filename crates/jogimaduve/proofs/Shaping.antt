@@ -11,13 +11,14 @@ use Rattle.meaning.specs.Reading.{read}
 use Rattle.laws.proofs.Bounds.{bounded}
 use Rattle.laws.proofs.Requests.{product-pos}
 use Rattle.laws.proofs.Answers.{positive}
+use Rattle.decisions.specs.Table.{Leaves}
 use Rattle.flags.specs.declared.Shape.{Shape}
 use Rattle.flags.specs.Ready.{countsOf, Ready}
 use Rattle.layout.specs.Places.{lineStart}
 use Rattle.layout.proofs.Laws.{attributes-length}
 use Rattle.layout.proofs.Counts.{counts-are}
 use Rattle.trimming.specs.Copied.{Copies}
-use Rattle.trimming.proofs.Tabled.{root-word}
+use Rattle.trimming.proofs.Tabled.{root-word, leaves as rules-are-leaves}
 use Rattle.reader.specs.declared.Reading.{Reading}
 use Rattle.reader.specs.Steps.{Holds}
 use Rattle.reader.proofs.FileRead.{elements-are, few}
@@ -58,6 +59,9 @@ module _ (f table places : List ℕ) (r : Reading) (p : Policy) (h : read f ≡ 
         positive = subst (λ m. 0 < m) space-is (rw sizes-are (product-pos (sizes (p .attributes)) (positive (p .attributes) (bounded f p h .attributes-good))));
         small = rw (holds .space-is) (holds .spaced .small);
       })
+
+  pub leaves : Leaves table (r .elements)
+  leaves = rules-are-leaves f p h table places (r .elements) (holds .elements) (elements-are f table places r p h holds) (countsOf (shapeOf r)) sizes-are
 
   pub copies : (struck : List ℕ) → 64 ≤ length struck → Copies f places struck (r .elements)
   copies struck room =
