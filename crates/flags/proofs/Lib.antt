@@ -2,6 +2,7 @@
 pub mod Laying
 pub mod Walking
 pub mod Searching
+pub mod Blocks
 pub mod Trying
 pub mod Strikes
 pub mod Enough

@@ -1,16 +1,14 @@
--- Searches a step at a time, and the two ways of a request's decision against the one laid down.
+-- Searches a step at a time.
 use Prim.Native.Nat.{ℕ, zero, suc, _+_, _-_, _<_}
-use mathlib.Core.Path.{_≡_, sym, _∙_}
+use mathlib.Core.Path.{_≡_}
 use mathlib.Core.Bool.{Bool, true, false}
-use mathlib.Core.List.{List}
 use mathlib.Core.Option.{none, some}
 use native.Mathlib.Numerals.{add-one}
 use native.Mathlib.Omega.{arith}
-use lib.ListN.{getD}
-use borrow.Author.Tests.{eq-eqb, ne-eqb}
+use lib.Dec.{eqb}
+use borrow.Author.Tests.{eqb-true, eqb-false}
 use Rattle.meaning.specs.Text.{firstFrom, lastBelow}
-use Rattle.meaning.specs.Deciding.{decisionNumber}
-use Rattle.flags.specs.Decided.{decidedAt, differsAt}
+use Rattle.laws.proofs.Bools.{Test, passed, failed, test}
 
 -- the first number that passes, from m on of those below n
 module _ (p : ℕ → Bool) (m n : ℕ) where
@@ -36,12 +34,10 @@ module _ (p : ℕ → Bool) where
   pub last-nowhere : (i : ℕ) → i ≡ 0 → lastBelow p i ≡ none
   last-nowhere i e = rw e
 
--- d is the number of the decision that request m gets
-module _ (t : List ℕ) (n : ℕ) (counts decided struck : List ℕ) (m d : ℕ) (is : d ≡ decisionNumber (decidedAt t n counts struck m)) where
-  pub differs : (d ≡ getD decided m 0 → ⊥) → differsAt t n counts decided struck m ≡ true
-  unfolding differsAt
-  differs other = rw (ne-eqb (getD decided m 0) (decisionNumber (decidedAt t n counts struck m)) (λ e. other (is ∙ sym e)))
-
-  pub agrees : d ≡ getD decided m 0 → differsAt t n counts decided struck m ≡ false
-  unfolding differsAt
-  agrees same = rw (eq-eqb (getD decided m 0) (decisionNumber (decidedAt t n counts struck m)) (sym same ∙ is))
+-- what holds of all below v, and of v
+pub up-to : (P : ℕ → Type 0) (v : ℕ) → ((u : ℕ) → u < v → P u) → P v → (u : ℕ) → u < v + 1 → P u
+up-to P v below here u l = go (test (eqb u v))
+  where
+    go : Test (eqb u v) → P u
+    go (passed e) = rw (eqb-true u v e) here
+    go (failed e) = let other : (u ≡ v → ⊥) = eqb-false u v e in below u (omega arith)

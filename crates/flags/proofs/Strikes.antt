@@ -12,7 +12,6 @@ use lib.Seq.{sets, sets-eq}
 use borrow.Author.Tests.{not-false}
 use Rattle.meaning.specs.Text.{isNone}
 use Rattle.meaning.specs.Model.{product}
-use Rattle.meaning.specs.Deciding.{decisionNumber}
 use Rattle.laws.proofs.Bools.{and-true, contradiction}
 use Rattle.laws.proofs.Search.{first-none, last-some}
 use Rattle.laws.proofs.Outcomes.{same-outcome}
@@ -21,7 +20,7 @@ use Rattle.flags.specs.declared.Shape.{Shape}
 use Rattle.flags.specs.Decided.{ruleLeft, decidedAt, changesAt, firstChangeAt, needlessAt, nextAt, trimmingAt}
 use Rattle.flags.specs.Ready.{countsOf, Ready, Holds}
 use Rattle.flags.specs.Trims.{Trims}
-use Rattle.flags.proofs.Trying.{ready-set, rule-later}
+use Rattle.flags.proofs.Trying.{ready-set, rule-word}
 
 none-of : (o : Option ℕ) → isNone o ≡ true → o ≡ none
 none-of none e = refl
@@ -63,13 +62,13 @@ module _ (t : List ℕ) (n : ℕ) (counts struck : List ℕ) where
   trimming-stops (suc fuel) e = rw e
 
 -- A needless rule struck: what was asked of the flags holds again, for every request gets the same decision
-module _ (t struck decided : List ℕ) (s : Shape) (i : ℕ) (needless : needlessAt t (s .n) (countsOf s) struck i ≡ true) (ready : Ready t struck s) where
+module _ (t struck told : List ℕ) (s : Shape) (i : ℕ) (needless : needlessAt t (s .n) (countsOf s) struck i ≡ true) (ready : Ready t struck s) where
   needless-both : (ruleLeft t struck i ≡ true) × (isNone (firstChangeAt t (s .n) (countsOf s) struck i) ≡ true)
   unfolding needlessAt
   needless-both = and-true (ruleLeft t struck i) (isNone (firstChangeAt t (s .n) (countsOf s) struck i)) needless
 
   pub ready-next : Ready t (set struck i 1) s
-  ready-next = ready-set i (rule-later t struck i (needless-both .0) (ready .root)) ready
+  ready-next = ready-set i (rule-word t struck i (needless-both .0)) ready
 
   decided-same : (m : ℕ) → m < s .space → decidedAt t (s .n) (countsOf s) struck m ≡ decidedAt t (s .n) (countsOf s) (set struck i 1) m
   unfolding firstChangeAt changesAt
@@ -78,8 +77,8 @@ module _ (t struck decided : List ℕ) (s : Shape) (i : ℕ) (needless : needles
       let unchanged = first-none (changesAt t (s .n) (countsOf s) struck i) 0 (product (countsOf s)) nowhere m zero-le (omega (arith, ready .all)) in
       same-outcome _ _ (not-false _ unchanged)
 
-  pub holds-next : Holds t struck decided s → Holds t (set struck i 1) decided s
-  holds-next holds = record { enough = holds .enough; numbered = λ m l. holds .numbered m l ∙ ap decisionNumber (decided-same m l) }
+  pub holds-next : Holds t struck told s → Holds t (set struck i 1) told s
+  holds-next holds = record { enough = holds .enough; tells = λ m l. holds .tells m l ∙ decided-same m l }
 
 -- From the flags `first` and the places `old`, `count` rules were struck: what is to come completes what striking gives
 pub record Strikes (t : List ℕ) (s : Shape) (first old struck order : List ℕ) (count : ℕ) : Type 0 where
@@ -102,9 +101,9 @@ module _ (t : List ℕ) (s : Shape) (first old struck order : List ℕ) (count :
       rw same record { flags-left = flags-left; order-left = rw add-one (rw add-one at order-left); count-left = omega (arith, count-left) }
 
   -- no rule more
-  pub strikes-end : (flags decided : List ℕ) → flags ≡ struck → trimmingAt t (s .n) (countsOf s) (s .n - count) struck ≡ record { flags = struck; order = [] } → count ≤ s .n → s .n ≤ length old
-      → Ready t struck s → Holds t struck decided s → Trims t decided s first flags old order count
-  strikes-end flags decided same end few room ready holds =
+  pub strikes-end : (flags told : List ℕ) → flags ≡ struck → trimmingAt t (s .n) (countsOf s) (s .n - count) struck ≡ record { flags = struck; order = [] } → count ≤ s .n → s .n ≤ length old
+      → Ready t struck s → Holds t struck told s → Trims t told s first flags old order count
+  strikes-end flags told same end few room ready holds =
       let counted : count ≡ length (trimmingAt t (s .n) (countsOf s) (s .n) first .order) = sym (add-zero count) ∙ rw end at (so-far .count-left) in
       let over = sets-eq (trimmingAt t (s .n) (countsOf s) (s .n) first .order) old 0 (omega arith) in
       let laid : sets old 0 (trimmingAt t (s .n) (countsOf s) (s .n) first .order) ≡ trimmingAt t (s .n) (countsOf s) (s .n) first .order ++ drop count old = rw (zero-add, ← counted) at over in

@@ -11,13 +11,16 @@ use lib.Seq.{getD-set-other, set-set, set-getD}
 use borrow.Author.Tests.{eqb-true, ltb-true}
 use Rattle.meaning.specs.Text.{isNone, firstFrom}
 use Rattle.meaning.specs.Model.{product}
-use Rattle.meaning.specs.Deciding.{decisionNumber}
+use Rattle.meaning.specs.Deciding.{requestOf, matches, sameOutcome}
 use Rattle.laws.proofs.Bools.{contradiction, and-true}
 use Rattle.laws.proofs.Search.{first-some, first-none}
-use Rattle.decisions.specs.Table.{placeOr}
+use Rattle.laws.proofs.Outcomes.{outcome-same}
+use Rattle.decisions.specs.Table.{elementAt, placeOr}
+use Rattle.decisions.proofs.Leaves.{rule-struck, decided-without}
 use Rattle.flags.specs.declared.Shape.{Shape}
 use Rattle.flags.specs.Decided.{ruleLeft, decidedAt, differsAt, changesAt, firstChangeAt, shownAt, needlessAt}
-use Rattle.flags.specs.Ready.{countsOf, Ready, Holds}
+use Rattle.flags.specs.Ready.{countsOf, Ready, Matched, Holds}
+use Rattle.flags.specs.Changes.{Trial}
 
 -- Whether a search finds nothing, by the place that it gives
 module _ (p : ℕ → Bool) (size r : ℕ) where
@@ -48,16 +51,22 @@ pub first-alike : (p q : ℕ → Bool) (m k : ℕ) → ((r : ℕ) → m ≤ r �
 first-alike p q m zero h = refl
 first-alike p q m (suc k) h = rw (h m (omega arith) (omega arith), first-alike p q (suc m) k (λ r low high. h r (omega arith) (omega arith)))
 
--- Element i, which is not the first, is struck
-pub ready-set : {t struck : List ℕ} {s : Shape} (i : ℕ) → (i ≡ 0 → ⊥) → Ready t struck s → Ready t (set struck i 1) s
-ready-set {t} {struck} {s} i later ready =
+-- a rule is not the first element
+rule-first : (t : List ℕ) (i : ℕ) → getD t (8 * i) 0 < 2 → 2 ≤ getD t 0 0 → i ≡ 0 → ⊥
+rule-first t i rule root first = let word : getD t (8 * 0) 0 < 2 = rw first at rule in omega arith
+
+-- Element i, which is a rule, is struck
+pub ready-set : {t struck : List ℕ} {s : Shape} (i : ℕ) → getD t (8 * i) 0 < 2 → Ready t struck s → Ready t (set struck i 1) s
+ready-set {t} {struck} {s} i rule ready =
     record {
       rows = ready .rows;
       flags = omega (arith, length-set struck i 1, ready .flags);
       some = ready .some;
       few = ready .few;
       root = ready .root;
-      stays = getD-set-other struck i 0 1 0 (λ first. later (sym first)) ∙ ready .stays;
+      stays = getD-set-other struck i 0 1 0 (λ first. rule-first t i rule (ready .root) (sym first)) ∙ ready .stays;
+      leaves = ready .leaves;
+      rules = rule-struck t struck (s .n) i (ready .rules) rule;
       attributes = ready .attributes;
       all = ready .all;
       positive = ready .positive;
@@ -69,32 +78,44 @@ pub set-back : (struck : List ℕ) (i flag : ℕ) → getD struck i 0 ≡ flag �
 set-back struck i flag e = set-set struck i 1 flag ∙ ap (set struck i) (sym e) ∙ set-getD struck i 0
 
 -- What gets another decision than the one laid down is what changes without element i
-module _ (t struck decided : List ℕ) (s : Shape) (i : ℕ) (ready : Ready t struck s) (holds : Holds t struck decided s) where
-  differs-changes : (m : ℕ) → m < s .space → differsAt t (s .n) (countsOf s) decided (set struck i 1) m ≡ changesAt t (s .n) (countsOf s) struck i m
+module _ (t struck told : List ℕ) (s : Shape) (i : ℕ) (ready : Ready t struck s) (holds : Holds t struck told s) where
+  differs-changes : (m : ℕ) → m < s .space → differsAt t (s .n) (countsOf s) told (set struck i 1) m ≡ changesAt t (s .n) (countsOf s) struck i m
   unfolding differsAt changesAt
-  differs-changes m l = ap (λ d. not (eqb d (decisionNumber (decidedAt t (s .n) (countsOf s) (set struck i 1) m)))) (holds .numbered m l)
+  differs-changes m l = ap (λ d. not (sameOutcome d (decidedAt t (s .n) (countsOf s) (set struck i 1) m))) (holds .tells m l)
 
-  first-changes : firstFrom (differsAt t (s .n) (countsOf s) decided (set struck i 1)) 0 (s .space) ≡ firstChangeAt t (s .n) (countsOf s) struck i
+  first-changes : firstFrom (differsAt t (s .n) (countsOf s) told (set struck i 1)) 0 (s .space) ≡ firstChangeAt t (s .n) (countsOf s) struck i
   unfolding firstChangeAt
   first-changes = rw (ready .all) (first-alike _ _ 0 (s .space) (λ m low high. differs-changes m (omega arith)))
 
-  pub first-change-is : (r : ℕ) → r ≡ placeOr (s .space) (firstFrom (differsAt t (s .n) (countsOf s) decided (set struck i 1)) 0 (s .space)) → r ≡ placeOr (s .space) (firstChangeAt t (s .n) (countsOf s) struck i)
+  pub first-change-is : (r : ℕ) → r ≡ placeOr (s .space) (firstFrom (differsAt t (s .n) (countsOf s) told (set struck i 1)) 0 (s .space)) → r ≡ placeOr (s .space) (firstChangeAt t (s .n) (countsOf s) struck i)
   first-change-is r e = e ∙ ap (placeOr (s .space)) first-changes
 
-  pub needless-rule : (b : Bool) → ruleLeft t struck i ≡ true → b ≡ isNone (firstFrom (differsAt t (s .n) (countsOf s) decided (set struck i 1)) 0 (s .space)) → b ≡ needlessAt t (s .n) (countsOf s) struck i
+  pub needless-rule : (b : Bool) → ruleLeft t struck i ≡ true → b ≡ isNone (firstFrom (differsAt t (s .n) (countsOf s) told (set struck i 1)) 0 (s .space)) → b ≡ needlessAt t (s .n) (countsOf s) struck i
   unfolding needlessAt
   needless-rule b rule e = rw rule (e ∙ ap isNone first-changes)
 
--- A rule that is left has the flag 0, and is not the first element
+-- A rule that is left has the flag 0, and the word of an effect
 module _ (t struck : List ℕ) (i : ℕ) (rule : ruleLeft t struck i ≡ true) where
   pub rule-flag : getD struck i 0 ≡ 0
   rule-flag = eqb-true (getD struck i 0) 0 (and-true (eqb (getD struck i 0) 0) (ltb (getD t (8 * i) 0) 2) rule .0)
 
-  rule-word : getD t (8 * i) 0 < 2
+  pub rule-word : getD t (8 * i) 0 < 2
   rule-word = ltb-true (getD t (8 * i) 0) 2 (and-true (eqb (getD struck i 0) 0) (ltb (getD t (8 * i) 0) 2) rule .1)
 
-  pub rule-later : 2 ≤ getD t 0 0 → i ≡ 0 → ⊥
-  rule-later root first = let word : getD t (8 * 0) 0 < 2 = rw first at rule-word in omega arith
+  module _ (hits told : List ℕ) (s : Shape) (ready : Ready t struck s) (holds : Holds t struck told s) (l : i < s .n) where
+    -- without it, a request that does not match it gets the same decision
+    elsewhere : (m : ℕ) → m < s .space → matches (requestOf (countsOf s) m) (elementAt t i) ≡ false → differsAt t (s .n) (countsOf s) told (set struck i 1) m ≡ false
+    unfolding differsAt decidedAt
+    elsewhere m below off =
+        let hit = matches (requestOf (countsOf s) m) in
+        let later : (i ≡ 0 → ⊥) = rule-first t i rule-word (ready .root) in
+        let same = decided-without hit t struck (s .n) i (ready .leaves) (ready .rules) (ready .flags) (ready .stays) (omega arith) l rule-flag rule-word off in
+        let gets = decidedAt t (s .n) (countsOf s) (set struck i 1) m in
+        ap (λ d. not (sameOutcome d gets)) (holds .tells m below ∙ sym same) ∙ ap not (outcome-same gets)
+
+    -- it is tried by striking it
+    pub trial : Matched t hits s → Trial t (set struck i 1) hits told s i
+    trial matched = record { ready = ready-set i rule-word ready; matched = matched; room = holds .enough; element = l; elsewhere = elsewhere }
 
 pub needless-other : (t : List ℕ) (n : ℕ) (counts struck : List ℕ) (i : ℕ) → ruleLeft t struck i ≡ false → false ≡ needlessAt t n counts struck i
 unfolding needlessAt
@@ -111,7 +132,7 @@ module _ (t struck : List ℕ) (s : Shape) (i : ℕ) (all : product (countsOf s)
   shown-other other = rw other (sym all)
 
 -- Flags that are those of the start
-pub asks : {t first struck decided : List ℕ} {s : Shape} → struck ≡ first → Ready t first s → Holds t first decided s → Ready t struck s × Holds t struck decided s
+pub asks : {t first struck told : List ℕ} {s : Shape} → struck ≡ first → Ready t first s → Holds t first told s → Ready t struck s × Holds t struck told s
 asks same ready holds = rw same (ready, holds)
 
 pub tested : (t : List ℕ) (n : ℕ) (counts : List ℕ) {first struck : List ℕ} (i : ℕ) {b answer : Bool} → struck ≡ first → b ≡ needlessAt t n counts struck i → b ≡ answer → needlessAt t n counts first i ≡ answer

@@ -1,21 +1,17 @@
--- The requests one after the other, and the numbers of their decisions laid down.
-use Prim.Native.Nat.{ℕ, _+_, _≤_, _<_}
+-- The requests one after the other.
+use Prim.Native.Nat.{ℕ, _+_, _<_}
 use mathlib.Core.Path.{_≡_, ap₂, _∙_}
-use mathlib.Core.List.{List, _++_}
-use native.Mathlib.Nat.{zero-add}
+use mathlib.Core.List.{List}
 use native.Mathlib.Omega.{arith}
-use lib.ListN.{length, take, drop, length-append, List·getD-append}
-use Rattle.meaning.specs.Model.{product}
-use Rattle.meaning.specs.Deciding.{decisionNumber, requestOf, nextRequest, matches, firstDecision}
+use lib.ListN.{take}
+use Rattle.meaning.specs.Deciding.{requestOf, nextRequest}
 use Rattle.laws.proofs.Requests.{next-of}
 use Rattle.requests.specs.declared.Request.{Request}
 use Rattle.requests.specs.Values.{valuesOf, Fitting}
 use Rattle.requests.proofs.Laws.{counts-positive}
-use Rattle.decisions.specs.Table.{left, Room}
+use Rattle.decisions.specs.Table.{Room}
 use Rattle.flags.specs.declared.Shape.{Shape}
-use Rattle.flags.specs.Decided.{decidedAt, numbersFrom, numbers}
-use Rattle.flags.specs.Ready.{countsOf, Ready, Holds}
-use Rattle.flags.proofs.Laying.{length-counted, counted-at, Lays, lays-all}
+use Rattle.flags.specs.Ready.{countsOf, Ready}
 
 -- q is request m, as long as there is one
 pub record Walk (counts : List ℕ) (len space : ℕ) (q : Request) (m : ℕ) : Type 0 where
@@ -41,28 +37,3 @@ module _ (t struck : List ℕ) (s : Shape) (q : Request) (m : ℕ) (ready : Read
 
   pub walk-room : Room t struck (s .n) 1 (q .len)
   walk-room = record { rows = ready .rows; flags = ready .flags; place = ready .some; few = walk .fitting .few }
-
-  pub walk-decided : (d : ℕ) → m < s .space → d ≡ decisionNumber (firstDecision (matches (valuesOf q)) (left t struck 0 (s .n))) → d ≡ decisionNumber (decidedAt t (s .n) (countsOf s) struck m)
-  unfolding decidedAt
-  walk-decided d l e = e ∙ rw (walk .values l)
-
--- the number of request r's decision
-abbrev pub numberAt : List ℕ → ℕ → List ℕ → List ℕ → ℕ → ℕ
-numberAt t n counts struck r = decisionNumber (decidedAt t n counts struck r)
-
--- the numbers of all requests, laid down
-pub numbers-laid : (t : List ℕ) (n : ℕ) (counts struck first d : List ℕ) (space m : ℕ) → product counts ≡ space → space ≤ length first → m ≡ space → Lays (numberAt t n counts struck) space first d m → d ≡ numbers t n counts struck ++ drop space first
-unfolding numbers
-numbers-laid t n counts struck first d space m all room end so-far = rw all (lays-all (numberAt t n counts struck) room end so-far)
-
--- What `decide_all` leaves is what the tests of a rule ask for
-pub numbers-hold : (t struck decided behind : List ℕ) (s : Shape) → Ready t struck s → decided ≡ numbers t (s .n) (countsOf s) struck ++ behind → Holds t struck decided s
-unfolding numbers
-numbers-hold t struck decided behind s ready e =
-    let size = length-counted (numberAt t (s .n) (countsOf s) struck) 0 (product (countsOf s)) in
-    record {
-      enough = rw e (omega (arith, length-append (numbersFrom t (s .n) (countsOf s) struck 0 (product (countsOf s))) behind, size, ready .all));
-      numbered = λ m l.
-          rw (e, List·getD-append (numbersFrom t (s .n) (countsOf s) struck 0 (product (countsOf s))) behind 0 m (omega (arith, size, ready .all)))
-          (rw zero-add at (counted-at (numberAt t (s .n) (countsOf s) struck) 0 (product (countsOf s)) m (omega (arith, ready .all))));
-    }

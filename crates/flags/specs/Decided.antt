@@ -1,14 +1,15 @@
 -- Decisions, needless rules and trimming, over a table of elements and a flag for each: an element whose flag is not 0 is struck.
-use Prim.Native.Nat.{ℕ, zero, suc, _*_}
+use Prim.Native.Nat.{ℕ, zero, suc, _+_, _*_, _/_, _%_}
 use mathlib.Core.Bool.{Bool, not, cond, _&&_}
-use mathlib.Core.List.{List, [], _∷_, map}
+use mathlib.Core.List.{List, [], _∷_}
 use mathlib.Core.Option.{Option, none, some}
 use lib.Dec.{eqb, ltb}
 use lib.ListN.{getD, set}
-use Rattle.meaning.specs.Text.{isNone, counting, firstFrom, lastBelow}
+use Rattle.meaning.specs.Text.{isNone, firstFrom, lastBelow}
 use Rattle.meaning.specs.Model.{product}
-use Rattle.meaning.specs.Deciding.{Outcome, decisionNumber, requestOf, matches, firstDecision, sameOutcome}
+use Rattle.meaning.specs.Deciding.{Outcome, bit, requestOf, matches, firstDecision, sameOutcome}
 use Rattle.decisions.specs.Table.{left, placeOr}
+use Rattle.blocks.specs.Bits.{decisionBy}
 
 -- element i is a rule that is left: its flag is 0, and its word an effect
 abbrev pub ruleLeft : List ℕ → List ℕ → ℕ → Bool
@@ -26,22 +27,19 @@ abbrev pub onward : Option ℕ → List ℕ → (ℕ → Struck) → Struck
 onward none struck next = record { flags = struck; order = [] }
 onward (some i) struck next = struckFirst i (next i)
 
+-- what two words tell of request m, those permitted and 64 places on those denied
+abbrev pub toldAt : List ℕ → ℕ → Outcome
+toldAt told m = decisionBy (bit (getD told (m / 64) 0) (m % 64)) (bit (getD told (64 + m / 64) 0) (m % 64))
+
 -- A policy: its table, the number of its elements, and the value count of each attribute
 module _ (t : List ℕ) (n : ℕ) (counts : List ℕ) where
   -- what request m gets from the elements that are left
   unfoldable pub decidedAt : List ℕ → ℕ → Outcome
   decidedAt struck m = firstDecision (matches (requestOf counts m)) (left t struck 0 n)
 
-  -- the decisions' numbers of k requests from m on, and of all
-  abbrev pub numbersFrom : List ℕ → ℕ → ℕ → List ℕ
-  numbersFrom struck m k = map (λ r. decisionNumber (decidedAt struck r)) (counting m k)
-
-  unfoldable pub numbers : List ℕ → List ℕ
-  numbers struck = numbersFrom struck 0 (product counts)
-
-  -- request m gets another decision than the one of that number
+  -- request m gets another decision than the one told
   unfoldable pub differsAt : List ℕ → List ℕ → ℕ → Bool
-  differsAt decided struck m = not (eqb (getD decided m 0) (decisionNumber (decidedAt struck m)))
+  differsAt told struck m = not (sameOutcome (toldAt told m) (decidedAt struck m))
 
   -- request m gets another decision without element i; the first such request
   unfoldable pub changesAt : List ℕ → ℕ → ℕ → Bool

@@ -2,3 +2,4 @@
 pub mod Decided
 pub mod Ready
 pub mod Trims
+pub mod Changes

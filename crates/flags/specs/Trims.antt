@@ -8,9 +8,9 @@ use Rattle.flags.specs.Decided.{trimmingAt}
 use Rattle.flags.specs.Ready.{countsOf, Ready, Holds}
 
 -- from the flags `struck` to `flags`, the `count` places struck laid over `old`; what was asked of the flags holds again
-pub record Trims (t decided : List ℕ) (s : Shape) (struck flags old order : List ℕ) (count : ℕ) : Type 0 where
+pub record Trims (t told : List ℕ) (s : Shape) (struck flags old order : List ℕ) (count : ℕ) : Type 0 where
   pub flags-are : flags ≡ trimmingAt t (s .n) (countsOf s) (s .n) struck .flags
   pub order-is : order ≡ trimmingAt t (s .n) (countsOf s) (s .n) struck .order ++ drop count old
   pub count-is : count ≡ length (trimmingAt t (s .n) (countsOf s) (s .n) struck .order)
   pub ready : Ready t flags s
-  pub holds : Holds t flags decided s
+  pub holds : Holds t flags told s

@@ -1,15 +1,17 @@
 // Which rules trimming strikes, over a lent table of elements and a flag for each: one that is not 0 strikes its element.
-use requests::Request;
+use blocks::Effects;
 ghost use mathlib.Core.Path.{_≡_};
+ghost use mathlib.Core.Bool.{true};
 ghost use mathlib.Core.List.{_++_, map};
 ghost use Prim.Native.Nat.{_*_, _≤_, _<_};
-ghost use lib.ListN.{length, getD, drop};
+ghost use lib.ListN.{length, drop};
 ghost use Rattle.meaning.specs.Text.{isNone, counting, firstFrom};
-ghost use Rattle.meaning.specs.Deciding.{decisionNumber, matches, firstDecision};
-ghost use Rattle.requests.specs.Values.{valuesOf};
-ghost use Rattle.decisions.specs.Table.{left, placeOr, Room};
-ghost use Rattle.flags.specs.Decided.{ruleLeft, numbers, differsAt, firstChangeAt, shownAt, needlessAt, nextAt};
-ghost use Rattle.flags.specs.Ready.{countsOf, Ready, Holds};
+ghost use Rattle.meaning.specs.Deciding.{decisionNumber};
+ghost use Rattle.decisions.specs.Table.{placeOr};
+ghost use Rattle.matching.specs.Hits.{Matchable};
+ghost use Rattle.flags.specs.Decided.{ruleLeft, toldAt, differsAt, firstChangeAt, shownAt, needlessAt, nextAt};
+ghost use Rattle.flags.specs.Ready.{countsOf, Ready, Matched, Holds};
+ghost use Rattle.flags.specs.Changes.{Other, InBlock, Trial};
 ghost use Rattle.flags.specs.Trims.{Trims};
 
 // A policy's shape: `n` elements, the value counts of `len` attributes, and their product, the number of requests.
@@ -26,49 +28,116 @@ pub struct Tried {
     pub shown: usize,
 }
 
-// The number of the decision that the request gets.
-fn outcome(table: &[u16], struck: &[u8], n: usize, q: Request) -> u8
-    requires { ⌜ Room (now table) (now struck) n 1 (q .len) × (getD (now struck) 0 0 ≡ 0) ⌝ }
-    ensures { λ r. ⌜ r ≡ decisionNumber (firstDecision (matches (valuesOf q)) (left (now (table .entry)) (now (struck .entry)) 0 n)) ⌝ }
+// Lays down which requests match each element's own target.
+pub fn match_elements(table: &[u16], shape: Shape, hits: &mut [u64])
+    requires { ⌜ Matchable (now table) (shape .n) (shape .counts) (shape .len) (shape .space) (now hits) ⌝ }
+    ensures { λ _. ⌜ Matched (now (table .entry)) (now (hits .exit)) shape ⌝ }
 {
-    decisions::number(decisions::decide(table, struck, n, q)) as u8
+    let counts = shape.counts;
+    matching::match_all(table, shape.n, counts, shape.len, shape.space, hits);
 }
 
-// Lays down the number of each request's decision; what lies behind them stays.
-pub fn decide_all(table: &[u16], struck: &[u8], shape: Shape, decided: &mut [u8])
-    requires { ⌜ Ready (now table) (now struck) shape × (shape .space ≤ length (now decided)) ⌝ }
-    ensures { λ _. ⌜ now (decided .exit) ≡ numbers (now (table .entry)) (shape .n) (countsOf shape) (now (struck .entry)) ++ drop (shape .space) (now (decided .entry)) ⌝ }
+// Lays down what each request gets, a block of 64 at a time: the words of those permitted, and 64 places on of those denied.
+pub fn decide_all(table: &[u16], struck: &[u8], hits: &[u64], shape: Shape, told: &mut [u64])
+    requires { ⌜ Ready (now table) (now struck) shape × Matched (now table) (now hits) shape × (128 ≤ length (now told)) ⌝ }
+    ensures { λ _. ⌜ Holds (now (table .entry)) (now (struck .entry)) (now (told .exit)) shape ⌝ }
 {
-    let n = shape.n;
-    let counts = shape.counts;
-    let len = shape.len;
     let space = shape.space;
-    let mut q = requests::request_of(0, counts, len);
+    let mut block = 0;
+    while 64 * block < space {
+        let reply = blocks::reply(table, struck, hits, shape.n, block, 0);
+        let given = reply.given;
+        told[block] = given.permits;
+        told[64 + block] = given.denies;
+        block += 1;
+    }
+}
+
+// Lays down the number of what each request gets, by the words that tell it. What lies behind them stays.
+pub fn number_all(told: &[u64], space: usize, decided: &mut [u8])
+    requires { ⌜ (128 ≤ length (now told)) × (space ≤ 4096) × (space ≤ length (now decided)) ⌝ }
+    ensures { λ _. ⌜ now (decided .exit) ≡ map (λ m. decisionNumber (toldAt (now (told .entry)) m)) (counting 0 space) ++ drop space (now (decided .entry)) ⌝ }
+{
     let mut m = 0;
     while m < space {
-        decided[m] = outcome(table, struck, n, q);
-        q = q.next(counts);
+        let given = Effects {
+            permits: told[m / 64],
+            denies: told[64 + m / 64],
+        };
+        decided[m] = blocks::number(given, m % 64) as u8;
         m += 1;
     }
 }
 
-// The first request that gets another decision than the one laid down, or the number of requests.
-pub fn first_change(table: &[u16], struck: &[u8], shape: Shape, decided: &[u8]) -> usize
-    requires { ⌜ Ready (now table) (now struck) shape × (shape .space ≤ length (now decided)) ⌝ }
-    ensures { λ r. ⌜ r ≡ placeOr (shape .space) (firstFrom (differsAt (now (table .entry)) (shape .n) (countsOf shape) (now (decided .entry)) (now (struck .entry))) 0 (shape .space)) ⌝ }
+// The first request from `from` on, of 64 at most, whose bits in the two tell another decision, or the number of requests.
+fn first_other(given: Effects, before: Effects, from: usize, space: usize) -> usize
+    requires { ⌜ from < space × (space ≤ 4096) ⌝ }
+    ensures { λ r. ⌜ Other given before from space r ⌝ }
 {
-    let n = shape.n;
-    let counts = shape.counts;
-    let len = shape.len;
+    let mut v = 0;
+    while v < 64 {
+        if space <= from + v {
+            return space;
+        }
+        if blocks::number(given, v) != blocks::number(before, v) {
+            return from + v;
+        }
+        v += 1;
+    }
+    space
+}
+
+// The first request of the block that gets another decision than the one laid down, or the number of requests.
+fn change_in(
+    table: &[u16],
+    struck: &[u8],
+    hits: &[u64],
+    shape: Shape,
+    told: &[u64],
+    block: usize,
+) -> usize
+    requires { ⌜ Ready (now table) (now struck) shape × Matched (now table) (now hits) shape × (128 ≤ length (now told)) × (64 * block < shape .space) ⌝ }
+    ensures { λ r. ⌜ InBlock (differsAt (now (table .entry)) (shape .n) (countsOf shape) (now (told .entry)) (now (struck .entry))) (shape .space) block r ⌝ }
+{
     let space = shape.space;
-    let mut q = requests::request_of(0, counts, len);
-    let mut first = 0;
-    while first < space {
-        if outcome(table, struck, n, q) != decided[first] {
+    let reply = blocks::reply(table, struck, hits, shape.n, block, 0);
+    let given = reply.given;
+    let before = Effects {
+        permits: told[block],
+        denies: told[64 + block],
+    };
+    if given.permits == before.permits {
+        if given.denies == before.denies {
+            return space;
+        }
+    }
+    first_other(given, before, 64 * block, space)
+}
+
+// The first request that gets another decision than the one laid down, or the number of requests. Only requests that match the rule can.
+pub fn first_change(
+    table: &[u16],
+    struck: &[u8],
+    hits: &[u64],
+    shape: Shape,
+    told: &[u64],
+    rule: usize,
+) -> usize
+    requires { ⌜ Trial (now table) (now struck) (now hits) (now told) shape rule ⌝ }
+    ensures { λ r. ⌜ r ≡ placeOr (shape .space) (firstFrom (differsAt (now (table .entry)) (shape .n) (countsOf shape) (now (told .entry)) (now (struck .entry))) 0 (shape .space)) ⌝ }
+{
+    let space = shape.space;
+    let mut block = 0;
+    while 64 * block < space {
+        if hits[64 * rule + block] == 0 {
+            block += 1;
+            continue;
+        }
+        let first = change_in(table, struck, hits, shape, told, block);
+        if first < space {
             return first;
         }
-        q = q.next(counts);
-        first += 1;
+        block += 1;
     }
     space
 }
@@ -85,25 +154,30 @@ fn is_left(table: &[u16], struck: &[u8], i: usize) -> bool
     }
 }
 
-// Whether every request gets the decision laid down, the hint tried first.
-fn alike(table: &[u16], struck: &[u8], shape: Shape, decided: &[u8], hint: usize) -> Tried
-    requires { ⌜ Ready (now table) (now struck) shape × (shape .space ≤ length (now decided)) ⌝ }
-    ensures { λ r. ⌜ (r .needless ≡ isNone (firstFrom (differsAt (now (table .entry)) (shape .n) (countsOf shape) (now (decided .entry)) (now (struck .entry))) 0 (shape .space))) × (r .shown < shape .space) ⌝ }
+// Whether every request gets the decision laid down without the rule, the hint's block tried first.
+fn alike(
+    table: &[u16],
+    struck: &[u8],
+    hits: &[u64],
+    shape: Shape,
+    told: &[u64],
+    rule: usize,
+    hint: usize,
+) -> Tried
+    requires { ⌜ Trial (now table) (now struck) (now hits) (now told) shape rule ⌝ }
+    ensures { λ r. ⌜ (r .needless ≡ isNone (firstFrom (differsAt (now (table .entry)) (shape .n) (countsOf shape) (now (told .entry)) (now (struck .entry))) 0 (shape .space))) × (r .shown < shape .space) ⌝ }
 {
-    let n = shape.n;
-    let counts = shape.counts;
-    let len = shape.len;
     let space = shape.space;
     if hint < space {
-        let q = requests::request_of(hint, counts, len);
-        if outcome(table, struck, n, q) != decided[hint] {
+        let near = change_in(table, struck, hits, shape, told, hint / 64);
+        if near < space {
             return Tried {
                 needless: false,
-                shown: hint,
+                shown: near,
             };
         }
     }
-    let first = first_change(table, struck, shape, decided);
+    let first = first_change(table, struck, hits, shape, told, rule);
     if first == space {
         Tried {
             needless: true,
@@ -121,12 +195,13 @@ fn alike(table: &[u16], struck: &[u8], shape: Shape, decided: &[u8], hint: usize
 pub fn needless(
     table: &[u16],
     struck: &mut [u8],
+    hits: &[u64],
     shape: Shape,
-    decided: &[u8],
+    told: &[u64],
     i: usize,
     hint: usize,
 ) -> Tried
-    requires { ⌜ Ready (now table) (now struck) shape × Holds (now table) (now struck) (now decided) shape × (i < shape .n) ⌝ }
+    requires { ⌜ Ready (now table) (now struck) shape × Matched (now table) (now hits) shape × Holds (now table) (now struck) (now told) shape × (i < shape .n) ⌝ }
     ensures { λ r. ⌜ (r .needless ≡ needlessAt (now (table .entry)) (shape .n) (countsOf shape) (now (struck .entry)) i) × (r .shown < shape .space) × (now (struck .exit) ≡ now (struck .entry)) ⌝ }
 {
     if !is_left(table, struck, i) {
@@ -136,7 +211,7 @@ pub fn needless(
         };
     }
     struck[i] = 1;
-    let tried = alike(table, struck, shape, decided, hint);
+    let tried = alike(table, struck, hits, shape, told, i, hint);
     struck[i] = 0;
     tried
 }
@@ -145,18 +220,19 @@ pub fn needless(
 pub fn next_rule(
     table: &[u16],
     struck: &mut [u8],
+    hits: &[u64],
     shape: Shape,
-    decided: &[u8],
+    told: &[u64],
     hints: &mut [u16],
 ) -> usize
-    requires { ⌜ Ready (now table) (now struck) shape × Holds (now table) (now struck) (now decided) shape × (shape .n ≤ length (now hints)) ⌝ }
+    requires { ⌜ Ready (now table) (now struck) shape × Matched (now table) (now hits) shape × Holds (now table) (now struck) (now told) shape × (shape .n ≤ length (now hints)) ⌝ }
     ensures { λ r. ⌜ (r ≡ placeOr (shape .n) (nextAt (now (table .entry)) (shape .n) (countsOf shape) (now (struck .entry)))) × (now (struck .exit) ≡ now (struck .entry)) ⌝ }
 {
     let n = shape.n;
     let mut i = n;
     while 0 < i {
         i -= 1;
-        let tried = needless(table, struck, shape, decided, i, hints[i] as usize);
+        let tried = needless(table, struck, hits, shape, told, i, hints[i] as usize);
         if tried.needless {
             return i;
         }
@@ -169,18 +245,19 @@ pub fn next_rule(
 pub fn trim_flags(
     table: &[u16],
     struck: &mut [u8],
+    hits: &[u64],
     shape: Shape,
-    decided: &[u8],
+    told: &[u64],
     hints: &mut [u16],
     order: &mut [u8],
 ) -> usize
-    requires { ⌜ Ready (now table) (now struck) shape × Holds (now table) (now struck) (now decided) shape × (shape .n ≤ length (now hints)) × (shape .n ≤ length (now order)) ⌝ }
-    ensures { λ r. ⌜ Trims (now (table .entry)) (now (decided .entry)) shape (now (struck .entry)) (now (struck .exit)) (now (order .entry)) (now (order .exit)) r ⌝ }
+    requires { ⌜ Ready (now table) (now struck) shape × Matched (now table) (now hits) shape × Holds (now table) (now struck) (now told) shape × (shape .n ≤ length (now hints)) × (shape .n ≤ length (now order)) ⌝ }
+    ensures { λ r. ⌜ Trims (now (table .entry)) (now (told .entry)) shape (now (struck .entry)) (now (struck .exit)) (now (order .entry)) (now (order .exit)) r ⌝ }
 {
     let n = shape.n;
     let mut count = 0;
     while count < n {
-        let next = next_rule(table, struck, shape, decided, hints);
+        let next = next_rule(table, struck, hits, shape, told, hints);
         if next == n {
             return count;
         }
@@ -192,49 +269,57 @@ pub fn trim_flags(
 }
 
 // The first request whose decision changes without the rule, or the number of requests.
-pub fn needed_by(
+fn needed_by(
     table: &[u16],
     struck: &mut [u8],
+    hits: &[u64],
     shape: Shape,
-    decided: &[u8],
+    told: &[u64],
     rule: usize,
 ) -> usize
-    requires { ⌜ Ready (now table) (now struck) shape × Holds (now table) (now struck) (now decided) shape × (0 < rule) × (rule < shape .n) ⌝ }
+    requires { ⌜ Ready (now table) (now struck) shape × Matched (now table) (now hits) shape × Holds (now table) (now struck) (now told) shape × (rule < shape .n) × (ruleLeft (now table) (now struck) rule ≡ true) ⌝ }
     ensures { λ r. ⌜ (r ≡ placeOr (shape .space) (firstChangeAt (now (table .entry)) (shape .n) (countsOf shape) (now (struck .entry)) rule)) × (now (struck .exit) ≡ now (struck .entry)) ⌝ }
 {
-    let flag = struck[rule];
     struck[rule] = 1;
-    let shown = first_change(table, struck, shape, decided);
-    struck[rule] = flag;
+    let shown = first_change(table, struck, hits, shape, told, rule);
+    struck[rule] = 0;
     shown
 }
 
 // The same for every element, the number of requests for one that is no rule left.
-fn shown_by(table: &[u16], struck: &mut [u8], shape: Shape, decided: &[u8], i: usize) -> usize
-    requires { ⌜ Ready (now table) (now struck) shape × Holds (now table) (now struck) (now decided) shape × (i < shape .n) ⌝ }
+fn shown_by(
+    table: &[u16],
+    struck: &mut [u8],
+    hits: &[u64],
+    shape: Shape,
+    told: &[u64],
+    i: usize,
+) -> usize
+    requires { ⌜ Ready (now table) (now struck) shape × Matched (now table) (now hits) shape × Holds (now table) (now struck) (now told) shape × (i < shape .n) ⌝ }
     ensures { λ r. ⌜ (r ≡ shownAt (now (table .entry)) (shape .n) (countsOf shape) (now (struck .entry)) i) × (now (struck .exit) ≡ now (struck .entry)) ⌝ }
 {
     if !is_left(table, struck, i) {
         return shape.space;
     }
-    needed_by(table, struck, shape, decided, i)
+    needed_by(table, struck, hits, shape, told, i)
 }
 
 // Lays down for each rule left the first request whose decision changes without it, the number of requests where there is none and for every other element. What lies behind them stays.
 pub fn needed_all(
     table: &[u16],
     struck: &mut [u8],
+    hits: &[u64],
     shape: Shape,
-    decided: &[u8],
+    told: &[u64],
     shown: &mut [usize],
 )
-    requires { ⌜ Ready (now table) (now struck) shape × Holds (now table) (now struck) (now decided) shape × (shape .n ≤ length (now shown)) ⌝ }
+    requires { ⌜ Ready (now table) (now struck) shape × Matched (now table) (now hits) shape × Holds (now table) (now struck) (now told) shape × (shape .n ≤ length (now shown)) ⌝ }
     ensures { λ _. ⌜ (now (shown .exit) ≡ map (shownAt (now (table .entry)) (shape .n) (countsOf shape) (now (struck .entry))) (counting 0 (shape .n)) ++ drop (shape .n) (now (shown .entry))) × (now (struck .exit) ≡ now (struck .entry)) ⌝ }
 {
     let n = shape.n;
     let mut i = 0;
     while i < n {
-        shown[i] = shown_by(table, struck, shape, decided, i);
+        shown[i] = shown_by(table, struck, hits, shape, told, i);
         i += 1;
     }
 }

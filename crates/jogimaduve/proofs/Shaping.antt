@@ -4,7 +4,7 @@ use Prim.Native.Nat.{ℕ, zero, suc, _+_, _-_, _≤_, _<_}
 use native.Mathlib.Nat.{le-trans}
 use native.Mathlib.Omega.{arith}
 use mathlib.Core.List.{List}
-use lib.ListN.{length, getD}
+use lib.ListN.{length, getD, replicate, getD-replicate}
 use Rattle.meaning.specs.Text.{Bytes}
 use Rattle.meaning.specs.Model.{Policy, sizes, product, given}
 use Rattle.meaning.specs.Reading.{read}
@@ -12,6 +12,7 @@ use Rattle.laws.proofs.Bounds.{bounded}
 use Rattle.laws.proofs.Requests.{product-pos}
 use Rattle.laws.proofs.Answers.{positive}
 use Rattle.decisions.specs.Table.{Leaves}
+use Rattle.decisions.proofs.Leaves.{none-struck}
 use Rattle.flags.specs.declared.Shape.{Shape}
 use Rattle.flags.specs.Ready.{countsOf, Ready}
 use Rattle.layout.specs.Places.{lineStart}
@@ -45,23 +46,25 @@ module _ (f table places : List ℕ) (r : Reading) (p : Policy) (h : read f ≡ 
   space-is : product (countsOf (shapeOf r)) ≡ r .space
   space-is = ap product sizes-are ∙ ap (λ attrs. product (sizes attrs)) (holds .attributes) ∙ sym (holds .space-is)
 
-  pub ready : (s : Shape) → s ≡ shapeOf r → (struck : List ℕ) → 64 ≤ length struck → getD struck 0 0 ≡ 0 → Ready table struck s
-  ready s shaped struck room first = subst (Ready table struck) (sym shaped)
+  leaves : Leaves table (r .elements)
+  leaves = rules-are-leaves f p h table places (r .elements) (holds .elements) (elements-are f table places r p h holds) (countsOf (shapeOf r)) sizes-are
+
+  pub ready : (s : Shape) → s ≡ shapeOf r → (struck : List ℕ) → 64 ≤ length struck → struck ≡ replicate 64 0 → Ready table struck s
+  ready s shaped struck room none = subst (Ready table struck) (sym shaped)
       (record {
         rows = omega (arith, holds .rooms .rows, few f table places r p h holds);
         flags = omega (arith, few f table places r p h holds);
         some = holds .some;
         few = few f table places r p h holds;
         root = root-word f p h table places (r .elements) (holds .elements) (elements-are f table places r p h holds) (countsOf (shapeOf r)) sizes-are (holds .some);
-        stays = first;
+        stays = ap (λ flags. getD flags 0 0) none;
+        leaves = leaves;
+        rules = none-struck table struck (r .elements) (λ k l. ap (λ flags. getD flags k 0) none ∙ getD-replicate 64 k 0 0 (omega (arith, few f table places r p h holds)));
         attributes = holds .spaced .standing .few;
         all = space-is;
         positive = subst (λ m. 0 < m) space-is (rw sizes-are (product-pos (sizes (p .attributes)) (positive (p .attributes) (bounded f p h .attributes-good))));
         small = rw (holds .space-is) (holds .spaced .small);
       })
-
-  pub leaves : Leaves table (r .elements)
-  leaves = rules-are-leaves f p h table places (r .elements) (holds .elements) (elements-are f table places r p h holds) (countsOf (shapeOf r)) sizes-are
 
   pub copies : (struck : List ℕ) → 64 ≤ length struck → Copies f places struck (r .elements)
   copies struck room =

@@ -73,11 +73,13 @@ fn strike(table: &[u16], struck: &mut [u8], shape: Shape)
     requires { ⌜ Ready (now table) (now struck) shape ⌝ }
     ensures { λ _. ⌜ now (struck .exit) ≡ trimmingAt (now (table .entry)) (shape .n) (countsOf shape) (shape .n) (now (struck .entry)) .flags ⌝ }
 {
-    let mut decided = [0u8; 4096];
-    flags::decide_all(table, struck, shape, &mut decided);
+    let mut hits = [0u64; 4096];
+    flags::match_elements(table, shape, &mut hits);
+    let mut told = [0u64; 128];
+    flags::decide_all(table, struck, &hits, shape, &mut told);
     let mut hints = [0u16; 64];
     let mut order = [0u8; 64];
-    flags::trim_flags(table, struck, shape, &decided, &mut hints, &mut order);
+    flags::trim_flags(table, struck, &hits, shape, &told, &mut hints, &mut order);
 }
 
 // The trimmed text of a policy file, in a lent buffer.

@@ -9,9 +9,10 @@ use lib.Seq.{take-at, getD-take}
 use Rattle.meaning.specs.declared.Decision.{Decision}
 use Rattle.meaning.specs.Text.{Bytes, counting}
 use Rattle.meaning.specs.Model.{product}
+use Rattle.meaning.specs.Deciding.{decisionNumber}
 use Rattle.decisions.specs.Table.{parentOf, placeOr}
 use Rattle.flags.specs.declared.Shape.{Shape}
-use Rattle.flags.specs.Decided.{onward, shownAt, nextAt, trimmingAt}
+use Rattle.flags.specs.Decided.{onward, toldAt, shownAt, nextAt, trimmingAt}
 use Rattle.flags.specs.Ready.{countsOf, Ready, Holds}
 use Rattle.flags.specs.Trims.{Trims}
 use Rattle.layout.specs.Places.{Naming}
@@ -34,7 +35,7 @@ order-few t n counts (suc k) struck = go (nextAt t n counts struck) (λ i. order
 
 module _ (t : List ℕ) (s : Shape) where
   -- the rules, from the flags that striking left
-  module _ (decided flags old order behind shown : List ℕ) (count : ℕ) (trims : Trims t decided s none-struck flags old order count) where
+  module _ (told flags old order behind shown : List ℕ) (count : ℕ) (trims : Trims t told s none-struck flags old order count) where
     pub rules-found : shown ≡ map (shownAt t (s .n) (countsOf s) flags) (counting 0 (s .n)) ++ behind → RulesFound t (s .n) (countsOf s) order shown count
     rules-found e =
         let end = trimmedAt t (s .n) (countsOf s) in
@@ -54,8 +55,8 @@ module _ (t : List ℕ) (s : Shape) where
     within : {m : ℕ} → m < product (countsOf s) → m < s .space
     within l = omega (arith, ready .all)
 
-    pub segments-found : (x : List ℕ) → parents ≡ map (λ i. placeOr (s .n) (parentOf t i)) (counting 0 (s .n)) ++ x → Holds t none-struck decided s → Pairs parents words permits denies (s .n) (s .space) pairs → SegmentsFound t (s .n) (countsOf s) words sizes decided parents pairs
-    segments-found x above holds paired =
+    pub segments-found : (x : List ℕ) → parents ≡ map (λ i. placeOr (s .n) (parentOf t i)) (counting 0 (s .n)) ++ x → (told y : List ℕ) → Holds t none-struck told s → decided ≡ map (λ m. decisionNumber (toldAt told m)) (counting 0 (s .space)) ++ y → Pairs parents words permits denies (s .n) (s .space) pairs → SegmentsFound t (s .n) (countsOf s) words sizes decided parents pairs
+    segments-found x above told y holds numbers paired =
         record {
           permits = permits;
           denies = denies;
@@ -63,7 +64,7 @@ module _ (t : List ℕ) (s : Shape) where
           denying = λ m l. laid-at (givingAt Decision.Deny t none-struck (s .n) (countsOf s)) (s .space) d denied m (within l);
           applying = λ m l. laid-at (applyingAt t (s .n) (countsOf s)) (s .space) a marked m (within l);
           sized = λ m l. laid-at (sizeAt words (s .space)) (s .space) e measured m (within l) ∙ ap (λ k. sizeAt words k m) (sym (ready .all));
-          numbered = λ m l. holds .numbered m (within l);
+          numbered = λ m l. laid-at (λ m. decisionNumber (toldAt told m)) (s .space) y numbers m (within l) ∙ ap decisionNumber (holds .tells m (within l));
           parented = λ j l. laid-at (λ i. placeOr (s .n) (parentOf t i)) (s .n) x above j l;
           paired = subst (λ k. Pairs parents words permits denies (s .n) k pairs) (sym (ready .all)) paired;
         }

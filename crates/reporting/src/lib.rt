@@ -4,28 +4,39 @@ ghost use mathlib.Core.Path.{_≡_};
 ghost use mathlib.Core.List.{_++_};
 ghost use Prim.Native.Nat.{_≤_};
 ghost use lib.ListN.{length, drop};
-ghost use Rattle.flags.specs.Ready.{countsOf, Ready, Holds};
+ghost use Rattle.flags.specs.Ready.{countsOf, Ready, Matched, Holds};
 ghost use Rattle.layout.specs.Places.{Naming};
 ghost use Rattle.reporting.specs.Found.{none-struck, SegmentsFound, RulesFound};
 ghost use Rattle.reporting.specs.Reported.{Reported};
 
-// Lays down the decision and the segment of each request, and the conflicts of siblings.
+// Lays down which requests match each element, and what each request gets.
+fn find_decisions(table: &[u16], shape: Shape, hits: &mut [u64], told: &mut [u64])
+    requires { ⌜ Ready (now table) none-struck shape × (4096 ≤ length (now hits)) × (128 ≤ length (now told)) ⌝ }
+    ensures { λ _. ⌜ Matched (now (table .entry)) (now (hits .exit)) shape × Holds (now (table .entry)) none-struck (now (told .exit)) shape ⌝ }
+{
+    let struck = [0u8; 64];
+    flags::match_elements(table, shape, hits);
+    flags::decide_all(table, &struck, hits, shape, told);
+}
+
+// Lays down the number of each request's decision, its segment, and the conflicts of siblings.
 fn find_segments(
     table: &[u16],
     shape: Shape,
+    told: &[u64],
     words: &mut [u64],
     sizes: &mut [u16],
     decided: &mut [u8],
     parents: &mut [usize],
     pairs: &mut [u16],
 )
-    requires { ⌜ Ready (now table) none-struck shape × (4096 ≤ length (now words)) × (4096 ≤ length (now sizes)) × (4096 ≤ length (now decided)) × (64 ≤ length (now parents)) × (4096 ≤ length (now pairs)) ⌝ }
-    ensures { λ _. ⌜ SegmentsFound (now (table .entry)) (shape .n) (countsOf shape) (now (words .exit)) (now (sizes .exit)) (now (decided .exit)) (now (parents .exit)) (now (pairs .exit)) × Holds (now (table .entry)) none-struck (now (decided .exit)) shape ⌝ }
+    requires { ⌜ Ready (now table) none-struck shape × Holds (now table) none-struck (now told) shape × (4096 ≤ length (now words)) × (4096 ≤ length (now sizes)) × (4096 ≤ length (now decided)) × (64 ≤ length (now parents)) × (4096 ≤ length (now pairs)) ⌝ }
+    ensures { λ _. ⌜ SegmentsFound (now (table .entry)) (shape .n) (countsOf shape) (now (words .exit)) (now (sizes .exit)) (now (decided .exit)) (now (parents .exit)) (now (pairs .exit)) ⌝ }
 {
     let n = shape.n;
     let space = shape.space;
     let struck = [0u8; 64];
-    flags::decide_all(table, &struck, shape, decided);
+    flags::number_all(told, space, decided);
     let mut permits = [0u64; 4096];
     let mut denies = [0u64; 4096];
     segments::mark_all(table, &struck, shape, words, &mut permits, &mut denies);
@@ -37,18 +48,19 @@ fn find_segments(
 // Lays down the rules struck, in order, and for each rule kept the request that needs it. How many are struck, is the result.
 fn find_rules(
     table: &[u16],
+    hits: &[u64],
     shape: Shape,
-    decided: &[u8],
+    told: &[u64],
     order: &mut [u8],
     shown: &mut [usize],
 ) -> usize
-    requires { ⌜ Ready (now table) none-struck shape × Holds (now table) none-struck (now decided) shape × (64 ≤ length (now order)) × (64 ≤ length (now shown)) ⌝ }
+    requires { ⌜ Ready (now table) none-struck shape × Matched (now table) (now hits) shape × Holds (now table) none-struck (now told) shape × (64 ≤ length (now order)) × (64 ≤ length (now shown)) ⌝ }
     ensures { λ r. ⌜ RulesFound (now (table .entry)) (shape .n) (countsOf shape) (now (order .exit)) (now (shown .exit)) r ⌝ }
 {
     let mut struck = [0u8; 64];
     let mut hints = [0u16; 64];
-    let count = flags::trim_flags(table, &mut struck, shape, decided, &mut hints, order);
-    flags::needed_all(table, &mut struck, shape, decided, shown);
+    let count = flags::trim_flags(table, &mut struck, hits, shape, told, &mut hints, order);
+    flags::needed_all(table, &mut struck, hits, shape, told, shown);
     count
 }
 
@@ -59,6 +71,9 @@ pub fn report(file: &[u8], table: &[u16], places: &[usize], shape: Shape, out: &
 {
     let n = shape.n;
     let space = shape.space;
+    let mut hits = [0u64; 4096];
+    let mut told = [0u64; 128];
+    find_decisions(table, shape, &mut hits, &mut told);
     let mut words = [0u64; 4096];
     let mut sizes = [0u16; 4096];
     let mut decided = [0u8; 4096];
@@ -67,6 +82,7 @@ pub fn report(file: &[u8], table: &[u16], places: &[usize], shape: Shape, out: &
     find_segments(
         table,
         shape,
+        &told,
         &mut words,
         &mut sizes,
         &mut decided,
@@ -75,7 +91,7 @@ pub fn report(file: &[u8], table: &[u16], places: &[usize], shape: Shape, out: &
     );
     let mut order = [0u8; 64];
     let mut shown = [0usize; 64];
-    let count = find_rules(table, shape, &decided, &mut order, &mut shown);
+    let count = find_rules(table, &hits, shape, &told, &mut order, &mut shown);
     lines::write_report(
         file,
         places,

@@ -1,57 +1,67 @@
--- `decide_all`: the numbers from request m on, laid over the slice as it is, give what all give over the slice as it was.
--- Assumes nothing.
-use Prim.Native.Nat.{_-_, _≤_}
+-- `decide_all`: up to the block looked at, the words tell what each request gets. Assumes nothing.
+use Prim.Native.Nat.{ℕ, _+_, _-_, _*_, _<_}
+use mathlib.Core.Path.{_≡_, refl}
 use native.Mathlib.Omega.{arith}
+use lib.ListN.{length, length-set}
+use Rattle.flags.specs.Decided.{toldAt, decidedAt}
+use Rattle.flags.specs.Ready.{countsOf}
+use Rattle.flags.proofs.Blocks.{block-room, given-at, told-next}
 use borrow.Author.Needs.{needs}
-use lib.ListN.{take}
-use Rattle.flags.proofs.Laying.{Lays, lays-none, lays-next}
-use Rattle.flags.proofs.Walking.{Walk, walk-of, walk-next, walk-room, walk-decided, numberAt, numbers-laid}
 use Rattle.flags.proofs.decide_all.Statement.{statement}
 use Rattle.flags.proofs.decide_all.Tie as tie
 
 abbrev Inv-loop : tie.InvT-loop
-Inv-loop table struck decided₀ n counts len space q₀ m₀ decided q m =
-    (m ≤ space) × Walk counts len space q m × Lays (numberAt table n (take len counts) struck) space decided₀ decided m
+Inv-loop table struck hits shape told₀ space block₀ told block =
+    (64 * block < space + 64) × (length told ≡ length told₀) × ((m : ℕ) → m < space → m < 64 * block → toldAt told m ≡ decidedAt table (shape .n) (countsOf shape) struck m)
 
 abbrev μ-loop : tie.MeasureT-loop
-μ-loop table struck decided₀ n counts len space q₀ m₀ decided q m = space - m
-
-request-of-requires : tie.Need-request-of-requires Inv-loop μ-loop
-request-of-requires c κs = let ready = c .before .before .before .before .pre .0 in omega (arith, ready .all, ready .positive)
+μ-loop table struck hits shape told₀ space block₀ told block = space + 64 - 64 * block
 
 loop-holds : tie.Need-loop-holds Inv-loop μ-loop
-loop-holds c = (omega arith, walk-of _ 0 (c .request-of .ensures), lays-none _ _ _)
+loop-holds c = (omega arith, refl, λ m l none. absurd (omega arith))
 
-outcome-requires : tie.Need-outcome-requires Inv-loop μ-loop
-outcome-requires c κs =
-    let start = c .before .before .before .before .before .before .before in
-    (walk-room (start .args .table .now) (start .args .struck .now) (start .args .shape) _ _ (start .pre .0) (c .before .loop .inv .1), start .pre .0 .stays)
+mul-loop : tie.Need-mul-loop Inv-loop μ-loop
+mul-loop c = omega (arith, c .before .before .before .before .before .pre .0 .small)
 
-slice-write-decided : tie.Need-slice-write-decided Inv-loop μ-loop
-slice-write-decided c = search needs
+reply-requires : tie.Need-reply-requires Inv-loop μ-loop
+reply-requires c κs =
+    let start = c .before .before .before .before .before .before in
+    let ready = start .pre .0 in
+    block-room (start .args .table .now) (start .args .struck .now) (start .args .hits .now) (start .args .shape) ready (start .pre .1) _ (omega (arith, ready .small))
 
-next-requires : tie.Need-next-requires Inv-loop μ-loop
-next-requires c κs = c .before .before .loop .inv .1 .fitting
+mul-told : tie.Need-mul-told Inv-loop μ-loop
+mul-told c = search needs
 
-add-m : tie.Need-add-m Inv-loop μ-loop
-add-m c = search needs
+slice-write-told : tie.Need-slice-write-told Inv-loop μ-loop
+slice-write-told c = search needs
+
+add-told : tie.Need-add-told Inv-loop μ-loop
+add-told c = search needs
+
+mul-told-2 : tie.Need-mul-told-2 Inv-loop μ-loop
+mul-told-2 c = search needs
+
+slice-write-told-2 : tie.Need-slice-write-told-2 Inv-loop μ-loop
+slice-write-told-2 c = simp length-set (omega (arith, c .before .before .before .before .before .before .before .before .pre .0 .small))
+
+add-block : tie.Need-add-block Inv-loop μ-loop
+add-block c = search needs
 
 loop-less : tie.Need-loop-less Inv-loop μ-loop
 loop-less c = search needs
 
 loop-again : tie.Need-loop-again Inv-loop μ-loop
 loop-again c =
-    let start = c .before .before .before .before .before .before .before .before .before in
+    let start = c .before .before .before .before .before .before .before .before in
     let turn = c .before .before .before .loop in
-    let more = c .before .before .loop-test .taken in
     let t = start .args .table .now in
     let struck = start .args .struck .now in
     let shape = start .args .shape in
     let ready = start .pre .0 in
-    let walk = turn .inv .1 in (
+    let given = given-at t struck (start .args .hits .now) shape ready (start .pre .1) (turn .block) (c .before .reply .result) (c .before .reply .ensures) in (
       omega arith,
-      walk-next t struck shape _ _ ready walk _ more (c .next .ensures),
-      lays-next _ _ more (walk-decided t struck shape _ _ ready walk _ more (c .before .outcome .ensures)) (turn .inv .2),
+      rw (length-set, length-set) (turn .inv .1),
+      told-next (decidedAt t (shape .n) (countsOf shape) struck) (shape .space) (turn .block) _ given (turn .told) (omega (arith, ready .small)) (omega arith) (turn .inv .2),
     )
 
 same-length : tie.Need-same-length Inv-loop μ-loop
@@ -59,10 +69,8 @@ same-length c = search needs
 
 returns : tie.Need-returns Inv-loop μ-loop
 returns c =
-    let start = c .before .before .before .before .before .before .before in
     let turn = c .before .loop in
-    let shape = start .args .shape in
-    numbers-laid _ _ _ _ _ _ (shape .space) (turn .m) (start .pre .0 .all) (start .pre .1) (omega arith) (turn .inv .2)
+    record { enough = omega arith; tells = λ m l. turn .inv .2 m l (omega arith) }
 
 pub decide-all-spec : {M : Type 1} → statement M
 decide-all-spec =
@@ -70,12 +78,15 @@ decide-all-spec =
     (tie.spec
     Inv-loop
     μ-loop
-    request-of-requires
     loop-holds
-    outcome-requires
-    slice-write-decided
-    next-requires
-    add-m
+    mul-loop
+    reply-requires
+    mul-told
+    slice-write-told
+    add-told
+    mul-told-2
+    slice-write-told-2
+    add-block
     loop-less
     loop-again
     same-length

@@ -1,82 +1,73 @@
--- `first_change`: the search from the request looked at on finds what the search from the first finds. Assumes nothing.
-use Prim.Native.Nat.{_-_, _≤_}
-use mathlib.Core.Path.{_≡_, sym, ap, _∙_}
-use native.Mathlib.Nat.{sub-zero}
+-- `first_change`: no request of the blocks passed gets another decision. Assumes nothing.
+use Prim.Native.Nat.{_+_, _-_, _*_, _<_}
 use native.Mathlib.Omega.{arith}
-use borrow.Author.Needs.{needs}
-use lib.ListN.{take}
-use Rattle.meaning.specs.Text.{firstFrom}
-use Rattle.decisions.specs.Table.{placeOr}
 use Rattle.flags.specs.Decided.{differsAt}
 use Rattle.flags.specs.Ready.{countsOf}
-use Rattle.flags.proofs.Walking.{Walk, walk-of, walk-next, walk-room, walk-decided}
-use Rattle.flags.proofs.Searching.{first-here, first-later, first-nowhere, differs, agrees}
+use Rattle.flags.proofs.Blocks.{NoneBelow, block-passed, block-searched, block-found, none-found-at-all, block-off}
+use borrow.Author.Needs.{needs}
 use Rattle.flags.proofs.first_change.Statement.{statement}
 use Rattle.flags.proofs.first_change.Tie as tie
 
 abbrev Inv-loop : tie.InvT-loop
-Inv-loop table struck decided n counts len space q₀ first₀ q first =
-    let test = differsAt table n (take len counts) decided struck in
-    (first ≤ space) × Walk counts len space q first × (firstFrom test 0 space ≡ firstFrom test first (space - first))
+Inv-loop table struck hits shape told rule space block₀ block =
+    (64 * block < space + 64) × NoneBelow (differsAt table (shape .n) (countsOf shape) told struck) space block
 
 abbrev μ-loop : tie.MeasureT-loop
-μ-loop table struck decided n counts len space q₀ first₀ q first = space - first
-
-request-of-requires : tie.Need-request-of-requires Inv-loop μ-loop
-request-of-requires c κs = let ready = c .before .before .before .before .pre .0 in omega (arith, ready .all, ready .positive)
+μ-loop table struck hits shape told rule space block₀ block = space + 64 - 64 * block
 
 loop-holds : tie.Need-loop-holds Inv-loop μ-loop
-loop-holds c = (omega arith, walk-of _ 0 (c .request-of .ensures), rw sub-zero)
+loop-holds c = (omega arith, λ m l none. absurd (omega arith))
 
-outcome-requires : tie.Need-outcome-requires Inv-loop μ-loop
-outcome-requires c κs =
-    let start = c .before .before .before .before .before .before .before in
-    (walk-room (start .args .table .now) (start .args .struck .now) (start .args .shape) _ _ (start .pre .0) (c .before .loop .inv .1), start .pre .0 .stays)
+mul-loop : tie.Need-mul-loop Inv-loop μ-loop
+mul-loop c = omega (arith, c .before .before .before .before .before .pre .ready .small)
+
+mul-if1 : tie.Need-mul-if1 Inv-loop μ-loop
+mul-if1 c = let pre = c .before .before .before .before .before .before .pre in omega (arith, pre .ready .few, pre .element)
+
+add-if1 : tie.Need-add-if1 Inv-loop μ-loop
+add-if1 c = let pre = c .before .before .before .before .before .before .pre in omega (arith, pre .ready .few, pre .element, pre .ready .small)
+
+mul-if1-2 : tie.Need-mul-if1-2 Inv-loop μ-loop
+mul-if1-2 c = let pre = c .before .before .before .before .before .before .pre in omega (arith, pre .ready .few, pre .element, pre .ready .small)
 
 shared-slice-read-if1 : tie.Need-shared-slice-read-if1 Inv-loop μ-loop
-shared-slice-read-if1 c = search needs
+shared-slice-read-if1 c = let pre = c .before .before .before .before .before .before .before .pre in omega (arith, pre .ready .small, pre .matched .room, pre .element)
 
-returns : tie.Need-returns Inv-loop μ-loop
-returns c =
-    let start = c .before .before .before .before .before .before .before .before .before .before in
-    let turn = c .before .before .before .before .loop in
-    let more = c .before .before .before .loop-test .taken in
-    let t = start .args .table .now in
-    let struck = start .args .struck .now in
-    let shape = start .args .shape in
-    let decided = walk-decided t struck shape _ _ (start .pre .0) (turn .inv .1) _ more (c .before .before .outcome .ensures) in
-    let here = first-here (differsAt t (shape .n) (countsOf shape) (start .args .decided .now) struck) (turn .first) (shape .space) more (differs t (shape .n) (countsOf shape) (start .args .decided .now) struck _ _ decided (c .if1 .taken)) in
-    sym (ap (placeOr (shape .space)) (turn .inv .2 ∙ here))
-
-next-requires : tie.Need-next-requires Inv-loop μ-loop
-next-requires c κs = c .before .before .before .before .loop .inv .1 .fitting
-
-add-first : tie.Need-add-first Inv-loop μ-loop
-add-first c = search needs
+add-block : tie.Need-add-block Inv-loop μ-loop
+add-block c = search needs
 
 loop-less : tie.Need-loop-less Inv-loop μ-loop
 loop-less c = search needs
 
 loop-again : tie.Need-loop-again Inv-loop μ-loop
 loop-again c =
-    let start = c .before .before .before .before .before .before .before .before .before .before .before in
+    let start = c .before .before .before .before .before .before .before .before in
+    let turn = c .before .before .before .loop in
+    (omega arith, block-passed _ (start .args .shape .space) (turn .block) (turn .inv .1) (block-off _ _ _ _ (start .args .shape) (start .args .rule) (turn .block) (start .pre) (c .if1 .taken)))
+
+change-in-requires : tie.Need-change-in-requires Inv-loop μ-loop
+change-in-requires c κs = let pre = c .before .before .before .before .before .before .before .before .pre in (pre .ready, pre .matched, pre .room, c .before .before .loop-test .taken)
+
+returns : tie.Need-returns Inv-loop μ-loop
+returns c =
     let turn = c .before .before .before .before .before .loop in
-    let more = c .before .before .before .before .loop-test .taken in
-    let t = start .args .table .now in
-    let struck = start .args .struck .now in
-    let shape = start .args .shape in
-    let ready = start .pre .0 in
-    let walk = turn .inv .1 in
-    let decided = walk-decided t struck shape _ _ ready walk _ more (c .before .before .before .outcome .ensures) in
-    let later = first-later (differsAt t (shape .n) (countsOf shape) (start .args .decided .now) struck) (turn .first) (shape .space) more (agrees t (shape .n) (countsOf shape) (start .args .decided .now) struck _ _ decided (c .before .if1 .left)) in
-    (omega arith, walk-next t struck shape _ _ ready walk _ more (c .next .ensures), turn .inv .2 ∙ later)
+    block-found _ (c .before .before .before .before .before .before .before .before .before .before .args .shape .space) (turn .block) (turn .inv .1) _ (c .before .change-in .ensures) (c .if2 .taken)
+
+add-block-2 : tie.Need-add-block-2 Inv-loop μ-loop
+add-block-2 c = search needs
+
+loop-less-2 : tie.Need-loop-less-2 Inv-loop μ-loop
+loop-less-2 c = search needs
+
+loop-again-2 : tie.Need-loop-again-2 Inv-loop μ-loop
+loop-again-2 c =
+    let turn = c .before .before .before .before .before .loop in
+    (omega arith, block-searched _ (c .before .before .before .before .before .before .before .before .before .before .args .shape .space) (turn .block) (turn .inv .1) _ (c .before .change-in .ensures) (omega arith))
 
 returns-2 : tie.Need-returns-2 Inv-loop μ-loop
 returns-2 c =
-    let start = c .before .before .before .before .before .before .before in
     let turn = c .before .loop in
-    let nowhere = first-nowhere _ (turn .first) (start .args .shape .space) (omega arith) in
-    sym (ap (placeOr (start .args .shape .space)) (turn .inv .2 ∙ nowhere))
+    none-found-at-all _ (c .before .before .before .before .before .before .args .shape .space) (turn .block) (turn .inv .1) (omega arith)
 
 pub first-change-spec : {M : Type 1} → statement M
 first-change-spec =
@@ -84,13 +75,18 @@ first-change-spec =
     (tie.spec
     Inv-loop
     μ-loop
-    request-of-requires
     loop-holds
-    outcome-requires
+    mul-loop
+    mul-if1
+    add-if1
+    mul-if1-2
     shared-slice-read-if1
-    returns
-    next-requires
-    add-first
+    add-block
     loop-less
     loop-again
+    change-in-requires
+    returns
+    add-block-2
+    loop-less-2
+    loop-again-2
     returns-2)

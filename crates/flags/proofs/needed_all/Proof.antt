@@ -12,20 +12,20 @@ use Rattle.flags.proofs.needed_all.Statement.{statement}
 use Rattle.flags.proofs.needed_all.Tie as tie
 
 abbrev Inv-loop : tie.InvT-loop
-Inv-loop table struck₀ shape decided shown₀ n i₀ struck shown i =
+Inv-loop table struck₀ hits shape told shown₀ n i₀ struck shown i =
     (i ≤ n) × (struck ≡ struck₀) × Lays (shownAt table (shape .n) (countsOf shape) struck₀) n shown₀ shown i
 
 abbrev μ-loop : tie.MeasureT-loop
-μ-loop table struck₀ shape decided shown₀ n i₀ struck shown i = n - i
+μ-loop table struck₀ hits shape told shown₀ n i₀ struck shown i = n - i
 
 loop-holds : tie.Need-loop-holds Inv-loop μ-loop
 loop-holds c = (omega arith, refl, lays-none _ _ _)
 
 shown-by-requires : tie.Need-shown-by-requires Inv-loop μ-loop
 shown-by-requires c κs =
-    let start = c .before .before .before .before .before .before .before in
-    let (ready, holds) = asks (c .before .before .loop .inv .1) (start .pre .0) (start .pre .1) in
-    (ready, holds, omega arith)
+    let start = c .before .before .before .before .before .before .before .before in
+    let (ready, holds) = asks (c .before .before .loop .inv .1) (start .pre .0) (start .pre .2) in
+    (ready, start .pre .1, holds, omega arith)
 
 mul-shown : tie.Need-mul-shown Inv-loop μ-loop
 mul-shown c = search needs
@@ -41,7 +41,7 @@ loop-less c = search needs
 
 loop-again : tie.Need-loop-again Inv-loop μ-loop
 loop-again c =
-    let args = c .before .before .before .before .before .before .before .before .before .before .args in
+    let args = c .before .before .before .before .before .before .before .before .before .before .before .args in
     let turn = c .before .before .before .before .before .loop in
     let shown = c .before .before .shown-by .ensures in
     let same = ap (λ flags. shownAt (args .table .now) (args .shape .n) (countsOf (args .shape)) flags (turn .i)) (turn .inv .1) in
@@ -56,7 +56,7 @@ same-length-2 c = search needs
 returns : tie.Need-returns Inv-loop μ-loop
 returns c =
     let turn = c .before .loop in
-    (lays-all _ (c .before .before .before .before .before .before .pre .2) (omega arith) (turn .inv .2), turn .inv .1)
+    (lays-all _ (c .before .before .before .before .before .before .before .pre .3) (omega arith) (turn .inv .2), turn .inv .1)
 
 pub needed-all-spec : {M : Type 1} → statement M
 needed-all-spec =

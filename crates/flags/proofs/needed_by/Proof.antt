@@ -1,14 +1,10 @@
 -- `needed_by`: the flag is set for the search, and set back. Assumes nothing.
-use mathlib.Core.Path.{refl}
 use native.Mathlib.Omega.{arith}
 use lib.ListN.{length-set}
-use Rattle.flags.proofs.Trying.{ready-set, set-back, first-change-is}
+use Rattle.flags.proofs.Trying.{set-back, first-change-is, rule-flag, trial}
 use borrow.Author.Needs.{needs}
 use Rattle.flags.proofs.needed_by.Statement.{statement}
 use Rattle.flags.proofs.needed_by.Tie as tie
-
-slice-read-flag : tie.Need-slice-read-flag
-slice-read-flag c = search needs
 
 slice-write-struck : tie.Need-slice-write-struck
 slice-write-struck c = search needs
@@ -16,7 +12,7 @@ slice-write-struck c = search needs
 first-change-requires : tie.Need-first-change-requires
 first-change-requires c κs =
     let start = c .before .before .before .before .before in
-    (ready-set (start .args .rule) (λ first. omega arith) (start .pre .0), start .pre .1 .enough)
+    trial (start .args .table .now) (start .args .struck .now) (start .args .rule) (start .pre .4) (start .args .hits .now) (start .args .told .now) (start .args .shape) (start .pre .0) (start .pre .2) (start .pre .3) (start .pre .1)
 
 slice-write-struck-2 : tie.Need-slice-write-struck-2
 slice-write-struck-2 c = simp length-set (omega arith)
@@ -29,13 +25,12 @@ returns c =
     let start = c .before .before .before .before .before .before in
     let struck = start .args .struck .now in
     let rule = start .args .rule in
-    (first-change-is (start .args .table .now) struck (start .args .decided .now) (start .args .shape) rule (start .pre .0) (start .pre .1) _ (c .first-change .ensures), set-back struck rule _ refl)
+    (first-change-is (start .args .table .now) struck (start .args .told .now) (start .args .shape) rule (start .pre .0) (start .pre .2) _ (c .first-change .ensures), set-back struck rule 0 (rule-flag (start .args .table .now) struck rule (start .pre .4)))
 
 pub needed-by-spec : {M : Type 1} → statement M
 needed-by-spec =
     tie.close
     (tie.spec
-    slice-read-flag
     slice-write-struck
     first-change-requires
     slice-write-struck-2

@@ -4,7 +4,7 @@ use native.Mathlib.Omega.{arith}
 use borrow.Author.Tests.{not-true, not-false}
 use lib.ListN.{length-set}
 use Rattle.flags.specs.Ready.{countsOf}
-use Rattle.flags.proofs.Trying.{ready-set, set-back, needless-rule, rule-flag, rule-later, needless-other}
+use Rattle.flags.proofs.Trying.{set-back, needless-rule, rule-flag, trial, needless-other}
 use borrow.Author.Needs.{needs}
 use Rattle.flags.proofs.needless.Statement.{statement}
 use Rattle.flags.proofs.needless.Tie as tie
@@ -17,7 +17,7 @@ same-length c = search needs
 
 returns : tie.Need-returns
 returns c =
-    let start = c .before .before .before .before .before .before in
+    let start = c .before .before .before .before .before .before .before in
     let other = sym (c .before .is-left .ensures) ∙ not-true _ (c .if1 .taken) in
     (needless-other (start .args .table .now) (start .args .shape .n) (countsOf (start .args .shape)) (start .args .struck .now) (start .args .i) other, start .pre .0 .positive, refl)
 
@@ -26,9 +26,9 @@ slice-write-struck c = search needs
 
 alike-requires : tie.Need-alike-requires
 alike-requires c κs =
-    let start = c .before .before .before .before .before .before .before in
+    let start = c .before .before .before .before .before .before .before .before in
     let rule = sym (c .before .before .is-left .ensures) ∙ not-false _ (c .before .if1 .left) in
-    (ready-set (start .args .i) (rule-later (start .args .table .now) (start .args .struck .now) (start .args .i) rule (start .pre .0 .root)) (start .pre .0), start .pre .1 .enough)
+    trial (start .args .table .now) (start .args .struck .now) (start .args .i) rule (start .args .hits .now) (start .args .told .now) (start .args .shape) (start .pre .0) (start .pre .2) (start .pre .3) (start .pre .1)
 
 slice-write-struck-2 : tie.Need-slice-write-struck-2
 slice-write-struck-2 c = simp length-set (omega arith)
@@ -38,12 +38,12 @@ same-length-2 c = search needs
 
 returns-2 : tie.Need-returns-2
 returns-2 c =
-    let start = c .before .before .before .before .before .before .before .before in
+    let start = c .before .before .before .before .before .before .before .before .before in
     let t = start .args .table .now in
     let struck = start .args .struck .now in
     let rule = sym (c .before .before .before .is-left .ensures) ∙ not-false _ (c .before .before .if1 .left) in
     let i = start .args .i in
-    (needless-rule t struck (start .args .decided .now) (start .args .shape) i (start .pre .0) (start .pre .1) _ rule (c .alike .ensures .0), c .alike .ensures .1, set-back struck i 0 (rule-flag t struck i rule))
+    (needless-rule t struck (start .args .told .now) (start .args .shape) i (start .pre .0) (start .pre .2) _ rule (c .alike .ensures .0), c .alike .ensures .1, set-back struck i 0 (rule-flag t struck i rule))
 
 pub needless-spec : {M : Type 1} → statement M
 needless-spec =

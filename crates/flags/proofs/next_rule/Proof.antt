@@ -14,12 +14,12 @@ use Rattle.flags.proofs.next_rule.Statement.{statement}
 use Rattle.flags.proofs.next_rule.Tie as tie
 
 abbrev Inv-loop : tie.InvT-loop
-Inv-loop table struck₀ shape decided hints₀ n i₀ struck hints i =
+Inv-loop table struck₀ hits shape told hints₀ n i₀ struck hints i =
     let test = needlessAt table (shape .n) (countsOf shape) struck₀ in
     (i ≤ n) × (struck ≡ struck₀) × (length hints ≡ length hints₀) × (lastBelow test n ≡ lastBelow test i)
 
 abbrev μ-loop : tie.MeasureT-loop
-μ-loop table struck₀ shape decided hints₀ n i₀ struck hints i = i
+μ-loop table struck₀ hits shape told hints₀ n i₀ struck hints i = i
 
 loop-holds : tie.Need-loop-holds Inv-loop μ-loop
 loop-holds c = (omega arith, refl, refl, refl)
@@ -38,9 +38,9 @@ cast-needless c = omega (arith, c .slice-known3 .given (c .before .before .befor
 
 needless-requires : tie.Need-needless-requires Inv-loop μ-loop
 needless-requires c κs =
-    let start = c .before .before .before .before .before .before .before .before in
-    let (ready, holds) = asks (c .before .before .before .loop .inv .1) (start .pre .0) (start .pre .1) in
-    (ready, holds, omega arith)
+    let start = c .before .before .before .before .before .before .before .before .before in
+    let (ready, holds) = asks (c .before .before .before .loop .inv .1) (start .pre .0) (start .pre .2) in
+    (ready, start .pre .1, holds, omega arith)
 
 same-length : tie.Need-same-length Inv-loop μ-loop
 same-length c = ap length (c .before .before .before .needless .ensures .2 ∙ c .before .before .before .before .before .before .before .loop .inv .1)
@@ -51,14 +51,14 @@ same-length-2 c = search needs
 returns : tie.Need-returns Inv-loop μ-loop
 unfolding nextAt
 returns c =
-    let start = c .before .before .before .before .before .before .before .before .before .before .before .before in
+    let start = c .before .before .before .before .before .before .before .before .before .before .before .before .before in
     let turn = c .before .before .before .before .before .before .before .loop in
     let tried = c .before .before .before .needless .ensures in
     let here = tested (start .args .table .now) (start .args .shape .n) (countsOf (start .args .shape)) _ (turn .inv .1) (tried .0) (c .if1 .taken) in
     (sym (ap (placeOr (start .args .shape .n)) (turn .inv .3 ∙ last-here _ (turn .i) (omega arith) here)), tried .2 ∙ turn .inv .1)
 
 cast-hints : tie.Need-cast-hints Inv-loop μ-loop
-cast-hints c = let start = c .before .before .before .before .before .before .before .before .before .before .before .before .before in omega (arith, c .before .before .before .before .needless .ensures .1, start .pre .0 .small)
+cast-hints c = let start = c .before .before .before .before .before .before .before .before .before .before .before .before .before .before in omega (arith, c .before .before .before .before .needless .ensures .1, start .pre .0 .small)
 
 mul-hints : tie.Need-mul-hints Inv-loop μ-loop
 mul-hints c = search needs
@@ -71,7 +71,7 @@ loop-less c = search needs
 
 loop-again : tie.Need-loop-again Inv-loop μ-loop
 loop-again c =
-    let start = c .before .before .before .before .before .before .before .before .before .before .before .before .before in
+    let start = c .before .before .before .before .before .before .before .before .before .before .before .before .before .before in
     let turn = c .before .before .before .before .before .before .before .before .loop in
     let tried = c .before .before .before .before .needless .ensures in
     let needed = tested (start .args .table .now) (start .args .shape .n) (countsOf (start .args .shape)) _ (turn .inv .1) (tried .0) (c .before .if1 .left) in
@@ -86,7 +86,7 @@ same-length-4 c = search needs
 returns-2 : tie.Need-returns-2 Inv-loop μ-loop
 unfolding nextAt
 returns-2 c =
-    let start = c .before .before .before .before .before .before in
+    let start = c .before .before .before .before .before .before .before in
     let turn = c .before .loop in
     (sym (ap (placeOr (start .args .shape .n)) (turn .inv .3 ∙ last-nowhere _ (turn .i) (omega arith))), turn .inv .1)
 

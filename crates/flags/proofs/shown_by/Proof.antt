@@ -1,9 +1,8 @@
--- `shown_by`: a rule that is left is not the first element. Assumes nothing.
+-- `shown_by`: what `needed_by` gives for a rule that is left. Assumes nothing.
 use mathlib.Core.Path.{refl, sym, _∙_}
-use native.Mathlib.Omega.{arith}
 use borrow.Author.Tests.{not-true, not-false}
 use borrow.Author.Needs.{needs}
-use Rattle.flags.proofs.Trying.{rule-later, shown-rule, shown-other}
+use Rattle.flags.proofs.Trying.{shown-rule, shown-other}
 use Rattle.flags.proofs.shown_by.Statement.{statement}
 use Rattle.flags.proofs.shown_by.Tie as tie
 
@@ -15,21 +14,20 @@ same-length c = search needs
 
 returns : tie.Need-returns
 returns c =
-    let start = c .before .before .before .before .before .before in
+    let start = c .before .before .before .before .before .before .before in
     (shown-other _ _ (start .args .shape) _ (start .pre .0 .all) (sym (c .before .is-left .ensures) ∙ not-true _ (c .if1 .taken)), refl)
 
 needed-by-requires : tie.Need-needed-by-requires
 needed-by-requires c κs =
-    let start = c .before .before .before .before .before .before .before in
-    let later = rule-later (start .args .table .now) (start .args .struck .now) (start .args .i) (sym (c .before .before .is-left .ensures) ∙ not-false _ (c .before .if1 .left)) (start .pre .0 .root) in
-    (start .pre .0, start .pre .1, omega arith, start .pre .2)
+    let start = c .before .before .before .before .before .before .before .before in
+    (start .pre .0, start .pre .1, start .pre .2, start .pre .3, sym (c .before .before .is-left .ensures) ∙ not-false _ (c .before .if1 .left))
 
 same-length-2 : tie.Need-same-length-2
 same-length-2 c = search needs
 
 returns-2 : tie.Need-returns-2
 returns-2 c =
-    let start = c .before .before .before .before .before .before .before .before .before .before in
+    let start = c .before .before .before .before .before .before .before .before .before .before .before in
     let rule = sym (c .before .before .before .before .before .is-left .ensures) ∙ not-false _ (c .before .before .before .before .if1 .left) in
     let needed = c .before .before .needed-by .ensures in
     (shown-rule _ _ (start .args .shape) _ (start .pre .0 .all) _ rule (needed .0), needed .1)

@@ -1,22 +1,12 @@
+-- `find_segments`: each thing is laid down once. Assumes nothing.
 use native.Mathlib.Omega.{arith}
-use Rattle.flags.proofs.Walking.{numbers-hold}
 use Rattle.reporting.proofs.Finding.{segments-found}
 use borrow.Author.Needs.{needs}
 use Rattle.reporting.proofs.find_segments.Statement.{statement}
 use Rattle.reporting.proofs.find_segments.Tie as tie
-use Rattle.reporting.proofs.find_segments.Reads as reads
-use Rattle.reporting.proofs.find_segments.Lts as lts
-use Rattle.flags.proofs.decide_all.Reads as decide-all-reads
-use Rattle.segments.proofs.mark_all.Reads as mark-all-reads
-use Rattle.segments.proofs.pair_all.Reads as pair-all-reads
-use Rattle.segments.proofs.parent_all.Reads as parent-all-reads
-use Rattle.segments.proofs.size_all.Reads as size-all-reads
 
-slice-aggregate-decide-all : tie.Need-slice-aggregate-decide-all
-slice-aggregate-decide-all c = search needs
-
-decide-all-requires : tie.Need-decide-all-requires
-decide-all-requires c κs = search needs
+number-all-requires : tie.Need-number-all-requires
+number-all-requires c κs = let pre = c .before .before .before .before .before .before .before .before .pre in (pre .1 .enough, pre .0 .small, omega (arith, pre .0 .small))
 
 slice-aggregate-mark-all : tie.Need-slice-aggregate-mark-all
 slice-aggregate-mark-all c = search needs
@@ -66,15 +56,13 @@ returns : tie.Need-returns
 returns c =
     let pre = c .before .before .before .before .before .before .before .before .before .before .before .before .before .before .before .before .before .before .before .before .before .before .before .before .before .before .before .before .before .before .before .before .before .before .before .before .before .pre in
     let marks = c .before .before .before .before .before .before .before .before .before .before .before .before .before .before .before .before .before .before .before .before .before .mark-all .ensures in
-    let holds = numbers-hold _ _ _ _ _ (pre .0) (c .before .before .before .before .before .before .before .before .before .before .before .before .before .before .before .before .before .before .before .before .before .before .before .before .before .before .before .before .decide-all .ensures) in
-    (segments-found _ _ (pre .0) _ _ _ _ _ _ _ _ _ _ _ (marks .0) (marks .1) (marks .2) (c .before .before .before .before .before .before .before .before .before .before .before .before .before .before .size-all .ensures) _ (c .before .before .before .before .before .before .before .before .before .before .parent-all .ensures) holds (c .before .before .pair-all .ensures), holds)
+    segments-found _ _ (pre .0) _ _ _ _ _ _ _ _ _ _ _ (marks .0) (marks .1) (marks .2) (c .before .before .before .before .before .before .before .before .before .before .before .before .before .before .size-all .ensures) _ (c .before .before .before .before .before .before .before .before .before .before .parent-all .ensures) _ _ (pre .1) (c .before .before .before .before .before .before .before .before .before .before .before .before .before .before .before .before .before .before .before .before .before .before .before .before .before .before .before .before .number-all .ensures) (c .before .before .pair-all .ensures)
 
 pub find-segments-spec : {M : Type 1} → statement M
 find-segments-spec =
     tie.close
     (tie.spec
-    slice-aggregate-decide-all
-    decide-all-requires
+    number-all-requires
     slice-aggregate-mark-all
     slice-aggregate-mark-all-2
     slice-aggregate-mark-all-3

@@ -1,14 +1,19 @@
+-- `report`: what is found is what the lines need. Assumes nothing.
 use native.Mathlib.Omega.{arith}
 use Rattle.reporting.proofs.Finding.{struck-named}
 use Rattle.reporting.proofs.ReportText.{reported}
 use borrow.Author.Needs.{needs}
 use Rattle.reporting.proofs.report.Statement.{statement}
 use Rattle.reporting.proofs.report.Tie as tie
-use Rattle.reporting.proofs.report.Reads as reads
-use Rattle.reporting.proofs.report.Lts as lts
-use Rattle.lines.proofs.write_report.Reads as write-report-reads
-use Rattle.reporting.proofs.find_rules.Reads as find-rules-reads
-use Rattle.reporting.proofs.find_segments.Reads as find-segments-reads
+
+slice-aggregate-find-decisions : tie.Need-slice-aggregate-find-decisions
+slice-aggregate-find-decisions c = search needs
+
+slice-aggregate-find-decisions-2 : tie.Need-slice-aggregate-find-decisions-2
+slice-aggregate-find-decisions-2 c = search needs
+
+find-decisions-requires : tie.Need-find-decisions-requires
+find-decisions-requires c κs = search needs
 
 slice-aggregate-find-segments : tie.Need-slice-aggregate-find-segments
 slice-aggregate-find-segments c = search needs
@@ -25,6 +30,9 @@ slice-aggregate-find-segments-4 c = search needs
 slice-aggregate-find-segments-5 : tie.Need-slice-aggregate-find-segments-5
 slice-aggregate-find-segments-5 c = search needs
 
+slice-aggregate-find-segments-6 : tie.Need-slice-aggregate-find-segments-6
+slice-aggregate-find-segments-6 c = search needs
+
 find-segments-requires : tie.Need-find-segments-requires
 find-segments-requires c κs = search needs
 
@@ -36,6 +44,9 @@ slice-aggregate-find-rules-2 c = search needs
 
 slice-aggregate-find-rules-3 : tie.Need-slice-aggregate-find-rules-3
 slice-aggregate-find-rules-3 c = search needs
+
+slice-aggregate-find-rules-4 : tie.Need-slice-aggregate-find-rules-4
+slice-aggregate-find-rules-4 c = search needs
 
 find-rules-requires : tie.Need-find-rules-requires
 find-rules-requires c κs = search needs
@@ -63,7 +74,7 @@ slice-aggregate-write-report-7 c = search needs
 
 write-report-requires : tie.Need-write-report-requires
 write-report-requires c κs =
-    let pre = c .before .before .before .before .before .before .before .before .before .before .before .before .before .before .before .before .before .before .before .before .before .before .before .before .before .before .before .before .before .pre in
+    let pre = c .before .before .before .before .before .before .before .before .before .before .before .before .before .before .before .before .before .before .before .before .before .before .before .before .before .before .before .before .before .before .before .before .before .before .before .before .pre in
     let rules = c .before .before .before .before .before .before .before .before .before .before .find-rules .ensures in (
       pre .1,
       record { words-room = omega (arith, pre .0 .small); sizes-room = omega (arith, pre .0 .small); decided-room = omega (arith, pre .0 .small); shown-room = omega (arith, pre .0 .few) },
@@ -76,24 +87,26 @@ same-length c = search needs
 
 returns : tie.Need-returns
 returns c =
-    reported _ _ _ _ _ _ _ _ _ _ _ _ _ _ _ (c .before .before .before .before .before .before .before .before .before .before .before .before .before .before .before .before .before .before .before .before .before .before .before .before .before .before .before .before .before .before .before .before .pre .0)
-    (c .before .before .before .before .before .before .before .before .before .before .before .before .before .before .before .before .before .before .before .before .before .before .find-segments .ensures .0)
-    (c .before .before .before .before .before .before .before .before .before .before .before .before .before .find-rules .ensures)
-    (c .before .before .write-report .ensures)
+    reported _ _ _ _ _ _ _ _ _ _ _ _ _ _ _ (c .before .before .before .before .before .before .before .before .before .before .before .before .before .before .before .before .before .before .before .before .before .before .before .before .before .before .before .before .before .before .before .before .before .before .before .before .before .before .before .pre .0) (c .before .before .before .before .before .before .before .before .before .before .before .before .before .before .before .before .before .before .before .before .before .before .before .find-segments .ensures) (c .before .before .before .before .before .before .before .before .before .before .before .before .before .find-rules .ensures) (c .before .before .write-report .ensures)
 
 pub report-spec : {M : Type 1} → statement M
 report-spec =
     tie.close
     (tie.spec
+    slice-aggregate-find-decisions
+    slice-aggregate-find-decisions-2
+    find-decisions-requires
     slice-aggregate-find-segments
     slice-aggregate-find-segments-2
     slice-aggregate-find-segments-3
     slice-aggregate-find-segments-4
     slice-aggregate-find-segments-5
+    slice-aggregate-find-segments-6
     find-segments-requires
     slice-aggregate-find-rules
     slice-aggregate-find-rules-2
     slice-aggregate-find-rules-3
+    slice-aggregate-find-rules-4
     find-rules-requires
     slice-aggregate-write-report
     slice-aggregate-write-report-2
