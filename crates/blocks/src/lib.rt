@@ -188,6 +188,10 @@ fn fold(
             at += 1;
             continue;
         }
+        if hits[64 * at + block] == 0 {
+            at += 1;
+            continue;
+        }
         let child = reply(table, struck, hits, n, block, at);
         so_far = step(algorithm, so_far, child);
         at += 1;

@@ -11,7 +11,7 @@ use Rattle.meaning.specs.declared.Element.{Element}
 use Rattle.meaning.specs.Deciding.{Reply as ChildReply, matches, within, combined, childReplies, firstDecision}
 use Rattle.decisions.specs.Table.{wordAt, algorithmAt, depthOf, elementAt, left}
 use Rattle.decisions.specs.Replies.{stepOf, repliesFrom, replyAt}
-use Rattle.decisions.proofs.Combining.{start, fold-step}
+use Rattle.decisions.proofs.Combining.{start, neutral-next, fold-step}
 
 -- how two numbers compare
 module _ (m n : ℕ) where
@@ -49,6 +49,17 @@ module _ (t s : List ℕ) (n i : ℕ) (l : i < n) where
   unfolding left
   left-here flag = let e : n - i ≡ suc (n - (i + 1)) = omega arith in rw (e, eq-eqb (getD s i 0) 0 flag)
 
+-- What element i gives, by the test of its own target
+module _ (hit : Element → Bool) (t s : List ℕ) (n i : ℕ) where
+  pub reply-off : hit (elementAt t i) ≡ false → replyAt hit t s n i ≡ start
+  unfolding replyAt
+  reply-off e = rw e
+
+  pub reply-on : hit (elementAt t i) ≡ true
+      → replyAt hit t s n i ≡ record { matched = true; decision = combined (wordAt (getD t (8 * i) 0)) (repliesFrom hit t s n (suc (depthOf t i)) (i + 1)) }
+  unfolding replyAt elementAt
+  reply-on e = rw e
+
 -- What the children from place i on give
 module _ (hit : Element → Bool) (t s : List ℕ) (n d i : ℕ) where
   pub replies-none : i ≡ n → repliesFrom hit t s n d i ≡ []
@@ -73,6 +84,14 @@ module _ (hit : Element → Bool) (t s : List ℕ) (n d i : ℕ) where
     unfolding repliesFrom elementAt replyAt
     replies-child h = let e : depthOf t i ≡ d = sym is ∙ h in rw (left-here t s n i l live, same (depthOf t i) d e, e)
 
+    -- element i is a child that does not match: it may be left out
+    pub replies-off : (a : ℕ) (so : ChildReply) → r ≡ d → hit (elementAt t i) ≡ false
+        → combined (algorithmAt a) (so ∷ repliesFrom hit t s n d i) ≡ combined (algorithmAt a) (so ∷ repliesFrom hit t s n d (i + 1))
+    replies-off a so h off =
+        ap (λ cs. combined (algorithmAt a) (so ∷ cs)) (replies-child h)
+        ∙ ap (λ c. combined (algorithmAt a) (so ∷ c ∷ repliesFrom hit t s n d (i + 1))) (reply-off hit t s n i off)
+        ∙ sym (neutral-next a so (repliesFrom hit t s n d (i + 1)))
+
     -- element i is a child, and what follows it is combined from there
     pub replies-step : (a : ℕ) (so child next : ChildReply) → r ≡ d → child ≡ replyAt hit t s n i → next ≡ stepOf (algorithmAt a) so child
         → combined (algorithmAt a) (so ∷ repliesFrom hit t s n d i) ≡ combined (algorithmAt a) (next ∷ repliesFrom hit t s n d (i + 1))
@@ -81,17 +100,6 @@ module _ (hit : Element → Bool) (t s : List ℕ) (n d i : ℕ) where
         ∙ ap (λ c. combined (algorithmAt a) (so ∷ c ∷ repliesFrom hit t s n d (i + 1))) (sym decided)
         ∙ sym (fold-step a so child (repliesFrom hit t s n d (i + 1)))
         ∙ ap (λ c. combined (algorithmAt a) (c ∷ repliesFrom hit t s n d (i + 1))) (sym stepped)
-
--- What element i gives, by the test of its own target
-module _ (hit : Element → Bool) (t s : List ℕ) (n i : ℕ) where
-  pub reply-off : hit (elementAt t i) ≡ false → replyAt hit t s n i ≡ start
-  unfolding replyAt
-  reply-off e = rw e
-
-  pub reply-on : hit (elementAt t i) ≡ true
-      → replyAt hit t s n i ≡ record { matched = true; decision = combined (wordAt (getD t (8 * i) 0)) (repliesFrom hit t s n (suc (depthOf t i)) (i + 1)) }
-  unfolding replyAt elementAt
-  reply-on e = rw e
 
 -- the test of a request
 pub target-test : (q t : List ℕ) (i : ℕ) (b : Bool) → within (take 6 (drop (8 * i + 2) t)) q ≡ b → matches q (elementAt t i) ≡ b

@@ -16,7 +16,7 @@ use Rattle.meaning.specs.declared.Element.{Element}
 use Rattle.meaning.specs.Deciding.{Reply as ChildReply, combined, reply, childReplies, firstDecision}
 use Rattle.laws.proofs.Bools.{Test, passed, failed, test}
 use Rattle.decisions.specs.Table.{algorithmAt, depthOf, elementAt, left, Leaves, RulesStruck}
-use Rattle.decisions.proofs.Combining.{start, neutral, fold-step}
+use Rattle.decisions.proofs.Combining.{start, neutral, neutral-next, fold-step}
 use Rattle.decisions.proofs.Children.{below, left-here}
 
 -- Only rules are struck: where nothing is struck, and with one rule more
@@ -33,13 +33,6 @@ rule-struck t struck n i rules rule k l flag = go (test (eqb k i))
 -- Replies that combine alike behind any reply
 abbrev Alike : List ChildReply → List ChildReply → Type 0
 Alike rs ss = (a : ℕ) (so : ChildReply) → combined (algorithmAt a) (so ∷ rs) ≡ combined (algorithmAt a) (so ∷ ss)
-
--- one that does not match may be left out
-less : (rs : List ChildReply) → Alike rs (start ∷ rs)
-less rs zero so = refl
-less rs (suc zero) so = refl
-less rs (suc (suc zero)) so = refl
-less rs (suc (suc (suc a))) so = refl
 
 behind : (r : ChildReply) (rs ss : List ChildReply) → Alike rs ss → Alike (r ∷ rs) (r ∷ ss)
 behind r rs ss alike a so = sym (fold-step a so r rs) ∙ alike a _ ∙ fold-step a so r ss
@@ -83,7 +76,7 @@ without-alike hit d _ _ (here e es off within) = go (compare (e .depth) d) refl
     go Ordering·lt o =
         let unlike : e .depth ≢ d = eqb-false (e .depth) d (ap isEq o) in
         rw (o, none-within hit (e .depth) d es within (omega (arith, leb-true (e .depth) d (ap isLe o)))) (λ a so. refl)
-    go Ordering·eq o = rw (o, off) (less (childReplies hit d es))
+    go Ordering·eq o = rw (o, off) (λ a so. neutral-next a so (childReplies hit d es))
     go Ordering·gt o = rw o (λ a so. refl)
 without-alike hit d _ _ (later e xs ys w) = go (compare (e .depth) d) refl (without-alike hit d xs ys w) (without-alike hit (suc d) xs ys w)
   where

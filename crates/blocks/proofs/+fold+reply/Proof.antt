@@ -1,6 +1,6 @@
 -- `reply` and `fold` call each other, and what is left of the table falls. `fold` keeps words of which each bit stands for the children passed. Assumes nothing.
 use Prim.Native.Nat.{ℕ, suc, _+_, _-_, _*_, _≤_, _<_}
-use mathlib.Core.Path.{_≡_, refl, sym, _∙_}
+use mathlib.Core.Path.{_≡_, refl, sym, ap, _∙_}
 use mathlib.Core.Bool.{Bool}
 use mathlib.Core.List.{_∷_}
 use native.Mathlib.Numerals.{add-one}
@@ -8,12 +8,12 @@ use native.Mathlib.Omega.{arith}
 use lib.ListN.{getD}
 use borrow.Author.Needs.{needs}
 use Rattle.meaning.specs.declared.Element.{Element}
-use Rattle.meaning.specs.Deciding.{combined}
+use Rattle.meaning.specs.Deciding.{bit, combined}
 use Rattle.laws.proofs.Bits.{bit-zero}
 use Rattle.decisions.specs.Table.{algorithmAt, wordAt, depthOf}
 use Rattle.decisions.specs.Replies.{repliesFrom}
 use Rattle.decisions.proofs.Combining.{Settled, neutral, start-settled, step-settled}
-use Rattle.decisions.proofs.Children.{replies-none, replies-struck, replies-over, replies-deeper, replies-step, algorithm-word}
+use Rattle.decisions.proofs.Children.{replies-none, replies-struck, replies-over, replies-deeper, replies-off, replies-step, algorithm-word}
 use Rattle.blocks.specs.Bits.{decisionBit, replyBit, Answers}
 use Rattle.blocks.proofs.Replying.{reply-none, reply-permit, reply-deny, reply-group}
 use borrow.Fn.Kinds.{In}
@@ -116,11 +116,17 @@ fold-loop-again-2 t c =
           turn .inv .3 v hit answers ∙ rw passed,
     )
 
-fold-reply-requires : (t : ℕ) → fold-lts.Need-reply-requires (fold-claims t) (fold-at t) fold.Post fold-Inv-loop fold-μ-loop
-fold-reply-requires t c κs = search needs
+fold-mul-if4 : (t : ℕ) → fold-lts.Need-mul-if4 (fold-claims t) (fold-at t) fold.Post fold-Inv-loop fold-μ-loop
+fold-mul-if4 t c = search needs
 
-fold-step-requires : (t : ℕ) → fold-lts.Need-step-requires (fold-claims t) (fold-at t) fold.Post fold-Inv-loop fold-μ-loop
-fold-step-requires t c κs = search needs
+fold-add-if4 : (t : ℕ) → fold-lts.Need-add-if4 (fold-claims t) (fold-at t) fold.Post fold-Inv-loop fold-μ-loop
+fold-add-if4 t c = search needs
+
+fold-mul-if4-2 : (t : ℕ) → fold-lts.Need-mul-if4-2 (fold-claims t) (fold-at t) fold.Post fold-Inv-loop fold-μ-loop
+fold-mul-if4-2 t c = search needs
+
+fold-shared-slice-read-if4 : (t : ℕ) → fold-lts.Need-shared-slice-read-if4 (fold-claims t) (fold-at t) fold.Post fold-Inv-loop fold-μ-loop
+fold-shared-slice-read-if4 t c = search needs
 
 fold-add-at-3 : (t : ℕ) → fold-lts.Need-add-at-3 (fold-claims t) (fold-at t) fold.Post fold-Inv-loop fold-μ-loop
 fold-add-at-3 t c = search needs
@@ -136,10 +142,37 @@ fold-loop-again-3 t c =
     let child : c .before .before .before .before .depth-at .result ≡ args .depth = omega arith in (
       omega arith,
       omega arith,
+      turn .inv .2,
+      λ v hit answers.
+          let off = sym (answers (turn .at) in-table) ∙ ap (λ w. bit w v) (c .if4 .taken) ∙ bit-zero v in
+          turn .inv .3 v hit answers
+          ∙ replies-off hit (args .table .now) (args .struck .now) (args .n) (args .depth) (turn .at) _ in-table (c .before .before .before .before .before .if1 .left) (c .before .before .before .before .depth-at .ensures .0) (args .algorithm) (replyBit (turn .so-far) v) child off,
+    )
+
+fold-reply-requires : (t : ℕ) → fold-lts.Need-reply-requires (fold-claims t) (fold-at t) fold.Post fold-Inv-loop fold-μ-loop
+fold-reply-requires t c κs = search needs
+
+fold-step-requires : (t : ℕ) → fold-lts.Need-step-requires (fold-claims t) (fold-at t) fold.Post fold-Inv-loop fold-μ-loop
+fold-step-requires t c κs = search needs
+
+fold-add-at-4 : (t : ℕ) → fold-lts.Need-add-at-4 (fold-claims t) (fold-at t) fold.Post fold-Inv-loop fold-μ-loop
+fold-add-at-4 t c = search needs
+
+fold-loop-less-4 : (t : ℕ) → fold-lts.Need-loop-less-4 (fold-claims t) (fold-at t) fold.Post fold-Inv-loop fold-μ-loop
+fold-loop-less-4 t c = search needs
+
+fold-loop-again-4 : (t : ℕ) → fold-lts.Need-loop-again-4 (fold-claims t) (fold-at t) fold.Post fold-Inv-loop fold-μ-loop
+fold-loop-again-4 t c =
+    let args = c .before .before .before .before .before .before .before .before .before .before .before .before .before .before .args in
+    let turn = c .before .before .before .before .before .before .before .before .before .before .loop in
+    let in-table : turn .at < args .n = omega arith in
+    let child : c .before .before .before .before .before .before .depth-at .result ≡ args .depth = omega arith in (
+      omega arith,
+      omega arith,
       (λ v. step-settled (args .algorithm) (replyBit (turn .so-far) v) (replyBit (c .before .reply .result) v) (replyBit (c .step .result) v) (c .step .ensures v)),
       λ v hit answers.
           turn .inv .3 v hit answers
-          ∙ replies-step hit (args .table .now) (args .struck .now) (args .n) (args .depth) (turn .at) _ in-table (c .before .before .before .before .before .if1 .left) (c .before .before .before .before .depth-at .ensures .0)
+          ∙ replies-step hit (args .table .now) (args .struck .now) (args .n) (args .depth) (turn .at) _ in-table (c .before .before .before .before .before .before .before .if1 .left) (c .before .before .before .before .before .before .depth-at .ensures .0)
           (args .algorithm) (replyBit (turn .so-far) v) (replyBit (c .before .reply .result) v) (replyBit (c .step .result) v) child (c .before .reply .ensures v hit answers) (c .step .ensures v),
     )
 
@@ -219,11 +252,18 @@ pub +fold+reply-spec : {M : Type 1} → statement M
     (fold-add-at-2 t)
     (fold-loop-less-2 t)
     (fold-loop-again-2 t)
-    (fold-reply-requires t)
-    (fold-step-requires t)
+    (fold-mul-if4 t)
+    (fold-add-if4 t)
+    (fold-mul-if4-2 t)
+    (fold-shared-slice-read-if4 t)
     (fold-add-at-3 t)
     (fold-loop-less-3 t)
     (fold-loop-again-3 t)
+    (fold-reply-requires t)
+    (fold-step-requires t)
+    (fold-add-at-4 t)
+    (fold-loop-less-4 t)
+    (fold-loop-again-4 t)
     (fold-returns-2 t))
     λ t. reply-lts.spec (reply-claims t)
     (reply-at t)
