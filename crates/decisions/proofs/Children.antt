@@ -31,7 +31,7 @@ module _ (m n : ℕ) where
       go Ordering·eq e = refl
       go Ordering·gt e = absurd (eqb-false m n (ap isEq e) l)
 
-  over : n < m → compare m n ≡ Ordering·gt
+  pub over : n < m → compare m n ≡ Ordering·gt
   over l = go (compare m n) refl
     where
       go : (o : Ordering) → compare m n ≡ o → o ≡ Ordering·gt

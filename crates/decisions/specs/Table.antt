@@ -74,3 +74,8 @@ Leaves t n = (k : ℕ) → k + 1 < n → getD t (8 * k) 0 < 2 → depthOf t (k +
 -- only rules are struck
 abbrev pub RulesStruck : List ℕ → List ℕ → ℕ → Type 0
 RulesStruck t struck n = (k : ℕ) → k < n → (getD struck k 0 ≡ 0 → ⊥) → getD t (8 * k) 0 < 2
+
+-- element a is i, or stands over it: those behind it up to i are deeper
+pub record Over (t : List ℕ) (a i : ℕ) : Type 0 where
+  pub within : a ≤ i
+  pub deeper : (j : ℕ) → a < j → j ≤ i → depthOf t a < depthOf t j

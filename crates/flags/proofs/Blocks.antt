@@ -1,22 +1,23 @@
 -- A block of 64 requests: what its words tell of each of them, against what was laid down.
 use Prim.Native.Nat.{ℕ, _+_, _*_, _/_, _%_, _≤_, _<_, zero-le}
 use mathlib.Core.Path.{_≡_, refl, sym, ap, _∙_}
-use mathlib.Core.Bool.{Bool, true, false, not}
+use mathlib.Core.Bool.{Bool, true, false, not, _&&_}
 use mathlib.Core.List.{List}
 use native.Mathlib.Nat.{sub-zero}
 use native.Mathlib.Omega.{arith}
 use lib.Dec.{eqb, ltb}
 use lib.ListN.{length, getD, set, length-set}
+use lib.Bits.{bitAnd}
 use lib.Seq.{getD-set-same, getD-set-other}
 use borrow.Author.Tests.{eqb-true, eqb-false, ltb-true, ltb-false}
 use Rattle.meaning.specs.declared.Element.{Element}
 use Rattle.meaning.specs.Deciding.{Outcome, bit, requestOf, matches, sameOutcome}
 use Rattle.laws.proofs.Bools.{Test, passed, failed, test}
 use Rattle.laws.proofs.Search.{first-is, first-absent}
-use Rattle.laws.proofs.Bits.{bit-zero}
+use Rattle.laws.proofs.Bits.{bit-and, bit-zero}
 use Rattle.laws.proofs.Outcomes.{same-outcome, outcome-same}
 use Rattle.meaning.specs.Text.{firstFrom}
-use Rattle.decisions.specs.Table.{placeOr}
+use Rattle.decisions.specs.Table.{elementAt, placeOr, Over}
 use Rattle.decisions.specs.Replies.{replyAt}
 use Rattle.decisions.proofs.Children.{first-left}
 use Rattle.blocks.specs.declared.Effects.{Effects}
@@ -142,10 +143,27 @@ module _ (tested : ℕ → Bool) (space block : ℕ) (before : NoneBelow tested 
   pub none-found-at-all : space ≤ 64 * block → space ≡ placeOr space (firstFrom tested 0 space)
   none-found-at-all end = sym (ap (placeOr space) (first-absent tested 0 space (λ m low high. before m (omega arith) (omega arith))))
 
--- no request of a block in which no request matches the rule gets another decision
-pub block-off : (t struck hits told : List ℕ) (s : Shape) (rule block : ℕ) → Trial t struck hits told s rule → getD hits (64 * rule + block) 0 ≡ 0
-    → (m : ℕ) → m < s .space → m / 64 ≡ block → differsAt t (s .n) (countsOf s) told struck m ≡ false
-block-off t struck hits told s rule block trial none m l e =
-    let word = trial .matched .hits-are rule m (trial .element) (omega (arith, trial .ready .all)) in
-    let here : getD hits (64 * rule + m / 64) 0 ≡ 0 = rw e none in
-    trial .elsewhere m l (sym word ∙ ap (λ w. bit w (m % 64)) here ∙ bit-zero (m % 64))
+-- no request of a block in which none matches both the rule and an element over it gets another decision
+module _ (t struck hits told : List ℕ) (s : Shape) (rule up block : ℕ) (trial : Trial t struck hits told s rule) (above : Over t up rule) (none : bitAnd (getD hits (64 * rule + block) 0) (getD hits (64 * up + block) 0) ≡ 0) where
+  -- the bit of request m in element a's word
+  hit-bit : (a m : ℕ) → a < s .n → m < s .space → m / 64 ≡ block → bit (getD hits (64 * a + block) 0) (m % 64) ≡ matches (requestOf (countsOf s) m) (elementAt t a)
+  hit-bit a m inside l e = rw e at (trial .matched .hits-are a m inside (omega (arith, trial .ready .all)))
+
+  pub block-off : (m : ℕ) → m < s .space → m / 64 ≡ block → differsAt t (s .n) (countsOf s) told struck m ≡ false
+  block-off m l e = go (test (bit own (m % 64)))
+    where
+      own : ℕ
+      own = getD hits (64 * rule + block) 0
+
+      over : ℕ
+      over = getD hits (64 * up + block) 0
+
+      itself : Over t rule rule
+      itself = record { within = omega arith; deeper = λ j low high. absurd (omega arith) }
+
+      neither : (bit own (m % 64) && bit over (m % 64)) ≡ false
+      neither = sym (bit-and own over (m % 64)) ∙ ap (λ w. bit w (m % 64)) none ∙ bit-zero (m % 64)
+
+      go : Test (bit own (m % 64)) → differsAt t (s .n) (countsOf s) told struck m ≡ false
+      go (passed x) = trial .elsewhere up m above l (sym (hit-bit up m (omega (arith, above .within, trial .element)) l e) ∙ rw x at neither)
+      go (failed x) = trial .elsewhere rule m itself l (sym (hit-bit rule m (trial .element) l e) ∙ x)

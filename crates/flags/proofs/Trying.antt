@@ -8,14 +8,14 @@ use native.Mathlib.Omega.{arith}
 use lib.Dec.{eqb, ltb}
 use lib.ListN.{getD, set, length-set}
 use lib.Seq.{getD-set-other, set-set, set-getD}
-use borrow.Author.Tests.{eqb-true, ltb-true}
+use borrow.Author.Tests.{eqb-true, eqb-false, ltb-true}
 use Rattle.meaning.specs.Text.{isNone, firstFrom}
 use Rattle.meaning.specs.Model.{product}
 use Rattle.meaning.specs.Deciding.{requestOf, matches, sameOutcome}
-use Rattle.laws.proofs.Bools.{contradiction, and-true}
+use Rattle.laws.proofs.Bools.{Test, passed, failed, test, contradiction, and-true}
 use Rattle.laws.proofs.Search.{first-some, first-none}
 use Rattle.laws.proofs.Outcomes.{outcome-same}
-use Rattle.decisions.specs.Table.{elementAt, placeOr}
+use Rattle.decisions.specs.Table.{elementAt, placeOr, Over}
 use Rattle.decisions.proofs.Leaves.{rule-struck, decided-without}
 use Rattle.flags.specs.declared.Shape.{Shape}
 use Rattle.flags.specs.Decided.{ruleLeft, decidedAt, differsAt, changesAt, firstChangeAt, shownAt, needlessAt}
@@ -103,13 +103,27 @@ module _ (t struck : List ℕ) (i : ℕ) (rule : ruleLeft t struck i ≡ true) w
   rule-word = ltb-true (getD t (8 * i) 0) 2 (and-true (eqb (getD struck i 0) 0) (ltb (getD t (8 * i) 0) 2) rule .1)
 
   module _ (hits told : List ℕ) (s : Shape) (ready : Ready t struck s) (holds : Holds t struck told s) (l : i < s .n) where
-    -- without it, a request that does not match it gets the same decision
-    elsewhere : (m : ℕ) → m < s .space → matches (requestOf (countsOf s) m) (elementAt t i) ≡ false → differsAt t (s .n) (countsOf s) told (set struck i 1) m ≡ false
+    -- what stands over it is no rule, and so not struck
+    over-lives : (a : ℕ) → Over t a i → getD struck a 0 ≡ 0
+    over-lives a above = go (test (eqb a i)) (test (eqb (getD struck a 0) 0))
+      where
+        go : Test (eqb a i) → Test (eqb (getD struck a 0) 0) → getD struck a 0 ≡ 0
+        go (passed x) flag = rw (eqb-true a i x) rule-flag
+        go (failed x) (passed y) = eqb-true (getD struck a 0) 0 y
+        go (failed x) (failed y) =
+            let other : (a ≡ i → ⊥) = eqb-false a i x in
+            let before : a < i = omega (arith, above .within) in
+            let leaf = ready .leaves a (omega arith) (ready .rules a (omega arith) (eqb-false (getD struck a 0) 0 y)) in
+            let no : ⊥ = omega (arith, leaf, above .deeper (a + 1) (omega arith) (omega arith)) in
+            absurd no
+
+    -- without it, a request that does not match it, or what stands over it, gets the same decision
+    elsewhere : (a m : ℕ) → Over t a i → m < s .space → matches (requestOf (countsOf s) m) (elementAt t a) ≡ false → differsAt t (s .n) (countsOf s) told (set struck i 1) m ≡ false
     unfolding differsAt decidedAt
-    elsewhere m below off =
+    elsewhere a m above below off =
         let hit = matches (requestOf (countsOf s) m) in
         let later : (i ≡ 0 → ⊥) = rule-first t i rule-word (ready .root) in
-        let same = decided-without hit t struck (s .n) i (ready .leaves) (ready .rules) (ready .flags) (ready .stays) (omega arith) l rule-flag rule-word off in
+        let same = decided-without hit t struck (s .n) i (ready .leaves) (ready .rules) (ready .flags) (ready .stays) (omega arith) l rule-flag rule-word a above (over-lives a above) off in
         let gets = decidedAt t (s .n) (countsOf s) (set struck i 1) m in
         ap (λ d. not (sameOutcome d gets)) (holds .tells m below ∙ sym same) ∙ ap not (outcome-same gets)
 

@@ -5,7 +5,7 @@ use mathlib.Core.Bool.{Bool, true, false}
 use mathlib.Core.List.{List}
 use lib.ListN.{length}
 use Rattle.meaning.specs.Deciding.{requestOf, matches}
-use Rattle.decisions.specs.Table.{elementAt}
+use Rattle.decisions.specs.Table.{elementAt, Over}
 use Rattle.blocks.specs.declared.Effects.{Effects}
 use Rattle.blocks.specs.Bits.{decisionBit}
 use Rattle.flags.specs.declared.Shape.{Shape}
@@ -24,10 +24,10 @@ pub record InBlock (test : ℕ → Bool) (space block r : ℕ) : Type 0 where
   pub found : r < space → (test r ≡ true) × (r < 64 * block + 64)
   pub none-earlier : (m : ℕ) → 64 * block ≤ m → m < 64 * block + 64 → m < r → test m ≡ false
 
--- Element `rule` is tried: of the requests that do not match it, none gets another decision than the one told
+-- Element `rule` is tried: of the requests that do not match it, or an element over it, none gets another decision than the one told
 pub record Trial (t struck hits told : List ℕ) (s : Shape) (rule : ℕ) : Type 0 where
   pub ready : Ready t struck s
   pub matched : Matched t hits s
   pub room : 128 ≤ length told
   pub element : rule < s .n
-  pub elsewhere : (m : ℕ) → m < s .space → matches (requestOf (countsOf s) m) (elementAt t rule) ≡ false → differsAt t (s .n) (countsOf s) told struck m ≡ false
+  pub elsewhere : (a m : ℕ) → Over t a rule → m < s .space → matches (requestOf (countsOf s) m) (elementAt t a) ≡ false → differsAt t (s .n) (countsOf s) told struck m ≡ false

@@ -7,7 +7,7 @@ ghost use Prim.Native.Nat.{_*_, _≤_, _<_};
 ghost use lib.ListN.{length, drop};
 ghost use Rattle.meaning.specs.Text.{isNone, counting, firstFrom};
 ghost use Rattle.meaning.specs.Deciding.{decisionNumber};
-ghost use Rattle.decisions.specs.Table.{placeOr};
+ghost use Rattle.decisions.specs.Table.{placeOr, Over};
 ghost use Rattle.matching.specs.Hits.{Matchable};
 ghost use Rattle.flags.specs.Decided.{ruleLeft, toldAt, differsAt, firstChangeAt, shownAt, needlessAt, nextAt};
 ghost use Rattle.flags.specs.Ready.{countsOf, Ready, Matched, Holds};
@@ -114,7 +114,23 @@ fn change_in(
     first_other(given, before, 64 * block, space)
 }
 
-// The first request that gets another decision than the one laid down, or the number of requests. Only requests that match the rule can.
+// The nearest earlier element that is less deep, or the element itself where there is none.
+fn over(table: &[u16], n: usize, i: usize) -> usize
+    requires { ⌜ (8 * n ≤ length (now table)) × (i < n) ⌝ }
+    ensures { λ r. ⌜ Over (now (table .entry)) r i ⌝ }
+{
+    let depth = decisions::depth_at(table, i);
+    let mut j = i;
+    while 0 < j {
+        j -= 1;
+        if decisions::depth_at(table, j) < depth {
+            return j;
+        }
+    }
+    i
+}
+
+// The first request that gets another decision than the one laid down, or the number of requests. Only requests that match the rule and the element over it can.
 pub fn first_change(
     table: &[u16],
     struck: &[u8],
@@ -127,9 +143,10 @@ pub fn first_change(
     ensures { λ r. ⌜ r ≡ placeOr (shape .space) (firstFrom (differsAt (now (table .entry)) (shape .n) (countsOf shape) (now (told .entry)) (now (struck .entry))) 0 (shape .space)) ⌝ }
 {
     let space = shape.space;
+    let up = over(table, shape.n, rule);
     let mut block = 0;
     while 64 * block < space {
-        if hits[64 * rule + block] == 0 {
+        if hits[64 * rule + block] & hits[64 * up + block] == 0 {
             block += 1;
             continue;
         }
