@@ -23,7 +23,7 @@ pub struct Replies {
 }
 
 // The bits of a word that another one does not have.
-fn without(word: u64, other: u64) -> u64
+pub fn without(word: u64, other: u64) -> u64
     ensures { λ r. ⌜ ((v : ℕ) → bit r v ≡ (bit word v && not (bit other v))) ⌝ }
 {
     word ^ (word & other)

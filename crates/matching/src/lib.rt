@@ -82,7 +82,7 @@ fn match_masks(masks: &[u16], at: usize, counts: [usize; 6], len: usize) -> [u64
 }
 
 // Copies the first `words` words of a plane to those from `at` on; the words before them stay.
-fn put(plane: &[u64; 64], words: usize, at: usize, hits: &mut [u64])
+pub fn put(plane: &[u64; 64], words: usize, at: usize, hits: &mut [u64])
     requires { ⌜ (words ≤ 64) × (at + words ≤ length (now hits)) ⌝ }
     ensures { λ _. ⌜ Put (now (plane .entry)) words at (now (hits .entry)) (now (hits .exit)) ⌝ }
 {

@@ -1,6 +1,8 @@
 -- The laws that the functions' proofs cite, and those of the words that callers cite.
 pub mod Marks
 pub mod Making
+pub mod Rows
+pub mod Columns
 pub mod Sizing
 mod Chains
 mod PairSteps

@@ -1,4 +1,5 @@
 -- What the contracts of segments cite.
 pub mod Words
+pub mod Rows
 pub mod Chains
 pub mod Pairs

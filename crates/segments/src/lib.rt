@@ -7,12 +7,14 @@ ghost use mathlib.Core.Bool.{cond, _&&_, _||_};
 ghost use mathlib.Core.List.{_++_, map};
 ghost use Prim.Native.Nat.{ℕ, _+_, _*_, _≤_, _<_};
 ghost use lib.ListN.{length, getD, drop};
+ghost use lib.Bits.{bitAnd};
 ghost use Rattle.meaning.specs.Text.{counting, firstFrom};
 ghost use Rattle.meaning.specs.Deciding.{bit};
 ghost use Rattle.requests.specs.Values.{valuesOf};
 ghost use Rattle.decisions.specs.Table.{parentOf, placeOr, Room};
 ghost use Rattle.flags.specs.Ready.{countsOf, Ready};
 ghost use Rattle.segments.specs.Words.{wordFrom, appliesAt, givesAt, applyingAt, givingAt, alike, sizeAt, showsAt};
+ghost use Rattle.segments.specs.Rows.{Applied, Given, wordAcross, Narrowed, AppliedRow, Rowed, Matched};
 ghost use Rattle.segments.specs.Chains.{bucketOf, Chained};
 ghost use Rattle.segments.specs.Pairs.{PairsOf, Pairs, Pairing};
 
@@ -95,6 +97,129 @@ pub fn mark_all(
         permits[m] = given.permits;
         denies[m] = given.denies;
         q = q.next(counts);
+        m += 1;
+    }
+}
+
+// Keeps of a row the bits that the words of `hits` from `at` on have too.
+fn narrow(hits: &[u64], at: usize, blocks: usize, row: &mut [u64])
+    requires { ⌜ (at + blocks ≤ length (now hits)) × (blocks ≤ length (now row)) ⌝ }
+    ensures { λ _. ⌜ ((b : ℕ) → b < blocks → getD (now (row .exit)) b 0 ≡ bitAnd (getD (now (row .entry)) b 0) (getD (now (hits .entry)) (at + b) 0)) ⌝ }
+{
+    let mut b = 0;
+    while b < blocks {
+        row[b] &= hits[at + b];
+        b += 1;
+    }
+}
+
+// Keeps of a row the requests to which element i applies: that match its own target, and to which its parent applies.
+fn apply(table: &[u16], hits: &[u64], n: usize, blocks: usize, i: usize, row: &mut [u64])
+    requires { ⌜ Rowed (now table) (now hits) n blocks × (i < n) × (blocks ≤ length (now row)) ⌝ }
+    ensures { λ _. ⌜ Narrowed (now (table .entry)) (now (hits .entry)) n blocks i (now (row .entry)) (now (row .exit)) ⌝ }
+{
+    narrow(hits, 64 * i, blocks, row);
+    let up = decisions::parent(table, n, i);
+    if up == n {
+        return;
+    }
+    apply(table, hits, n, blocks, up, row);
+}
+
+// The requests to which element i applies.
+fn row_of(table: &[u16], hits: &[u64], n: usize, blocks: usize, i: usize) -> [u64; 64]
+    requires { ⌜ Rowed (now table) (now hits) n blocks × (i < n) ⌝ }
+    ensures { λ r. ⌜ AppliedRow (now (table .entry)) (now (hits .entry)) n blocks i r ⌝ }
+{
+    let mut row = [18446744073709551615u64; 64];
+    apply(table, hits, n, blocks, i, &mut row);
+    row
+}
+
+// Lays down the requests to which each element applies.
+pub fn apply_all(table: &[u16], hits: &[u64], shape: Shape, applied: &mut [u64])
+    requires { ⌜ Matched (now table) shape (now hits) × (4096 ≤ length (now applied)) ⌝ }
+    ensures { λ _. ⌜ Applied (now (table .entry)) (shape .n) (countsOf shape) (now (applied .exit)) ⌝ }
+{
+    let n = shape.n;
+    let blocks = (shape.space + 63) / 64;
+    let mut i = 0;
+    while i < n {
+        let row = row_of(table, hits, n, blocks, i);
+        matching::put(&row, blocks, 64 * i, applied);
+        i += 1;
+    }
+}
+
+// Lays down the requests on which each element gives permit, and those on which it gives deny.
+pub fn give_all(
+    table: &[u16],
+    struck: &[u8],
+    hits: &[u64],
+    shape: Shape,
+    permits: &mut [u64],
+    denies: &mut [u64],
+)
+    requires { ⌜ Matched (now table) shape (now hits) × (shape .n ≤ length (now struck)) × (4096 ≤ length (now permits)) × (4096 ≤ length (now denies)) ⌝ }
+    ensures { λ _. ⌜ Given Decision.Permit (now (table .entry)) (now (struck .entry)) (shape .n) (countsOf shape) (now (permits .exit)) × Given Decision.Deny (now (table .entry)) (now (struck .entry)) (shape .n) (countsOf shape) (now (denies .exit)) ⌝ }
+{
+    let n = shape.n;
+    let blocks = (shape.space + 63) / 64;
+    let mut k = 0;
+    while k < 64 * n {
+        let block = k % 64;
+        if blocks <= block {
+            k += 1;
+            continue;
+        }
+        let reply = blocks::reply(table, struck, hits, n, block, k / 64);
+        let given = reply.given;
+        permits[k] = blocks::without(given.permits, given.denies);
+        denies[k] = blocks::without(given.denies, given.permits);
+        k += 1;
+    }
+}
+
+// The words of one block, one for each element.
+fn column(rows: &[u64], n: usize, block: usize) -> [u64; 64]
+    requires { ⌜ (n ≤ 64) × (block < 64) × (64 * n ≤ length (now rows)) ⌝ }
+    ensures { λ r. ⌜ ((i : ℕ) → i < n → getD r i 0 ≡ getD (now (rows .entry)) (64 * i + block) 0) ⌝ }
+{
+    let mut words = [0u64; 64];
+    let mut i = 0;
+    while i < n {
+        words[i] = rows[64 * i + block];
+        i += 1;
+    }
+    words
+}
+
+// The word of bit v of each of n words.
+fn across(words: &[u64; 64], n: usize, v: usize) -> u64
+    requires { ⌜ (n ≤ 64) × (v < 64) ⌝ }
+    ensures { λ r. ⌜ r ≡ wordFrom (λ i. bit (getD (now (words .entry)) i 0) v) 0 n ⌝ }
+{
+    let mut word: u64 = 0;
+    let mut i = n;
+    while 0 < i {
+        i -= 1;
+        word = 2 * word + (words[i] >> v) % 2;
+    }
+    word
+}
+
+// Lays down the word of each request: the elements that apply to it. What lies behind them stays.
+pub fn words_all(applied: &[u64], n: usize, space: usize, words: &mut [u64])
+    requires { ⌜ (n ≤ 64) × (space ≤ 4096) × (64 * n ≤ length (now applied)) × (space ≤ length (now words)) ⌝ }
+    ensures { λ _. ⌜ now (words .exit) ≡ map (wordAcross (now (applied .entry)) n) (counting 0 space) ++ drop space (now (words .entry)) ⌝ }
+{
+    let mut block = column(applied, n, 0);
+    let mut m = 0;
+    while m < space {
+        if m % 64 == 0 {
+            block = column(applied, n, m / 64);
+        }
+        words[m] = across(&block, n, m % 64);
         m += 1;
     }
 }
