@@ -1,10 +1,11 @@
 -- Which elements of a policy apply to a request: those of the table that it was read into.
 use mathlib.Core.Path.{_≡_, refl, sym, ap, _∙_}
-use Prim.Native.Nat.{ℕ, zero, suc, _+_}
+use Prim.Native.Nat.{ℕ, zero, suc, _+_, _<_}
 use native.Mathlib.Omega.{arith}
-use mathlib.Core.Bool.{Bool, _&&_}
+use mathlib.Core.Bool.{Bool, false, _&&_}
 use mathlib.Core.List.{List, [], _∷_, _++_, map, map-append, append-nil, append-assoc, reverse, reverse-cons, reverse-reverse}
 use lib.Dec.{eqb}
+use lib.ListN.{getD}
 use Rattle.meaning.specs.declared.Element.{Element}
 use Rattle.meaning.specs.Text.{Bytes, all, counting}
 use Rattle.meaning.specs.Model.{Policy, sizes}
@@ -15,6 +16,7 @@ use Rattle.decisions.specs.Table.{elementAt}
 use Rattle.layout.specs.Places.{elementIn, elementsTo}
 use Rattle.layout.proofs.Laws.{bare, elements-bare}
 use Rattle.segments.specs.Words.{marks, wordFrom, appliesAt, applyingAt}
+use Rattle.segments.proofs.Marks.{test-at}
 
 -- one number more
 pub counting-more : (i k : ℕ) → counting i (suc k) ≡ counting i k ++ ((i + k) ∷ [])
@@ -70,6 +72,10 @@ module _ (f : Bytes) (table places : List ℕ) (n : ℕ) (p : Policy) (is : p .e
       ap (λ c. applying (matches (requestOf c m)) [] (p .elements)) (sym sized)
       ∙ ap (applying (matches (requestOf counts m)) []) is
       ∙ all-applying f table places (requestOf counts m) n
+
+  -- one of them
+  pub applies-at : (m i : ℕ) → i < n → appliesAt table (requestOf counts m) i ≡ getD (applyingTo p m) i false
+  applies-at m i l = let here : 0 + i ≡ i = omega arith in sym (ap (λ bs. getD bs i false) (applying-is m) ∙ test-at (appliesAt table (requestOf counts m)) 0 n i l ∙ rw here)
 
   -- the word of a request has their marks
   pub word-is : (m : ℕ) → applyingAt table n counts m ≡ marks (applyingTo p m)

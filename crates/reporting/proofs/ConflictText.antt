@@ -1,9 +1,9 @@
--- The `C` lines, from the words of a table, are those of the policy that was read into it.
+-- The `C` lines, from the pairs of a table, are those of the policy that was read into it.
 use mathlib.Core.Path.{_≡_, refl, sym, ap, ap₂, _∙_}
 use Prim.Native.Nat.{ℕ, zero, suc, _+_, _-_, _*_, _<_}
 use native.Mathlib.Numerals.{add-one}
 use native.Mathlib.Omega.{arith}
-use mathlib.Core.Bool.{Bool, false, cond, _&&_, _||_}
+use mathlib.Core.Bool.{Bool, cond, _&&_, _||_}
 use mathlib.Core.List.{List, [], _∷_, _++_, reverse, List·Memᴰ}
 use lib.Dec.{eqb, ltb}
 use lib.ListN.{length, getD}
@@ -11,23 +11,23 @@ use borrow.Author.Tests.{eqb-true}
 use Rattle.meaning.specs.declared.Decision.{Decision}
 use Rattle.meaning.specs.Text.{Bytes, bytes, keep, gathered, ifSome, counting, firstFrom, line, decimal}
 use Rattle.meaning.specs.Model.{Policy, sizes, product}
-use Rattle.meaning.specs.Deciding.{bit, is as isOf}
-use Rattle.meaning.specs.Segments.{applyingTo, childrenOf, decisionAt, shows, Conflict, pairs as pairsOf, conflictOf, conflicts}
+use Rattle.meaning.specs.Deciding.{requestOf, is as isOf}
+use Rattle.meaning.specs.Segments.{childrenOf, decisionAt, shows, Conflict, pairs as pairsOf, conflictOf, conflicts}
 use Rattle.meaning.specs.Report.{nameIn as nameOfPlace, conflictFields}
 use Rattle.laws.proofs.Bools.{Test, passed, failed, test}
 use Rattle.laws.proofs.Search.{counting-only, counting-rising, keep-only, keep-rising}
 use Rattle.decisions.specs.Table.{parentOf, placeOr}
 use Rattle.flags.proofs.Trying.{first-alike}
 use Rattle.layout.specs.Places.{nameIn, elementsTo}
-use Rattle.segments.specs.Words.{applyingAt, givingAt, showsAt}
-use Rattle.segments.proofs.Marks.{bit-mark}
+use Rattle.segments.specs.Words.{givesAt}
+use Rattle.segments.specs.Pairs.{showsAt}
 use Rattle.trimming.proofs.Table.{name-at}
 use Rattle.lines.specs.Lines.{conflictLine, isChild, laterLine, laterLines, pairLines, conflictText}
-use Rattle.reporting.proofs.Applying.{word-is}
+use Rattle.reporting.proofs.Applying.{applies-at}
 use Rattle.laws.proofs.Lists.{gathered-alike, gathered-keep, gathered-twice, gathered-one, pairs-first, pairs-alike}
 use Rattle.reporting.proofs.Searched.{first-or}
 use Rattle.reporting.proofs.ChildPlaces.{count-is, children-are}
-use Rattle.reporting.proofs.Giving.{bit-gives}
+use Rattle.reporting.proofs.Giving.{gives-is}
 
 -- the line of a pair, the children among c places from j on, and the lines of their pairs
 module _ (f : Bytes) (places : List ℕ) (n : ℕ) (parents pairs : List ℕ) (s i : ℕ) where
@@ -63,37 +63,28 @@ module _ (f : Bytes) (table places : List ℕ) (n : ℕ) (p : Policy) (is : p .e
   abbrev of-parent : ℕ → List Conflict
   of-parent i = gathered (conflictOf p i) (pairsOf (childrenOf (p .elements) i))
 
-  module _ (parents words permits denies struck : List ℕ) (clear : (k : ℕ) → getD struck k 0 ≡ 0)
+  module _ (parents struck : List ℕ) (clear : (k : ℕ) → getD struck k 0 ≡ 0)
       (found : (j : ℕ) → j < n → getD parents j 0 ≡ placeOr n (parentOf table j))
-      (applying : (m : ℕ) → m < product counts → getD words m 0 ≡ applyingAt table n counts m)
-      (permitting : (m : ℕ) → m < product counts → getD permits m 0 ≡ givingAt Decision.Permit table struck n counts m)
-      (denying : (m : ℕ) → m < product counts → getD denies m 0 ≡ givingAt Decision.Deny table struck n counts m)
       (pairs : List ℕ)
       (paired : (j k : ℕ) → j < k → k < n → getD parents j 0 ≡ getD parents k 0 → getD parents j 0 < n
-      → getD pairs (64 * j + k) 0 ≡ placeOr (product counts) (firstFrom (showsAt words permits denies (getD parents j 0) j k) 0 (product counts))) where
-    -- the bits of the words
-    applies-bit : (m i : ℕ) → m < product counts → bit (getD words m 0) i ≡ getD (applyingTo p m) i false
-    applies-bit m i l = ap (λ w. bit w i) (applying m l ∙ word-is f table places n p is counts sized m) ∙ bit-mark (applyingTo p m) i
-
-    permits-bit : (m j : ℕ) → m < product counts → j < n → bit (getD permits m 0) j ≡ isOf Decision.Permit (decisionAt p m j)
-    permits-bit m j l a = bit-gives f table places n p is counts sized struck clear Decision.Permit m j (getD permits m 0) a (permitting m l)
-
-    denies-bit : (m j : ℕ) → m < product counts → j < n → bit (getD denies m 0) j ≡ isOf Decision.Deny (decisionAt p m j)
-    denies-bit m j l a = bit-gives f table places n p is counts sized struck clear Decision.Deny m j (getD denies m 0) a (denying m l)
+      → getD pairs (64 * j + k) 0 ≡ placeOr (product counts) (firstFrom (showsAt table struck n counts (getD parents j 0) j k) 0 (product counts))) where
+    gives : (d : Decision) (m j : ℕ) → j < n → givesAt d table struck n (requestOf counts m) j ≡ isOf d (decisionAt p m j)
+    gives = gives-is f table places n p is counts sized struck clear
 
     -- what a request shows, and the first that shows it
-    shows-is : (i j k m : ℕ) → j < n → k < n → m < product counts → showsAt words permits denies i j k m ≡ shows p i j k m
+    shows-is : (i j k m : ℕ) → i < n → j < n → k < n → showsAt table struck n counts i j k m ≡ shows p i j k m
     unfolding showsAt
-    shows-is i j k m a b l = λ x. applies-bit m i l x && ((permits-bit m j l a x && denies-bit m k l b x) || (denies-bit m j l a x && permits-bit m k l b x))
+    shows-is i j k m a b c =
+        λ x. applies-at f table places n p is counts sized m i a x && ((gives Decision.Permit m j b x && gives Decision.Deny m k c x) || (gives Decision.Deny m j b x && gives Decision.Permit m k c x))
 
-    first-is : (i j k : ℕ) → j < n → k < n → firstFrom (showsAt words permits denies i j k) 0 (product counts) ≡ firstFrom (shows p i j k) 0 (product counts)
-    first-is i j k a b = first-alike (showsAt words permits denies i j k) (shows p i j k) 0 (product counts) (λ m low high. shows-is i j k m a b (omega arith))
+    first-is : (i j k : ℕ) → i < n → j < n → k < n → firstFrom (showsAt table struck n counts i j k) 0 (product counts) ≡ firstFrom (shows p i j k) 0 (product counts)
+    first-is i j k a b c = first-alike (showsAt table struck n counts i j k) (shows p i j k) 0 (product counts) (λ m low high. shows-is i j k m a b c)
 
     -- the request of a pair of children
     pair-is : (i j k : ℕ) → i < n → j < k → k < n → getD parents j 0 ≡ i → getD parents k 0 ≡ i → getD pairs (64 * j + k) 0 ≡ placeOr (product counts) (firstFrom (shows p i j k) 0 (product counts))
     pair-is i j k a b c x y =
         paired j k b c (x ∙ sym y) (omega arith)
-        ∙ ap (placeOr (product counts)) (ap (λ i. firstFrom (showsAt words permits denies i j k) 0 (product counts)) x ∙ first-is i j k (omega arith) c)
+        ∙ ap (placeOr (product counts)) (ap (λ i. firstFrom (showsAt table struck n counts i j k) 0 (product counts)) x ∙ first-is i j k a (omega arith) c)
 
     -- the line of a pair
     line-is : (i j k : ℕ) → i < n → j < k → k < n → getD parents j 0 ≡ i → getD parents k 0 ≡ i → conflictLine f places pairs (product counts) i j k ≡ gathered written (conflictOf p i (j, k))

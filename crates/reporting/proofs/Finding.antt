@@ -13,13 +13,16 @@ use Rattle.meaning.specs.Deciding.{decisionNumber}
 use Rattle.decisions.specs.Table.{parentOf, placeOr}
 use Rattle.flags.specs.declared.Shape.{Shape}
 use Rattle.flags.specs.Decided.{onward, toldAt, shownAt, nextAt, trimmingAt}
-use Rattle.flags.specs.Ready.{countsOf, Ready, Holds}
+use Rattle.flags.specs.Ready.{countsOf, Ready, Matched, Holds}
 use Rattle.flags.specs.Trims.{Trims}
 use Rattle.layout.specs.Places.{Naming}
-use Rattle.segments.specs.Words.{applyingAt, givingAt, sizeAt}
-use Rattle.segments.specs.Pairs.{Pairs}
+use Rattle.segments.specs.Words.{sizeAt}
+use Rattle.segments.specs.Rows.{Applied, Given, wordAcross, Marked}
+use Rattle.segments.specs.Pairs.{shownBy, Pairs}
+use Rattle.segments.proofs.Columns.{across-applying}
+use Rattle.segments.proofs.Showing.{pairs-by-table}
 use Rattle.lines.specs.Ready.{Ordered}
-use Rattle.reporting.specs.Found.{none-struck, trimmedAt, SegmentsFound, RulesFound}
+use Rattle.reporting.specs.Found.{none-struck, trimmedAt, SegmentsFound, ConflictsFound, RulesFound}
 use Rattle.reporting.proofs.Searched.{laid-at}
 use Rattle.reporting.proofs.StruckText.{order-below}
 
@@ -46,27 +49,31 @@ module _ (t : List ℕ) (s : Shape) where
           needed = λ i l. laid-at (shownAt t (s .n) (countsOf s) flags) (s .n) behind e i l ∙ ap (λ fs. shownAt t (s .n) (countsOf s) fs i) (trims .flags-are);
         }
 
-  -- segments and conflicts, from the words of all requests
-  module _ (ready : Ready t none-struck s) (words sizes decided parents pairs permits denies a b d e : List ℕ)
-      (marked : words ≡ map (applyingAt t (s .n) (countsOf s)) (counting 0 (s .space)) ++ a)
-      (permitted : permits ≡ map (givingAt Decision.Permit t none-struck (s .n) (countsOf s)) (counting 0 (s .space)) ++ b)
-      (denied : denies ≡ map (givingAt Decision.Deny t none-struck (s .n) (countsOf s)) (counting 0 (s .space)) ++ d)
-      (measured : sizes ≡ map (sizeAt words (s .space)) (counting 0 (s .space)) ++ e) where
+  -- the rows of the elements
+  module _ (ready : Ready t none-struck s) where
     within : {m : ℕ} → m < product (countsOf s) → m < s .space
     within l = omega (arith, ready .all)
 
-    pub segments-found : (x : List ℕ) → parents ≡ map (λ i. placeOr (s .n) (parentOf t i)) (counting 0 (s .n)) ++ x → (told y : List ℕ) → Holds t none-struck told s → decided ≡ map (λ m. decisionNumber (toldAt told m)) (counting 0 (s .space)) ++ y → Pairs parents words permits denies (s .n) (s .space) pairs → SegmentsFound t (s .n) (countsOf s) words sizes decided parents pairs
-    segments-found x above told y holds numbers paired =
+    pub marked : (hits : List ℕ) → Matched t hits s → 4096 ≤ length hits → Marked t s hits
+    marked hits matched room = record { rows = ready .rows; few = ready .few; all = ready .all; small = ready .small; room = room; each = matched .hits-are }
+
+    -- segments, from the words of all requests
+    pub segments-found : (words sizes decided rows a b : List ℕ) → Applied t (s .n) (countsOf s) rows → words ≡ map (wordAcross rows (s .n)) (counting 0 (s .space)) ++ a
+        → sizes ≡ map (sizeAt words (s .space)) (counting 0 (s .space)) ++ b → (told y : List ℕ) → Holds t none-struck told s → decided ≡ map (λ m. decisionNumber (toldAt told m)) (counting 0 (s .space)) ++ y → SegmentsFound t (s .n) (countsOf s) words sizes decided
+    segments-found words sizes decided rows a b applied marked measured told y holds numbers =
         record {
-          permits = permits;
-          denies = denies;
-          permitting = λ m l. laid-at (givingAt Decision.Permit t none-struck (s .n) (countsOf s)) (s .space) b permitted m (within l);
-          denying = λ m l. laid-at (givingAt Decision.Deny t none-struck (s .n) (countsOf s)) (s .space) d denied m (within l);
-          applying = λ m l. laid-at (applyingAt t (s .n) (countsOf s)) (s .space) a marked m (within l);
-          sized = λ m l. laid-at (sizeAt words (s .space)) (s .space) e measured m (within l) ∙ ap (λ k. sizeAt words k m) (sym (ready .all));
+          applying = λ m l. laid-at (wordAcross rows (s .n)) (s .space) a marked m (within l) ∙ across-applying t (s .n) (countsOf s) rows applied m l;
+          sized = λ m l. laid-at (sizeAt words (s .space)) (s .space) b measured m (within l) ∙ ap (λ k. sizeAt words k m) (sym (ready .all));
           numbered = λ m l. laid-at (λ m. decisionNumber (toldAt told m)) (s .space) y numbers m (within l) ∙ ap decisionNumber (holds .tells m (within l));
+        }
+
+    -- conflicts, from the rows
+    pub conflicts-found : (rows permits denies parents pairs x : List ℕ) → Applied t (s .n) (countsOf s) rows → Given Decision.Permit t none-struck (s .n) (countsOf s) permits → Given Decision.Deny t none-struck (s .n) (countsOf s) denies
+        → parents ≡ map (λ i. placeOr (s .n) (parentOf t i)) (counting 0 (s .n)) ++ x → Pairs parents (shownBy rows permits denies) (s .n) (s .space) pairs → ConflictsFound t (s .n) (countsOf s) parents pairs
+    conflicts-found rows permits denies parents pairs x applied permitted denied above paired =
+        record {
           parented = λ j l. laid-at (λ i. placeOr (s .n) (parentOf t i)) (s .n) x above j l;
-          paired = subst (λ k. Pairs parents words permits denies (s .n) k pairs) (sym (ready .all)) paired;
+          paired = pairs-by-table t none-struck (s .n) (countsOf s) rows permits denies applied permitted denied parents pairs (subst (λ k. Pairs parents (shownBy rows permits denies) (s .n) k pairs) (sym (ready .all)) paired);
         }
 
 -- each place struck has a name

@@ -1,4 +1,4 @@
--- Where nothing is struck, the words of the elements that give a decision have the bits of the policy's decisions.
+-- Where nothing is struck, an element of the table gives what the policy's element decides.
 use mathlib.Core.Path.{_≡_, refl, sym, ap, _∙_}
 use Prim.Native.Nat.{ℕ, zero, suc, _+_, _-_, _<_}
 use native.Mathlib.Omega.{arith}
@@ -9,14 +9,13 @@ use borrow.Author.Tests.{eq-eqb}
 use Rattle.meaning.specs.declared.Decision.{Decision}
 use Rattle.meaning.specs.Text.{Bytes}
 use Rattle.meaning.specs.Model.{Policy, sizes}
-use Rattle.meaning.specs.Deciding.{requestOf, bit, matches, is as isOf, firstDecision}
+use Rattle.meaning.specs.Deciding.{requestOf, matches, is as isOf, firstDecision}
 use Rattle.meaning.specs.Segments.{decisionAt}
 use Rattle.decisions.specs.Table.{left}
 use Rattle.decisions.proofs.Children.{first-left}
 use Rattle.layout.specs.Places.{elementsTo}
 use Rattle.layout.proofs.Laws.{bare, decision-bare}
-use Rattle.segments.specs.Words.{givesAt, givingAt}
-use Rattle.segments.proofs.Marks.{bit-word}
+use Rattle.segments.specs.Words.{givesAt}
 use Rattle.trimming.proofs.Table.{whole-left}
 
 -- what is behind so many of a mapped list
@@ -51,7 +50,7 @@ module _ (f : Bytes) (table places : List ℕ) (n : ℕ) (p : Policy) (is : p .e
       ∙ drop-map bare j (p .elements)
 
   -- what one of them gives
-  gives-is : (d : Decision) (m j : ℕ) → j < n → givesAt d table struck n (requestOf counts m) j ≡ isOf d (decisionAt p m j)
+  pub gives-is : (d : Decision) (m j : ℕ) → j < n → givesAt d table struck n (requestOf counts m) j ≡ isOf d (decisionAt p m j)
   unfolding givesAt
   gives-is d m j l =
       let q = requestOf counts m in
@@ -59,7 +58,3 @@ module _ (f : Bytes) (table places : List ℕ) (n : ℕ) (p : Policy) (is : p .e
       ∙ ap (firstDecision (matches q)) (left-from j)
       ∙ decision-bare q (drop j (p .elements))
       ∙ ap (λ c. firstDecision (matches (requestOf c m)) (drop j (p .elements))) sized)
-
-  -- its bit, in a word of those that give a decision
-  pub bit-gives : (d : Decision) (m j w : ℕ) → j < n → w ≡ givingAt d table struck n counts m → bit w j ≡ isOf d (decisionAt p m j)
-  bit-gives d m j w l e = ap (λ v. bit v j) e ∙ bit-word (givesAt d table struck n (requestOf counts m)) n j l ∙ gives-is d m j l

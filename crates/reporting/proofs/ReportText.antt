@@ -14,29 +14,29 @@ use Rattle.segments.specs.Pairs.{shownFor}
 use Rattle.lines.specs.Lines.{struckText, reportText}
 use Rattle.lines.specs.Fitted.{Fitted}
 use Rattle.reporting.specs.Reported.{Reported}
-use Rattle.reporting.specs.Found.{none-struck, SegmentsFound, RulesFound}
+use Rattle.reporting.specs.Found.{none-struck, SegmentsFound, ConflictsFound, RulesFound}
 use Rattle.reporting.proofs.SegmentText.{segments-are}
 use Rattle.reporting.proofs.ConflictText.{conflicts-are}
 use Rattle.reporting.proofs.StruckText.{none-clear, struck-are, kept-are}
 
 module _ (f : Bytes) (p : Policy) (h : read f ≡ given p) (table places : List ℕ) (n : ℕ) (is : p .elements ≡ reverse (elementsTo f table places n)) (counts : List ℕ) (sized : counts ≡ sizes (p .attributes))
-    (words lengths decided parents pairs order shown : List ℕ) (count : ℕ) (found : SegmentsFound table n counts words lengths decided parents pairs) (rules : RulesFound table n counts order shown count) where
+    (words lengths decided parents pairs order shown : List ℕ) (count : ℕ) (found : SegmentsFound table n counts words lengths decided) (shown-pairs : ConflictsFound table n counts parents pairs) (rules : RulesFound table n counts order shown count) where
   -- the four kinds of lines, one behind the other
   pub report-is : reportText f places n words lengths decided parents pairs (take count order) shown (product counts) ≡ report f p
   unfolding reportText report shownFor
   report-is =
       ap₂ (λ g rest. g ++ rest) (segments-are f table places n p is counts sized words lengths decided none-struck (λ k l. none-clear k) (found .applying) (found .sized) (found .numbered))
-      (ap₂ (λ c rest. c ++ rest) (conflicts-are f table places n p is counts sized parents words (found .permits) (found .denies) none-struck none-clear (found .parented) (found .applying) (found .permitting) (found .denying) pairs (found .paired))
+      (ap₂ (λ c rest. c ++ rest) (conflicts-are f table places n p is counts sized parents none-struck none-clear (shown-pairs .parented) pairs (shown-pairs .paired))
       (ap₂ (λ x k. x ++ k) (ap (struckText f places) (rules .struck) ∙ struck-are f p h table places n is counts sized) (kept-are f p h table places n is counts sized shown (rules .needed))))
 
 -- the text of what was found, written for the policy that was read
 pub reported : (f table places : List ℕ) (s : Shape) (words lengths decided parents pairs order shown : List ℕ) (count : ℕ) (old new : Bytes) (r : ℕ) → Ready table none-struck s
-    → SegmentsFound table (s .n) (countsOf s) words lengths decided parents pairs → RulesFound table (s .n) (countsOf s) order shown count
+    → SegmentsFound table (s .n) (countsOf s) words lengths decided → ConflictsFound table (s .n) (countsOf s) parents pairs → RulesFound table (s .n) (countsOf s) order shown count
     → Fitted old (reportText f places (s .n) words lengths decided parents pairs (take count order) shown (s .space)) new r → Reported f table places s old new r
-reported f table places s words lengths decided parents pairs order shown count old new r ready found rules fitted =
+reported f table places s words lengths decided parents pairs order shown count old new r ready found shown-pairs rules fitted =
     record {
       written = λ p h is sized. subst (λ t. Fitted old t new r)
           (ap (λ k. reportText f places (s .n) words lengths decided parents pairs (take count order) shown k) (sym (ready .all))
-          ∙ report-is f p h table places (s .n) is (countsOf s) sized words lengths decided parents pairs order shown count found rules) fitted;
+          ∙ report-is f p h table places (s .n) is (countsOf s) sized words lengths decided parents pairs order shown count found shown-pairs rules) fitted;
       small = fitted .small;
     }

@@ -3,13 +3,12 @@ use Prim.Native.Nat.{ℕ, _≤_, _<_}
 use mathlib.Core.Path.{_≡_}
 use mathlib.Core.List.{List}
 use lib.ListN.{length, take, getD, replicate}
-use Rattle.meaning.specs.declared.Decision.{Decision}
 use Rattle.meaning.specs.Model.{product}
 use Rattle.meaning.specs.Deciding.{decisionNumber}
 use Rattle.decisions.specs.Table.{parentOf, placeOr}
 use Rattle.flags.specs.Decided.{Struck, decidedAt, shownAt, trimmingAt}
-use Rattle.segments.specs.Words.{applyingAt, givingAt, sizeAt}
-use Rattle.segments.specs.Pairs.{Pairs}
+use Rattle.segments.specs.Words.{applyingAt, sizeAt}
+use Rattle.segments.specs.Pairs.{showsAt, Pairs}
 
 -- no element is struck
 abbrev pub none-struck : List ℕ
@@ -19,23 +18,21 @@ none-struck = replicate 64 0
 abbrev pub trimmedAt : List ℕ → ℕ → List ℕ → Struck
 trimmedAt table n counts = trimmingAt table n counts n none-struck
 
--- Of a table of n elements, and the value counts of its attributes: segments and conflicts
-pub record SegmentsFound (table : List ℕ) (n : ℕ) (counts words sizes decided parents pairs : List ℕ) : Type 0 where
-  -- the words of the elements that permit a request, and of those that deny it
-  pub permits : List ℕ
-  pub denies : List ℕ
-  pub permitting : (m : ℕ) → m < product counts → getD permits m 0 ≡ givingAt Decision.Permit table none-struck n counts m
-  pub denying : (m : ℕ) → m < product counts → getD denies m 0 ≡ givingAt Decision.Deny table none-struck n counts m
+-- Of a table of n elements, and the value counts of its attributes: what there is to say of each request
+pub record SegmentsFound (table : List ℕ) (n : ℕ) (counts words sizes decided : List ℕ) : Type 0 where
   -- the word of the elements that apply to it
   pub applying : (m : ℕ) → m < product counts → getD words m 0 ≡ applyingAt table n counts m
   -- the size of the segment whose first request it is, else 0
   pub sized : (m : ℕ) → m < product counts → getD sizes m 0 ≡ sizeAt words (product counts) m
   -- the number of its decision
   pub numbered : (m : ℕ) → m < product counts → getD decided m 0 ≡ decisionNumber (decidedAt table n counts none-struck m)
+
+-- and of each pair of children
+pub record ConflictsFound (table : List ℕ) (n : ℕ) (counts parents pairs : List ℕ) : Type 0 where
   -- the place of an element's parent, or n
   pub parented : (j : ℕ) → j < n → getD parents j 0 ≡ placeOr n (parentOf table j)
   -- the first request that shows the conflict of two children, at 64 j + k, or the number of requests
-  pub paired : Pairs parents words permits denies n (product counts) pairs
+  pub paired : Pairs parents (showsAt table none-struck n counts) n (product counts) pairs
 
 -- the rules: those struck, in order, and the first request that needs each one kept
 pub record RulesFound (table : List ℕ) (n : ℕ) (counts order shown : List ℕ) (count : ℕ) : Type 0 where

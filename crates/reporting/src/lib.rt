@@ -6,7 +6,7 @@ ghost use Prim.Native.Nat.{_≤_};
 ghost use lib.ListN.{length, drop};
 ghost use Rattle.flags.specs.Ready.{countsOf, Ready, Matched, Holds};
 ghost use Rattle.layout.specs.Places.{Naming};
-ghost use Rattle.reporting.specs.Found.{none-struck, SegmentsFound, RulesFound};
+ghost use Rattle.reporting.specs.Found.{none-struck, SegmentsFound, ConflictsFound, RulesFound};
 ghost use Rattle.reporting.specs.Reported.{Reported};
 
 // Lays down which requests match each element, and what each request gets.
@@ -19,30 +19,49 @@ fn find_decisions(table: &[u16], shape: Shape, hits: &mut [u64], told: &mut [u64
     flags::decide_all(table, &struck, hits, shape, told);
 }
 
-// Lays down the number of each request's decision, its segment, and the conflicts of siblings.
+// Lays down each element's parent, and the conflicts of siblings. The rows of the elements that apply lie in `rows`.
+fn find_conflicts(
+    table: &[u16],
+    hits: &[u64],
+    shape: Shape,
+    rows: &mut [u64],
+    parents: &mut [usize],
+    pairs: &mut [u16],
+)
+    requires { ⌜ Ready (now table) none-struck shape × Matched (now table) (now hits) shape × (4096 ≤ length (now hits)) × (4096 ≤ length (now rows)) × (64 ≤ length (now parents)) × (4096 ≤ length (now pairs)) ⌝ }
+    ensures { λ _. ⌜ ConflictsFound (now (table .entry)) (shape .n) (countsOf shape) (now (parents .exit)) (now (pairs .exit)) ⌝ }
+{
+    let n = shape.n;
+    let space = shape.space;
+    let struck = [0u8; 64];
+    let mut permits = [0u64; 4096];
+    let mut denies = [0u64; 4096];
+    segments::apply_all(table, hits, shape, rows);
+    segments::give_all(table, &struck, hits, shape, &mut permits, &mut denies);
+    segments::parent_all(table, n, parents);
+    segments::pair_all(parents, rows, &permits, &denies, n, space, pairs);
+}
+
+// Lays down the number of each request's decision, and the segments.
 fn find_segments(
     table: &[u16],
+    hits: &[u64],
     shape: Shape,
     told: &[u64],
     words: &mut [u64],
     sizes: &mut [u16],
     decided: &mut [u8],
-    parents: &mut [usize],
-    pairs: &mut [u16],
 )
-    requires { ⌜ Ready (now table) none-struck shape × Holds (now table) none-struck (now told) shape × (4096 ≤ length (now words)) × (4096 ≤ length (now sizes)) × (4096 ≤ length (now decided)) × (64 ≤ length (now parents)) × (4096 ≤ length (now pairs)) ⌝ }
-    ensures { λ _. ⌜ SegmentsFound (now (table .entry)) (shape .n) (countsOf shape) (now (words .exit)) (now (sizes .exit)) (now (decided .exit)) (now (parents .exit)) (now (pairs .exit)) ⌝ }
+    requires { ⌜ Ready (now table) none-struck shape × Matched (now table) (now hits) shape × (4096 ≤ length (now hits)) × Holds (now table) none-struck (now told) shape × (4096 ≤ length (now words)) × (4096 ≤ length (now sizes)) × (4096 ≤ length (now decided)) ⌝ }
+    ensures { λ _. ⌜ SegmentsFound (now (table .entry)) (shape .n) (countsOf shape) (now (words .exit)) (now (sizes .exit)) (now (decided .exit)) ⌝ }
 {
     let n = shape.n;
     let space = shape.space;
-    let struck = [0u8; 64];
     flags::number_all(told, space, decided);
-    let mut permits = [0u64; 4096];
-    let mut denies = [0u64; 4096];
-    segments::mark_all(table, &struck, shape, words, &mut permits, &mut denies);
+    let mut applied = [0u64; 4096];
+    segments::apply_all(table, hits, shape, &mut applied);
+    segments::words_all(&applied, n, space, words);
     segments::size_all(words, space, sizes);
-    segments::parent_all(table, n, parents);
-    segments::pair_all(parents, words, &permits, &denies, n, space, pairs);
 }
 
 // Lays down the rules struck, in order, and for each rule kept the request that needs it. How many are struck, is the result.
@@ -79,15 +98,15 @@ pub fn report(file: &[u8], table: &[u16], places: &[usize], shape: Shape, out: &
     let mut decided = [0u8; 4096];
     let mut parents = [0usize; 64];
     let mut pairs = [0u16; 4096];
+    find_conflicts(table, &hits, shape, &mut words, &mut parents, &mut pairs);
     find_segments(
         table,
+        &hits,
         shape,
         &told,
         &mut words,
         &mut sizes,
         &mut decided,
-        &mut parents,
-        &mut pairs,
     );
     let mut order = [0u8; 64];
     let mut shown = [0usize; 64];

@@ -8,10 +8,11 @@ use lib.Dec.{eqb}
 use lib.ListN.{length, getD, set, length-set, replicate, length-replicate}
 use lib.Seq.{getD-set-same, getD-set-other}
 use borrow.Author.Tests.{eqb-true, eqb-false}
+use Rattle.meaning.specs.Model.{product}
 use Rattle.meaning.specs.Deciding.{bit}
 use Rattle.laws.proofs.Bools.{Test, passed, failed, test}
-use Rattle.segments.specs.Words.{wordFrom}
-use Rattle.segments.specs.Rows.{wordAcross}
+use Rattle.segments.specs.Words.{wordFrom, applyingAt}
+use Rattle.segments.specs.Rows.{Applied, wordAcross}
 
 -- words of tests that agree
 pub word-alike : (f g : ℕ → Bool) (i k : ℕ) → ((j : ℕ) → i ≤ j → j < i + k → f j ≡ g j) → wordFrom f i k ≡ wordFrom g i k
@@ -58,3 +59,7 @@ column-later rows words n m column inside = let same : (m + 1) / 64 ≡ m / 64 =
 
 pub column-same : (rows : List ℕ) (n block : ℕ) {words other : List ℕ} → words ≡ other → Column rows n other block → Column rows n words block
 column-same rows n block same column = rw same column
+
+-- the rows of a table give the words of its requests
+pub across-applying : (t : List ℕ) (n : ℕ) (counts rows : List ℕ) → Applied t n counts rows → (m : ℕ) → m < product counts → wordAcross rows n m ≡ applyingAt t n counts m
+across-applying t n counts rows applied m l = word-alike _ _ 0 n (λ i a u. applied i m (omega arith) l)

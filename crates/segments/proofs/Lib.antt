@@ -6,3 +6,4 @@ pub mod Columns
 pub mod Sizing
 mod Chains
 mod PairSteps
+pub mod Showing

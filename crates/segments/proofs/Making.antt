@@ -1,18 +1,13 @@
 -- A word made bit by bit, from its highest test down.
 use Prim.Native.Nat.{ℕ, zero, suc, _+_, _*_, _-_, _^_, _≤_, _<_}
-use mathlib.Core.Path.{_≡_, sym, ap, _∙_}
+use mathlib.Core.Path.{_≡_, sym, _∙_}
 use mathlib.Core.Bool.{Bool, true, false, cond}
-use mathlib.Core.List.{List}
 use native.Mathlib.Nat.{pow-succ', pow-le-pow-right}
 use native.Mathlib.Omega.{arith}
 use lib.Dec.{eqb}
 use borrow.Author.Tests.{eqb-true, eqb-false, eq-eqb, ne-eqb}
-use Rattle.meaning.specs.declared.Decision.{Decision}
-use Rattle.meaning.specs.Deciding.{decisionNumber, matches}
 use Rattle.laws.proofs.Bools.{Test, passed, failed, test}
-use Rattle.decisions.specs.declared.Reply.{Reply}
-use Rattle.decisions.specs.Replies.{replyOf, replyAt}
-use Rattle.segments.specs.Words.{wordFrom, givesAt}
+use Rattle.segments.specs.Words.{wordFrom}
 
 -- two numbers compared either way round
 pub eqb-swap : (a b : ℕ) → eqb a b ≡ eqb b a
@@ -53,12 +48,3 @@ module _ (test : ℕ → Bool) where
 
     pub word-all : i ≡ 0 → word ≡ wordFrom test i (n - i) → word ≡ wordFrom test 0 n
     word-all e is = let whole : n - 0 ≡ n = omega arith in is ∙ rw (e, whole)
-
--- A bit by the number of an element's decision
-pub gives-by : (d : Decision) (t struck : List ℕ) (n : ℕ) (q : List ℕ) (i number : ℕ) (r : Reply) → replyOf r ≡ replyAt (matches q) t struck n i → number ≡ decisionNumber (r .decision) → eqb number (decisionNumber d) ≡ givesAt d t struck n q i
-unfolding givesAt
-gives-by d t struck n q i number r gives is = eqb-swap number (decisionNumber d) ∙ ap (eqb (decisionNumber d)) (is ∙ ap (λ reply. decisionNumber (reply .decision)) gives)
-
--- A word of the same values
-pub word-same : (test : List ℕ → ℕ → Bool) (n word : ℕ) {q r : List ℕ} → q ≡ r → word ≡ wordFrom (test q) 0 n → word ≡ wordFrom (test r) 0 n
-word-same test n word same e = e ∙ ap (λ values. wordFrom (test values) 0 n) same

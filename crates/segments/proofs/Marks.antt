@@ -28,6 +28,13 @@ halved b m = let l = small b in omega arith
 higher : (x i : ℕ) → x / (2 ^ suc i) ≡ (x / 2) / (2 ^ i)
 higher x i = ap (λ y. x / y) (pow-succ' 2 i) ∙ sym (div-div-eq-div-mul x 2 (2 ^ i))
 
+-- a word's lowest bit, and the bits above it
+pub bit-lowest : (x : ℕ) → bit x 0 ≡ eqb (x % 2) 1
+bit-lowest x = ap (λ y. eqb (y % 2) 1) (div-one x)
+
+pub bit-higher : (x i : ℕ) → bit x (suc i) ≡ bit (x / 2) i
+bit-higher x i = ap (λ y. eqb (y % 2) 1) (higher x i)
+
 none-set : (i : ℕ) → bit 0 i ≡ false
 none-set zero = refl
 none-set (suc i) = ap (λ y. eqb (y % 2) 1) (higher 0 i) ∙ none-set i
@@ -38,7 +45,7 @@ bit-mark (b ∷ bs) zero = ap (λ y. eqb (y % 2) 1) (div-one (one-if b + 2 * mar
 bit-mark (b ∷ bs) (suc i) = ap (λ y. eqb (y % 2) 1) (higher (one-if b + 2 * marks bs) i ∙ ap (λ y. y / (2 ^ i)) (halved b (marks bs))) ∙ bit-mark bs i
 
 -- the word of one test
-test-at : (test : ℕ → Bool) (i k j : ℕ) → j < k → getD (map test (counting i k)) j false ≡ test (i + j)
+pub test-at : (test : ℕ → Bool) (i k j : ℕ) → j < k → getD (map test (counting i k)) j false ≡ test (i + j)
 test-at test i zero j l = absurd (omega arith)
 test-at test i (suc k) zero l = let here : i + 0 ≡ i = omega arith in rw here
 test-at test i (suc k) (suc j) l = let next : suc i + j ≡ i + suc j = omega arith in test-at test (suc i) k j (omega arith) ∙ ap test next

@@ -25,7 +25,7 @@ use Rattle.blocks.specs.Bits.{decisionBy, replyBit, Answers}
 use Rattle.flags.specs.declared.Shape.{Shape}
 use Rattle.flags.specs.Ready.{countsOf}
 use Rattle.segments.specs.Words.{appliesAt, givesAt}
-use Rattle.segments.specs.Rows.{bitOf, Applied, Given, Narrowed, AppliedRow, Matched}
+use Rattle.segments.specs.Rows.{bitOf, Applied, Given, Narrowed, AppliedRow, Marked}
 
 -- Row `new` is `old` with the words of `hits` from `at` on, up to word b
 pub record Narrows (hits : List ℕ) (at : ℕ) (old new : List ℕ) (b : ℕ) : Type 0 where
@@ -121,7 +121,7 @@ module _ (F : (Element → Bool) → ℕ → Bool) (t hits : List ℕ) (n blocks
             ap (λ y. bit y v) (copied .before (64 * j + b) (omega (arith, other))) ∙ so-far .bits j b v hit l u x (omega (arith, other)) answers
 
 -- all of them, of requests
-pub told-requests : (F : (Element → Bool) → ℕ → Bool) (t : List ℕ) (s : Shape) (hits : List ℕ) {old rows : List ℕ} {k : ℕ} → Matched t s hits → 64 * s .n ≤ k → Told F t hits (s .n) ((s .space + 63) / 64) old rows k
+pub told-requests : (F : (Element → Bool) → ℕ → Bool) (t : List ℕ) (s : Shape) (hits : List ℕ) {old rows : List ℕ} {k : ℕ} → Marked t s hits → 64 * s .n ≤ k → Told F t hits (s .n) ((s .space + 63) / 64) old rows k
     → (i m : ℕ) → i < s .n → m < product (countsOf s) → bitOf rows i m ≡ F (matches (requestOf (countsOf s) m)) i
 told-requests F t s hits matched all told i m l u =
     let inside : m < s .space = omega (arith, matched .all) in
@@ -134,7 +134,7 @@ applying t hit i = applies hit (before t i) (elementAt t i)
 abbrev pub giving : Decision → List ℕ → List ℕ → ℕ → (Element → Bool) → ℕ → Bool
 giving d t struck n hit i = is d (replyAt hit t struck n i .decision)
 
-module _ (t : List ℕ) (s : Shape) (hits : List ℕ) {old rows : List ℕ} {k : ℕ} (matched : Matched t s hits) (all : 64 * s .n ≤ k) where
+module _ (t : List ℕ) (s : Shape) (hits : List ℕ) {old rows : List ℕ} {k : ℕ} (matched : Marked t s hits) (all : 64 * s .n ≤ k) where
   pub applied-all : Told (applying t) t hits (s .n) ((s .space + 63) / 64) old rows k → Applied t (s .n) (countsOf s) rows
   unfolding appliesAt
   applied-all = told-requests (applying t) t s hits matched all

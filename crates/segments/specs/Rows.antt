@@ -47,7 +47,7 @@ pub record Rowed (t hits : List ℕ) (n blocks : ℕ) : Type 0 where
   pub most : blocks ≤ 64
 
 -- a table, its shape, and which requests match each element's own target
-pub record Matched (t : List ℕ) (s : Shape) (hits : List ℕ) : Type 0 where
+pub record Marked (t : List ℕ) (s : Shape) (hits : List ℕ) : Type 0 where
   pub rows : 8 * s .n ≤ length t
   pub few : s .n ≤ 64
   pub all : product (countsOf s) ≡ s .space

@@ -1,12 +1,12 @@
 -- Words of bits: bit i says whether element i passes a test. A word for each request makes segments and conflicts plain.
 use Prim.Native.Nat.{ℕ, _+_, _*_}
-use mathlib.Core.Bool.{Bool, cond, _&&_, _||_}
+use mathlib.Core.Bool.{Bool, cond}
 use mathlib.Core.List.{List, [], _∷_, map}
 use lib.Dec.{eqb}
 use lib.ListN.{length, getD}
 use Rattle.meaning.specs.declared.Decision.{Decision}
 use Rattle.meaning.specs.Text.{keep, isNone, counting, firstFrom}
-use Rattle.meaning.specs.Deciding.{requestOf, bit, matches, applies, is}
+use Rattle.meaning.specs.Deciding.{requestOf, matches, applies, is}
 use Rattle.decisions.specs.Table.{elementAt, before}
 use Rattle.decisions.specs.Replies.{replyAt}
 
@@ -27,12 +27,9 @@ appliesAt t q i = applies (matches q) (before t i) (elementAt t i)
 unfoldable pub givesAt : Decision → List ℕ → List ℕ → ℕ → List ℕ → ℕ → Bool
 givesAt d t struck n q i = is d (replyAt (matches q) t struck n i .decision)
 
--- the words of request m: which elements apply to it, and which give a decision on it
+-- the word of request m: which elements apply to it
 abbrev pub applyingAt : List ℕ → ℕ → List ℕ → ℕ → ℕ
 applyingAt t n counts m = wordFrom (appliesAt t (requestOf counts m)) 0 n
-
-abbrev pub givingAt : Decision → List ℕ → List ℕ → ℕ → List ℕ → ℕ → ℕ
-givingAt d t struck n counts m = wordFrom (givesAt d t struck n (requestOf counts m)) 0 n
 
 -- A list of words, one for each request: request k has the word of m; m is the first that has it
 abbrev pub alike : List ℕ → ℕ → ℕ → Bool
@@ -44,8 +41,3 @@ opensAt ws m = isNone (firstFrom (alike ws m) 0 m)
 -- how many of s requests have the word of m, if m is the first; else 0
 unfoldable pub sizeAt : List ℕ → ℕ → ℕ → ℕ
 sizeAt ws s m = cond (opensAt ws m) (length (keep (alike ws m) (counting 0 s))) 0
-
--- on request m element i applies, and of j and k one permits and the other denies
-unfoldable pub showsAt : (applying permits denies : List ℕ) → (i j k m : ℕ) → Bool
-showsAt ws ps ds i j k m =
-    bit (getD ws m 0) i && ((bit (getD ps m 0) j && bit (getD ds m 0) k) || (bit (getD ds m 0) j && bit (getD ps m 0) k))

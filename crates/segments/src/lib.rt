@@ -1,36 +1,19 @@
-// Segments and conflicts by words of 64 bits, one for each request: bit i is element i's.
+// Segments and conflicts by words of 64 bits: rows of 64 words for each element, a bit for each request, and a word for each request, a bit for each element.
 use flags::Shape;
 use meaning::Decision;
-use requests::Request;
 ghost use mathlib.Core.Path.{_≡_};
-ghost use mathlib.Core.Bool.{cond, _&&_, _||_};
 ghost use mathlib.Core.List.{_++_, map};
 ghost use Prim.Native.Nat.{ℕ, _+_, _*_, _≤_, _<_};
 ghost use lib.ListN.{length, getD, drop};
 ghost use lib.Bits.{bitAnd};
 ghost use Rattle.meaning.specs.Text.{counting, firstFrom};
 ghost use Rattle.meaning.specs.Deciding.{bit};
-ghost use Rattle.requests.specs.Values.{valuesOf};
-ghost use Rattle.decisions.specs.Table.{parentOf, placeOr, Room};
-ghost use Rattle.flags.specs.Ready.{countsOf, Ready};
-ghost use Rattle.segments.specs.Words.{wordFrom, appliesAt, givesAt, applyingAt, givingAt, alike, sizeAt, showsAt};
-ghost use Rattle.segments.specs.Rows.{Applied, Given, wordAcross, Narrowed, AppliedRow, Rowed, Matched};
+ghost use Rattle.decisions.specs.Table.{parentOf, placeOr};
+ghost use Rattle.flags.specs.Ready.{countsOf};
+ghost use Rattle.segments.specs.Words.{wordFrom, alike, sizeAt};
+ghost use Rattle.segments.specs.Rows.{Applied, Given, wordAcross, Narrowed, AppliedRow, Rowed, Marked};
 ghost use Rattle.segments.specs.Chains.{bucketOf, Chained};
-ghost use Rattle.segments.specs.Pairs.{PairsOf, Pairs, Pairing};
-
-// The elements that permit and those that deny.
-pub struct EffectWords {
-    pub permits: u64,
-    pub denies: u64,
-}
-
-// The word with one bit more, below the others.
-fn marked(word: u64, set: bool) -> u64
-    requires { ⌜ word < 9223372036854775808 ⌝ }
-    ensures { λ r. ⌜ r ≡ cond set 1 0 + 2 * word ⌝ }
-{
-    if set { 1 + 2 * word } else { 2 * word }
-}
+ghost use Rattle.segments.specs.Pairs.{Lowest, shownBy, PairsOf, Pairs, Laid, Pairing};
 
 // Whether bit i of the word is set.
 pub fn has(word: u64, i: usize) -> bool
@@ -38,67 +21,6 @@ pub fn has(word: u64, i: usize) -> bool
     ensures { λ r. ⌜ r ≡ bit word i ⌝ }
 {
     (word >> i) % 2 == 1
-}
-
-// The elements that apply to a request.
-fn applying(table: &[u16], n: usize, q: Request) -> u64
-    requires { ⌜ (8 * n ≤ length (now table)) × (n ≤ 64) × (q .len ≤ 6) ⌝ }
-    ensures { λ r. ⌜ r ≡ wordFrom (appliesAt (now (table .entry)) (valuesOf q)) 0 n ⌝ }
-{
-    let mut word: u64 = 0;
-    let mut i = n;
-    while 0 < i {
-        i -= 1;
-        word = marked(word, decisions::applies(table, n, i, q));
-    }
-    word
-}
-
-// The elements that give permit on a request, and those that give deny: each is decided once.
-fn effects(table: &[u16], struck: &[u8], n: usize, q: Request) -> EffectWords
-    requires { ⌜ Room (now table) (now struck) n n (q .len) × (n ≤ 64) ⌝ }
-    ensures { λ r. ⌜ (r .permits ≡ wordFrom (givesAt Decision.Permit (now (table .entry)) (now (struck .entry)) n (valuesOf q)) 0 n) × (r .denies ≡ wordFrom (givesAt Decision.Deny (now (table .entry)) (now (struck .entry)) n (valuesOf q)) 0 n) ⌝ }
-{
-    let mut permits: u64 = 0;
-    let mut denies: u64 = 0;
-    let mut i = n;
-    while 0 < i {
-        i -= 1;
-        let reply = decisions::decide_at(table, struck, n, i, q);
-        let decision = reply.decision;
-        let number = decisions::number(decision);
-        permits = marked(permits, number == 0);
-        denies = marked(denies, number == 1);
-    }
-    EffectWords { permits, denies }
-}
-
-// Lays down each request's words: the elements that apply, that permit, that deny. What lies behind them stays.
-pub fn mark_all(
-    table: &[u16],
-    struck: &[u8],
-    shape: Shape,
-    words: &mut [u64],
-    permits: &mut [u64],
-    denies: &mut [u64],
-)
-    requires { ⌜ Ready (now table) (now struck) shape × (shape .space ≤ length (now words)) × (shape .space ≤ length (now permits)) × (shape .space ≤ length (now denies)) ⌝ }
-    ensures { λ _. ⌜ (now (words .exit) ≡ map (applyingAt (now (table .entry)) (shape .n) (countsOf shape)) (counting 0 (shape .space)) ++ drop (shape .space) (now (words .entry))) × (now (permits .exit) ≡ map (givingAt Decision.Permit (now (table .entry)) (now (struck .entry)) (shape .n) (countsOf shape)) (counting 0 (shape .space)) ++ drop (shape .space) (now (permits .entry))) × (now (denies .exit) ≡ map (givingAt Decision.Deny (now (table .entry)) (now (struck .entry)) (shape .n) (countsOf shape)) (counting 0 (shape .space)) ++ drop (shape .space) (now (denies .entry))) ⌝ }
-{
-    let n = shape.n;
-    let counts = shape.counts;
-    let len = shape.len;
-    let space = shape.space;
-    let mut q = requests::request_of(0, counts, len);
-    let mut m = 0;
-    while m < space {
-        words[m] = applying(table, n, q);
-        let given = effects(table, struck, n, q);
-        permits[m] = given.permits;
-        denies[m] = given.denies;
-        q = q.next(counts);
-        m += 1;
-    }
 }
 
 // Keeps of a row the bits that the words of `hits` from `at` on have too.
@@ -138,7 +60,7 @@ fn row_of(table: &[u16], hits: &[u64], n: usize, blocks: usize, i: usize) -> [u6
 
 // Lays down the requests to which each element applies.
 pub fn apply_all(table: &[u16], hits: &[u64], shape: Shape, applied: &mut [u64])
-    requires { ⌜ Matched (now table) shape (now hits) × (4096 ≤ length (now applied)) ⌝ }
+    requires { ⌜ Marked (now table) shape (now hits) × (4096 ≤ length (now applied)) ⌝ }
     ensures { λ _. ⌜ Applied (now (table .entry)) (shape .n) (countsOf shape) (now (applied .exit)) ⌝ }
 {
     let n = shape.n;
@@ -160,7 +82,7 @@ pub fn give_all(
     permits: &mut [u64],
     denies: &mut [u64],
 )
-    requires { ⌜ Matched (now table) shape (now hits) × (shape .n ≤ length (now struck)) × (4096 ≤ length (now permits)) × (4096 ≤ length (now denies)) ⌝ }
+    requires { ⌜ Marked (now table) shape (now hits) × (shape .n ≤ length (now struck)) × (4096 ≤ length (now permits)) × (4096 ≤ length (now denies)) ⌝ }
     ensures { λ _. ⌜ Given Decision.Permit (now (table .entry)) (now (struck .entry)) (shape .n) (countsOf shape) (now (permits .exit)) × Given Decision.Deny (now (table .entry)) (now (struck .entry)) (shape .n) (countsOf shape) (now (denies .exit)) ⌝ }
 {
     let n = shape.n;
@@ -291,33 +213,17 @@ pub fn parent_all(table: &[u16], n: usize, parents: &mut [usize])
     }
 }
 
-// Whether of j and k one permits and the other denies.
-fn oppose(permits: u64, denies: u64, j: usize, k: usize) -> bool
-    requires { ⌜ (j < 64) × (k < 64) ⌝ }
-    ensures { λ r. ⌜ r ≡ (bit permits j && bit denies k) || (bit denies j && bit permits k) ⌝ }
+// The lowest bit that is set.
+fn lowest(word: u64) -> usize
+    requires { ⌜ 0 < word ⌝ }
+    ensures { λ r. ⌜ Lowest word r ⌝ }
 {
-    (has(permits, j) & has(denies, k)) | (has(denies, j) & has(permits, k))
-}
-
-// Whether, on request m, element i applies and of j and k one permits and the other denies.
-fn shows(
-    words: &[u64],
-    permits: &[u64],
-    denies: &[u64],
-    i: usize,
-    j: usize,
-    k: usize,
-    m: usize,
-) -> bool
-    requires { ⌜ (m < length (now words)) × (m < length (now permits)) × (m < length (now denies)) × (i < 64) × (j < 64) × (k < 64) ⌝ }
-    ensures { λ r. ⌜ r ≡ showsAt (now (words .entry)) (now (permits .entry)) (now (denies .entry)) i j k m ⌝ }
-{
-    has(words[m], i) & oppose(permits[m], denies[m], j, k)
+    u64::trailing_zeros(word) as usize
 }
 
 // The first request that shows a conflict of j and k under i, or the number of requests.
 fn first_shown(
-    words: &[u64],
+    applied: &[u64],
     permits: &[u64],
     denies: &[u64],
     space: usize,
@@ -325,15 +231,23 @@ fn first_shown(
     j: usize,
     k: usize,
 ) -> usize
-    requires { ⌜ (space ≤ length (now words)) × (space ≤ length (now permits)) × (space ≤ length (now denies)) × (i < 64) × (j < 64) × (k < 64) ⌝ }
-    ensures { λ r. ⌜ (r ≡ placeOr space (firstFrom (showsAt (now (words .entry)) (now (permits .entry)) (now (denies .entry)) i j k) 0 space)) × (r ≤ space) ⌝ }
+    requires { ⌜ Laid (now applied) (now permits) (now denies) space × (i < 64) × (j < 64) × (k < 64) ⌝ }
+    ensures { λ r. ⌜ (r ≡ placeOr space (firstFrom (shownBy (now (applied .entry)) (now (permits .entry)) (now (denies .entry)) i j k) 0 space)) × (r ≤ space) ⌝ }
 {
-    let mut m = 0;
-    while m < space {
-        if shows(words, permits, denies, i, j, k, m) {
-            return m;
+    let blocks = (space + 63) / 64;
+    let mut b = 0;
+    while b < blocks {
+        let first = permits[64 * j + b] & denies[64 * k + b];
+        let second = denies[64 * j + b] & permits[64 * k + b];
+        let word = applied[64 * i + b] & (first | second);
+        if word != 0 {
+            let m = 64 * b + lowest(word);
+            if m < space {
+                return m;
+            }
+            return space;
         }
-        m += 1;
+        b += 1;
     }
     space
 }
@@ -341,7 +255,7 @@ fn first_shown(
 // Lays down at 64 j + k, for each later child k of j's parent, the first request that shows a conflict of j and k, or the number of requests. The places before 64 j stay.
 fn pair_later(
     parents: &[usize],
-    words: &[u64],
+    applied: &[u64],
     permits: &[u64],
     denies: &[u64],
     n: usize,
@@ -349,8 +263,8 @@ fn pair_later(
     j: usize,
     pairs: &mut [u16],
 )
-    requires { ⌜ Pairing (now parents) (now words) (now permits) (now denies) n space (now pairs) × (j < n) ⌝ }
-    ensures { λ _. ⌜ PairsOf (now (parents .entry)) (now (words .entry)) (now (permits .entry)) (now (denies .entry)) n space (now (pairs .exit)) j × ((i : ℕ) → i < 64 * j → getD (now (pairs .exit)) i 0 ≡ getD (now (pairs .entry)) i 0) ⌝ }
+    requires { ⌜ Pairing (now parents) (now applied) (now permits) (now denies) n space (now pairs) × (j < n) ⌝ }
+    ensures { λ _. ⌜ PairsOf (now (parents .entry)) (shownBy (now (applied .entry)) (now (permits .entry)) (now (denies .entry))) n space (now (pairs .exit)) j × ((i : ℕ) → i < 64 * j → getD (now (pairs .exit)) i 0 ≡ getD (now (pairs .entry)) i 0) ⌝ }
 {
     let parent = parents[j];
     if n <= parent {
@@ -362,7 +276,7 @@ fn pair_later(
             k += 1;
             continue;
         }
-        pairs[64 * j + k] = first_shown(words, permits, denies, space, parent, j, k) as u16;
+        pairs[64 * j + k] = first_shown(applied, permits, denies, space, parent, j, k) as u16;
         k += 1;
     }
 }
@@ -370,19 +284,19 @@ fn pair_later(
 // The same for each j.
 pub fn pair_all(
     parents: &[usize],
-    words: &[u64],
+    applied: &[u64],
     permits: &[u64],
     denies: &[u64],
     n: usize,
     space: usize,
     pairs: &mut [u16],
 )
-    requires { ⌜ Pairing (now parents) (now words) (now permits) (now denies) n space (now pairs) ⌝ }
-    ensures { λ _. ⌜ Pairs (now (parents .entry)) (now (words .entry)) (now (permits .entry)) (now (denies .entry)) n space (now (pairs .exit)) ⌝ }
+    requires { ⌜ Pairing (now parents) (now applied) (now permits) (now denies) n space (now pairs) ⌝ }
+    ensures { λ _. ⌜ Pairs (now (parents .entry)) (shownBy (now (applied .entry)) (now (permits .entry)) (now (denies .entry))) n space (now (pairs .exit)) ⌝ }
 {
     let mut j = 0;
     while j < n {
-        pair_later(parents, words, permits, denies, n, space, j, pairs);
+        pair_later(parents, applied, permits, denies, n, space, j, pairs);
         j += 1;
     }
 }

@@ -3,7 +3,7 @@ use Prim.Native.Nat.{ℕ, _-_, _≤_, _<_}
 use native.Mathlib.Omega.{arith}
 use lib.ListN.{length}
 use borrow.Author.Needs.{needs}
-use Rattle.segments.specs.Pairs.{PairsOf}
+use Rattle.segments.specs.Pairs.{shownBy, PairsOf}
 use Rattle.segments.proofs.PairSteps.{pairs-more}
 use Rattle.segments.proofs.pair_all.Statement.{statement}
 use Rattle.segments.proofs.pair_all.Tie as tie
@@ -12,10 +12,10 @@ use Rattle.segments.proofs.pair_all.Lts as lts
 use Rattle.segments.proofs.pair_later.Reads as pair-later-reads
 
 abbrev Inv-loop : tie.InvT-loop
-Inv-loop parents words permits denies n space pairs₀ j₀ pairs j = (j ≤ n) × ((i : ℕ) → i < j → PairsOf parents words permits denies n space pairs i) × (length pairs ≡ length pairs₀)
+Inv-loop parents applied permits denies n space pairs₀ j₀ pairs j = (j ≤ n) × ((i : ℕ) → i < j → PairsOf parents (shownBy applied permits denies) n space pairs i) × (length pairs ≡ length pairs₀)
 
 abbrev μ-loop : tie.MeasureT-loop
-μ-loop parents words permits denies n space pairs₀ j₀ pairs j = n - j
+μ-loop parents applied permits denies n space pairs₀ j₀ pairs j = n - j
 
 loop-holds : tie.Need-loop-holds Inv-loop μ-loop
 loop-holds c = (search needs, λ i l. absurd (omega arith), refl)
@@ -24,7 +24,7 @@ pair-later-requires : tie.Need-pair-later-requires Inv-loop μ-loop
 pair-later-requires c κs =
     let pre = c .before .before .before .before .before .before .before .before .pre in
     let l = c .before .before .loop in
-    (record { few = pre .few; small = pre .small; parents-room = pre .parents-room; words-room = pre .words-room; permits-room = pre .permits-room; denies-room = pre .denies-room; pairs-room = omega (arith, pre .pairs-room, l .inv .2) }, omega arith)
+    (record { few = pre .few; parents-room = pre .parents-room; rows = pre .rows; pairs-room = omega (arith, pre .pairs-room, l .inv .2) }, omega arith)
 
 add-j : tie.Need-add-j Inv-loop μ-loop
 add-j c = search needs
@@ -37,7 +37,7 @@ loop-again c =
     let args = c .before .before .before .before .before .before .before .before .before .before .before .args in
     let l = c .before .before .before .before .before .loop in
     let laid = c .before .before .pair-later .ensures in
-    (omega arith, pairs-more (args .parents .now) (args .words .now) (args .permits .now) (args .denies .now) (args .n) (args .space) (c .before .before .before .before .before .before .before .before .before .before .before .pre .few) (l .j) (l .pairs) (c .before .before .pair-later .last .1 .1 .1 .1 .1 .1 .1 .0) (l .inv .1) (laid .0) (laid .1), search needs)
+    (omega arith, pairs-more (args .parents .now) (shownBy (args .applied .now) (args .permits .now) (args .denies .now)) (args .n) (args .space) (c .before .before .before .before .before .before .before .before .before .before .before .pre .few) (l .j) (l .pairs) (c .before .before .pair-later .last .1 .1 .1 .1 .1 .1 .1 .0) (l .inv .1) (laid .0) (laid .1), search needs)
 
 same-length : tie.Need-same-length Inv-loop μ-loop
 same-length c = c .before .loop .inv .2

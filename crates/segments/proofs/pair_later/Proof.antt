@@ -3,6 +3,7 @@ use Prim.Native.Nat.{_+_, _-_, _*_, _≤_, _<_}
 use native.Mathlib.Omega.{arith}
 use lib.ListN.{length}
 use borrow.Author.Needs.{needs}
+use Rattle.segments.specs.Pairs.{shownBy}
 use Rattle.segments.proofs.PairSteps.{PairedTo, pairs-begun, pair-skipped, pair-laid, pairs-ended, no-pair}
 use Rattle.segments.proofs.pair_later.Statement.{statement}
 use Rattle.segments.proofs.pair_later.Tie as tie
@@ -11,10 +12,10 @@ use Rattle.segments.proofs.pair_later.Lts as lts
 use Rattle.segments.proofs.first_shown.Reads as first-shown-reads
 
 abbrev Inv-loop : tie.InvT-loop
-Inv-loop parents words permits denies n space j pairs₀ parent k₀ pairs k = (j < k) × (k ≤ n) × PairedTo parents words permits denies n space pairs₀ j k pairs × (length pairs ≡ length pairs₀)
+Inv-loop parents applied permits denies n space j pairs₀ parent k₀ pairs k = (j < k) × (k ≤ n) × PairedTo parents (shownBy applied permits denies) n space pairs₀ j k pairs × (length pairs ≡ length pairs₀)
 
 abbrev μ-loop : tie.MeasureT-loop
-μ-loop parents words permits denies n space j pairs₀ parent k₀ pairs k = n - k
+μ-loop parents applied permits denies n space j pairs₀ parent k₀ pairs k = n - k
 
 mul-parent : tie.Need-mul-parent Inv-loop μ-loop
 mul-parent c = search needs
@@ -25,7 +26,7 @@ shared-slice-read-parent c = search needs
 returns : tie.Need-returns Inv-loop μ-loop
 returns c =
     let args = c .before .before .before .before .before .before .before .args in
-    (no-pair (args .parents .now) (args .words .now) (args .permits .now) (args .denies .now) (args .n) (args .space) (args .pairs .now) (args .j) (args .pairs .now) (c .if1 .taken), λ i l. refl)
+    (no-pair (args .parents .now) (shownBy (args .applied .now) (args .permits .now) (args .denies .now)) (args .n) (args .space) (args .pairs .now) (args .j) (args .pairs .now) (c .if1 .taken), λ i l. refl)
 
 add-k : tie.Need-add-k Inv-loop μ-loop
 add-k c = search needs
@@ -33,7 +34,7 @@ add-k c = search needs
 loop-holds : tie.Need-loop-holds Inv-loop μ-loop
 loop-holds c =
     let args = c .before .before .before .before .before .before .before .args in
-    (search needs, search needs, pairs-begun (args .parents .now) (args .words .now) (args .permits .now) (args .denies .now) (args .n) (args .space) (args .pairs .now) (args .j), refl)
+    (search needs, search needs, pairs-begun (args .parents .now) (shownBy (args .applied .now) (args .permits .now) (args .denies .now)) (args .n) (args .space) (args .pairs .now) (args .j), refl)
 
 mul-if2 : tie.Need-mul-if2 Inv-loop μ-loop
 mul-if2 c = search needs
@@ -51,12 +52,12 @@ loop-again : tie.Need-loop-again Inv-loop μ-loop
 loop-again c =
     let args = c .before .before .before .before .before .before .before .before .before .before .before .args in
     let l = c .before .before .before .loop in
-    (omega arith, omega arith, pair-skipped (args .parents .now) (args .words .now) (args .permits .now) (args .denies .now) (args .n) (args .space) (args .pairs .now) (args .j) (l .k) (l .pairs) (l .inv .2) (c .if2 .taken), l .inv .3)
+    (omega arith, omega arith, pair-skipped (args .parents .now) (shownBy (args .applied .now) (args .permits .now) (args .denies .now)) (args .n) (args .space) (args .pairs .now) (args .j) (l .k) (l .pairs) (l .inv .2) (c .if2 .taken), l .inv .3)
 
 first-shown-requires : tie.Need-first-shown-requires Inv-loop μ-loop
 first-shown-requires c κs =
     let pre = c .before .before .before .before .before .before .before .before .before .before .before .pre in
-    (pre .0 .words-room, pre .0 .permits-room, pre .0 .denies-room, omega (arith, pre .0 .few), omega (arith, pre .0 .few), omega (arith, pre .0 .few))
+    (pre .0 .rows, omega (arith, pre .0 .few), omega (arith, pre .0 .few), omega (arith, pre .0 .few))
 
 cast-pairs : tie.Need-cast-pairs Inv-loop μ-loop
 cast-pairs c = search needs
@@ -85,7 +86,7 @@ loop-again-2 c =
     let l = c .before .before .before .before .loop in
     let pre = c .before .before .before .before .before .before .before .before .before .before .before .before .pre in
     let room : 64 * args .j + l .k < length (l .pairs) = omega (arith, pre .0 .few, pre .0 .pairs-room, l .inv .3) in
-    let laid = pair-laid (args .parents .now) (args .words .now) (args .permits .now) (args .denies .now) (args .n) (args .space) (args .pairs .now) (args .j) (l .k) (l .pairs) (l .inv .2) _ _ refl (l .inv .0) room (c .first-shown .ensures .0) in
+    let laid = pair-laid (args .parents .now) (shownBy (args .applied .now) (args .permits .now) (args .denies .now)) (args .n) (args .space) (args .pairs .now) (args .j) (l .k) (l .pairs) (l .inv .2) _ _ refl (l .inv .0) room (c .first-shown .ensures .0) in
     (omega arith, omega arith, laid, laid .same-length)
 
 same-length : tie.Need-same-length Inv-loop μ-loop
@@ -95,7 +96,7 @@ returns-2 : tie.Need-returns-2 Inv-loop μ-loop
 returns-2 c =
     let args = c .before .before .before .before .before .before .before .before .before .args in
     let l = c .before .loop in
-    (pairs-ended (args .parents .now) (args .words .now) (args .permits .now) (args .denies .now) (args .n) (args .space) (args .pairs .now) (args .j) (l .k) (l .pairs) (l .inv .2) (omega (arith, c .loop-test)), l .inv .2 .before)
+    (pairs-ended (args .parents .now) (shownBy (args .applied .now) (args .permits .now) (args .denies .now)) (args .n) (args .space) (args .pairs .now) (args .j) (l .k) (l .pairs) (l .inv .2) (omega (arith, c .loop-test)), l .inv .2 .before)
 
 pub pair-later-spec : {M : Type 1} → statement M
 pair-later-spec =
