@@ -8,9 +8,9 @@ use requests::Request;
 ghost use mathlib.Core.Path.{_≡_};
 ghost use Prim.Native.Nat.{_+_, _*_, _≤_, _<_};
 ghost use lib.ListN.{length, getD};
-ghost use Rattle.meaning.specs.Deciding.{decisionNumber, matches, applies, combined, firstDecision};
+ghost use Rattle.meaning.specs.Deciding.{decisionNumber, matches, combined, firstDecision};
 ghost use Rattle.requests.specs.Values.{valuesOf};
-ghost use Rattle.decisions.specs.Table.{algorithmAt, depthOf, elementAt, left, before, parentOf, placeOr, Room};
+ghost use Rattle.decisions.specs.Table.{algorithmAt, depthOf, left, parentOf, placeOr, Room};
 ghost use Rattle.decisions.specs.Replies.{replyOf, nextOf, stepOf, repliesFrom, replyAt};
 
 // Whether an element's own target matches, and its decision.
@@ -124,7 +124,7 @@ fn step(algorithm: usize, so_far: Reply, child: Reply) -> Reply
 }
 
 // Decides element `at`: behind it stand its children, and what comes after them.
-pub fn decide_at(table: &[u16], struck: &[u8], n: usize, at: usize, q: Request) -> Reply
+fn decide_at(table: &[u16], struck: &[u8], n: usize, at: usize, q: Request) -> Reply
     requires { ⌜ Room (now table) (now struck) n (at + 1) (q .len) ⌝ }
     ensures { λ r. ⌜ replyOf r ≡ replyAt (matches (valuesOf q)) (now (table .entry)) (now (struck .entry)) n at ⌝ }
 {
@@ -216,19 +216,4 @@ pub fn parent(table: &[u16], n: usize, i: usize) -> usize
         }
     }
     n
-}
-
-// Whether element i applies: the request matches its own target and that of every element above it.
-pub fn applies(table: &[u16], n: usize, i: usize, q: Request) -> bool
-    requires { ⌜ (8 * n ≤ length (now table)) × (i < n) × (q .len ≤ 6) ⌝ }
-    ensures { λ r. ⌜ r ≡ applies (matches (valuesOf q)) (before (now (table .entry)) i) (elementAt (now (table .entry)) i) ⌝ }
-{
-    if !q.matches(table, 8 * i + 2) {
-        return false;
-    }
-    let up = parent(table, n, i);
-    if up == n {
-        return true;
-    }
-    applies(table, n, up, q)
 }

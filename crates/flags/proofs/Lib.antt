@@ -1,6 +1,5 @@
 -- The laws that the functions' proofs cite.
 pub mod Laying
-pub mod Walking
 pub mod Searching
 pub mod Blocks
 pub mod Trying

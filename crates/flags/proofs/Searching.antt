@@ -3,23 +3,11 @@ use Prim.Native.Nat.{ℕ, zero, suc, _+_, _-_, _<_}
 use mathlib.Core.Path.{_≡_}
 use mathlib.Core.Bool.{Bool, true, false}
 use mathlib.Core.Option.{none, some}
-use native.Mathlib.Numerals.{add-one}
 use native.Mathlib.Omega.{arith}
 use lib.Dec.{eqb}
 use borrow.Author.Tests.{eqb-true, eqb-false}
-use Rattle.meaning.specs.Text.{firstFrom, lastBelow}
+use Rattle.meaning.specs.Text.{lastBelow}
 use Rattle.laws.proofs.Bools.{Test, passed, failed, test}
-
--- the first number that passes, from m on of those below n
-module _ (p : ℕ → Bool) (m n : ℕ) where
-  pub first-here : m < n → p m ≡ true → firstFrom p m (n - m) ≡ some m
-  first-here l e = let more : n - m ≡ suc (n - (m + 1)) = omega arith in rw (more, e)
-
-  pub first-later : m < n → p m ≡ false → firstFrom p m (n - m) ≡ firstFrom p (m + 1) (n - (m + 1))
-  first-later l e = let more : n - m ≡ suc (n - (m + 1)) = omega arith in rw (more, e, add-one m)
-
-  pub first-nowhere : m ≡ n → firstFrom p m (n - m) ≡ none
-  first-nowhere e = let no-more : n - m ≡ 0 = omega arith in rw no-more
 
 -- the last number that passes, below i
 module _ (p : ℕ → Bool) where
