@@ -3,6 +3,7 @@ pub mod Marks
 pub mod Making
 pub mod Rows
 pub mod Columns
+pub mod Turning
 pub mod Sizing
 mod Chains
 mod PairSteps

@@ -30,6 +30,11 @@ Given d t struck n counts rows = (i m : ℕ) → i < n → m < product counts �
 abbrev pub wordAcross : List ℕ → ℕ → ℕ → ℕ
 wordAcross rows n m = wordFrom (λ i. bitOf rows i m) 0 n
 
+-- the words of one block, one for each element, and none behind them
+pub record Column (rows : List ℕ) (n block : ℕ) (words : List ℕ) : Type 0 where
+  pub each : (i : ℕ) → i < n → getD words i 0 ≡ getD rows (64 * i + block) 0
+  pub behind : (i : ℕ) → n ≤ i → i < 64 → getD words i 0 ≡ 0
+
 -- of the bits that a row had, those stay on which element i applies, by the test of targets that the bits answer
 abbrev pub Narrowed : List ℕ → List ℕ → ℕ → ℕ → ℕ → List ℕ → List ℕ → Type 0
 Narrowed t hits n blocks i old new =

@@ -3,7 +3,7 @@ use flags::Shape;
 use meaning::Decision;
 ghost use mathlib.Core.Path.{_≡_};
 ghost use mathlib.Core.List.{_++_, map};
-ghost use Prim.Native.Nat.{ℕ, _+_, _*_, _≤_, _<_};
+ghost use Prim.Native.Nat.{ℕ, _+_, _*_, _^_, _≤_, _<_};
 ghost use lib.ListN.{length, getD, drop};
 ghost use lib.Bits.{bitAnd};
 ghost use Rattle.meaning.specs.Text.{counting, firstFrom};
@@ -11,7 +11,8 @@ ghost use Rattle.meaning.specs.Deciding.{bit};
 ghost use Rattle.decisions.specs.Table.{parentOf, placeOr};
 ghost use Rattle.flags.specs.Ready.{countsOf};
 ghost use Rattle.segments.specs.Words.{wordFrom, alike, sizeAt};
-ghost use Rattle.segments.specs.Rows.{Applied, Given, wordAcross, Narrowed, AppliedRow, Rowed, Marked};
+ghost use Rattle.segments.specs.Rows.{Applied, Given, wordAcross, Column, Narrowed, AppliedRow, Rowed, Marked};
+ghost use Rattle.segments.specs.Turning.{Mask, ExchangedWord, Exchanged, Turned};
 ghost use Rattle.segments.specs.Chains.{bucketOf, Chained};
 ghost use Rattle.segments.specs.Pairs.{Lowest, shownBy, PairsOf, Pairs, Laid, Pairing};
 
@@ -105,7 +106,7 @@ pub fn give_all(
 // The words of one block, one for each element.
 fn column(rows: &[u64], n: usize, block: usize) -> [u64; 64]
     requires { ⌜ (n ≤ 64) × (block < 64) × (64 * n ≤ length (now rows)) ⌝ }
-    ensures { λ r. ⌜ ((i : ℕ) → i < n → getD r i 0 ≡ getD (now (rows .entry)) (64 * i + block) 0) ⌝ }
+    ensures { λ r. ⌜ Column (now (rows .entry)) n block r ⌝ }
 {
     let mut words = [0u64; 64];
     let mut i = 0;
@@ -116,32 +117,58 @@ fn column(rows: &[u64], n: usize, block: usize) -> [u64; 64]
     words
 }
 
-// The word of bit v of each of n words.
-fn across(words: &[u64; 64], n: usize, v: usize) -> u64
-    requires { ⌜ (n ≤ 64) × (v < 64) ⌝ }
-    ensures { λ r. ⌜ r ≡ wordFrom (λ i. bit (getD (now (words .entry)) i 0) v) 0 n ⌝ }
+// Word k of 64, with digit s of the words' and the bits' numbers exchanged: j is 2 to the s.
+fn exchange(words: &[u64; 64], k: usize, s: usize, j: usize, mask: u64) -> u64
+    requires { ⌜ (k < 64) × (s < 6) × (j ≡ 2 ^ s) × Mask s mask ⌝ }
+    ensures { λ r. ⌜ ExchangedWord s k (now (words .entry)) r ⌝ }
 {
-    let mut word: u64 = 0;
-    let mut i = n;
-    while 0 < i {
-        i -= 1;
-        word = 2 * word + (words[i] >> v) % 2;
+    let word = words[k];
+    if (k >> s) % 2 == 0 {
+        (word & mask) | ((words[k + j] & mask) << j)
+    } else {
+        ((words[k - j] >> j) & mask) | (word ^ (word & mask))
     }
-    word
 }
 
-// Lays down the word of each request: the elements that apply to it. What lies behind them stays.
-pub fn words_all(applied: &[u64], n: usize, space: usize, words: &mut [u64])
-    requires { ⌜ (n ≤ 64) × (space ≤ 4096) × (64 * n ≤ length (now applied)) × (space ≤ length (now words)) ⌝ }
-    ensures { λ _. ⌜ now (words .exit) ≡ map (wordAcross (now (applied .entry)) n) (counting 0 space) ++ drop space (now (words .entry)) ⌝ }
+// All 64 words.
+fn exchanged(words: &[u64; 64], s: usize, j: usize, mask: u64) -> [u64; 64]
+    requires { ⌜ (s < 6) × (j ≡ 2 ^ s) × Mask s mask ⌝ }
+    ensures { λ r. ⌜ Exchanged s (now (words .entry)) r ⌝ }
 {
-    let mut block = column(applied, n, 0);
+    let mut to = [0u64; 64];
+    let mut k = 0;
+    while k < 64 {
+        to[k] = exchange(words, k, s, j, mask);
+        k += 1;
+    }
+    to
+}
+
+// 64 words turned round, digit by digit.
+fn turned(words: &[u64; 64]) -> [u64; 64]
+    ensures { λ r. ⌜ Turned (now (words .entry)) r ⌝ }
+{
+    let first = exchanged(words, 0, 1, 6148914691236517205);
+    let second = exchanged(&first, 1, 2, 3689348814741910323);
+    let third = exchanged(&second, 2, 4, 1085102592571150095);
+    let fourth = exchanged(&third, 3, 8, 71777214294589695);
+    let fifth = exchanged(&fourth, 4, 16, 281470681808895);
+    exchanged(&fifth, 5, 32, 4294967295)
+}
+
+// Lays down the word of each request: the elements whose bit for it is set. What lies behind them stays.
+pub fn words_all(rows: &[u64], n: usize, space: usize, words: &mut [u64])
+    requires { ⌜ (n ≤ 64) × (space ≤ 4096) × (64 * n ≤ length (now rows)) × (space ≤ length (now words)) ⌝ }
+    ensures { λ _. ⌜ now (words .exit) ≡ map (wordAcross (now (rows .entry)) n) (counting 0 space) ++ drop space (now (words .entry)) ⌝ }
+{
+    let mut block = [0u64; 64];
     let mut m = 0;
     while m < space {
         if m % 64 == 0 {
-            block = column(applied, n, m / 64);
+            let elements = column(rows, n, m / 64);
+            block = turned(&elements);
         }
-        words[m] = across(&block, n, m % 64);
+        words[m] = block[m % 64];
         m += 1;
     }
 }

@@ -1,5 +1,6 @@
 -- `column`: the words of the first i elements. Assumes nothing.
 use Prim.Native.Nat.{_-_, _≤_}
+use mathlib.Core.Path.{_≡_}
 use native.Mathlib.Omega.{arith}
 use Rattle.segments.proofs.Columns.{Columned, columned-none, columned-next}
 use borrow.Author.Needs.{needs}
@@ -43,7 +44,7 @@ loop-again : tie.Need-loop-again Inv-loop μ-loop
 loop-again c = let turn = c .before .before .loop in (search needs, columned-next _ _ (turn .words) (turn .i) (omega arith) (turn .inv .1))
 
 returns : tie.Need-returns Inv-loop μ-loop
-returns c = let turn = c .before .loop in λ i l. turn .inv .1 .words-are i (omega arith)
+returns c = let turn = c .before .loop in let all : turn .i ≡ c .before .before .args .n = omega arith in rw all at (turn .inv .1 .column)
 
 pub column-spec : {M : Type 1} → statement M
 column-spec =

@@ -5,31 +5,34 @@ use mathlib.Core.Logic.{⊎-elim}
 use native.Mathlib.Omega.{arith}
 use Rattle.flags.proofs.Laying.{Lays, lays-none, lays-next, lays-all}
 use Rattle.segments.specs.Rows.{wordAcross}
-use Rattle.segments.proofs.Columns.{Column, column-same, column-later, across-is}
+use Rattle.segments.proofs.Columns.{Across, across-turned, across-here, across-later, across-same}
 use borrow.Author.Needs.{needs}
 use Rattle.segments.proofs.words_all.Statement.{statement}
 use Rattle.segments.proofs.words_all.Tie as tie
 
 abbrev Inv-loop : tie.InvT-loop
-Inv-loop applied n space words₀ block₀ m₀ words block m = (m ≤ space) × ((m % 64 ≡ 0 → ⊥) → Column applied n block (m / 64)) × Lays (wordAcross applied n) space words₀ words m
+Inv-loop rows n space words₀ block₀ m₀ words block m = (m ≤ space) × ((m % 64 ≡ 0 → ⊥) → Across rows n block (m / 64)) × Lays (wordAcross rows n) space words₀ words m
 
 abbrev μ-loop : tie.MeasureT-loop
-μ-loop applied n space words₀ block₀ m₀ words block m = space - m
-
-column-requires : tie.Need-column-requires Inv-loop μ-loop
-column-requires c κs = search needs
+μ-loop rows n space words₀ block₀ m₀ words block m = space - m
 
 loop-holds : tie.Need-loop-holds Inv-loop μ-loop
 loop-holds c = (search needs, (λ no. absurd (no refl)), lays-none _ _ _)
 
-column-requires-2 : tie.Need-column-requires-2 Inv-loop μ-loop
-column-requires-2 c κs = search needs
+column-requires : tie.Need-column-requires Inv-loop μ-loop
+column-requires c κs = search needs
 
-across-requires : tie.Need-across-requires Inv-loop μ-loop
-across-requires c κs = search needs
+turned-requires : tie.Need-turned-requires Inv-loop μ-loop
+turned-requires c κs = search needs
 
 mul-words : tie.Need-mul-words Inv-loop μ-loop
 mul-words c = search needs
+
+array-read-words : tie.Need-array-read-words Inv-loop μ-loop
+array-read-words c = search needs
+
+mul-words-2 : tie.Need-mul-words-2 Inv-loop μ-loop
+mul-words-2 c = search needs
 
 slice-write-words : tie.Need-slice-write-words Inv-loop μ-loop
 slice-write-words c = search needs
@@ -42,16 +45,18 @@ loop-less c = search needs
 
 loop-again : tie.Need-loop-again Inv-loop μ-loop
 loop-again c =
-    let turn = c .before .before .before .before .loop in
-    let args = c .before .before .before .before .before .before .before .before .args in
-    let column : Column (args .applied .now) (args .n) (c .before .before .if1 .block) (turn .m / 64) = ⊎-elim (λ w. column-same (args .applied .now) (args .n) (turn .m / 64) (w .2) (w .1 .ensures)) (λ w. column-same (args .applied .now) (args .n) (turn .m / 64) (w .1) (turn .inv .1 (w .0 .left))) (c .before .before .if1 .came) in
-    (search needs, column-later (args .applied .now) (c .before .before .if1 .block) (args .n) (turn .m) column, lays-next _ _ (c .before .before .before .loop-test .taken) (across-is (args .applied .now) (c .before .before .if1 .block) (args .n) (turn .m) _ column (c .across .ensures)) (turn .inv .2))
+    let args = c .before .before .before .before .before .args in
+    let turn = c .before .before .loop in
+    let across : Across (args .rows .now) (args .n) (c .if1 .block) (turn .m / 64) =
+    ⊎-elim (λ w. across-same (args .rows .now) (args .n) (turn .m / 64) (w .4) (across-turned (args .rows .now) (w .1 .result) (w .3 .result) (args .n) (turn .m / 64) (omega arith) (w .1 .ensures) (w .3 .ensures)))
+    (λ w. across-same (args .rows .now) (args .n) (turn .m / 64) (w .1) (turn .inv .1 (w .0 .left))) (c .if1 .came) in
+    (search needs, across-later (args .rows .now) (c .if1 .block) (args .n) (turn .m) across, lays-next _ _ (c .before .loop-test .taken) (across-here (args .rows .now) (c .if1 .block) (args .n) (turn .m) across) (turn .inv .2))
 
 same-length : tie.Need-same-length Inv-loop μ-loop
 same-length c = search needs
 
 returns : tie.Need-returns Inv-loop μ-loop
-returns c = let pre = c .before .before .before .before .before .pre in lays-all _ (pre .3) (omega arith) (c .before .loop .inv .2)
+returns c = let pre = c .before .before .before .before .pre in lays-all _ (pre .3) (omega arith) (c .before .loop .inv .2)
 
 pub words-all-spec : {M : Type 1} → statement M
 words-all-spec =
@@ -59,11 +64,12 @@ words-all-spec =
     (tie.spec
     Inv-loop
     μ-loop
-    column-requires
     loop-holds
-    column-requires-2
-    across-requires
+    column-requires
+    turned-requires
     mul-words
+    array-read-words
+    mul-words-2
     slice-write-words
     add-m
     loop-less
