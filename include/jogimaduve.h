@@ -55,7 +55,7 @@ jogimaduve_answer jogimaduve_trim(const uint8_t *file, size_t file_length, uint8
 
 /* Reports on a file: its segments (G), conflicts (C), the rules that trimming strikes (X) and those that it keeps (K), as
  * lines of fields parted by tabs. The text goes into the buffer and `second` is its length, which can be some millions
- * of bytes; 65,536 serve most files. Bytes behind the text stay as they were. It needs about 140 kB of stack. */
+ * of bytes; 65,536 serve most files. Bytes behind the text stay as they were. It needs about 170 kB of stack. */
 jogimaduve_answer jogimaduve_report(const uint8_t *file, size_t file_length, uint8_t *buffer, size_t buffer_length);
 
 #ifdef __cplusplus

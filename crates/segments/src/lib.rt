@@ -233,10 +233,10 @@ pub fn parent_all(table: &[u16], n: usize, parents: &mut [usize])
     requires { ⌜ (8 * n ≤ length (now table)) × (n ≤ length (now parents)) ⌝ }
     ensures { λ _. ⌜ now (parents .exit) ≡ map (λ i. placeOr n (parentOf (now (table .entry)) i)) (counting 0 n) ++ drop n (now (parents .entry)) ⌝ }
 {
-    let mut i = 0;
-    while i < n {
-        parents[i] = decisions::parent(table, n, i);
-        i += 1;
+    let mut child = 0;
+    while child < n {
+        parents[child] = decisions::parent(table, n, child);
+        child += 1;
     }
 }
 

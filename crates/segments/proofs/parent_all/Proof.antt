@@ -8,10 +8,10 @@ use Rattle.segments.proofs.parent_all.Statement.{statement}
 use Rattle.segments.proofs.parent_all.Tie as tie
 
 abbrev Inv-loop : tie.InvT-loop
-Inv-loop table n parents₀ i₀ parents i = (i ≤ n) × Lays (λ k. placeOr n (parentOf table k)) n parents₀ parents i
+Inv-loop table n parents₀ child₀ parents child = (child ≤ n) × Lays (λ k. placeOr n (parentOf table k)) n parents₀ parents child
 
 abbrev μ-loop : tie.MeasureT-loop
-μ-loop table n parents₀ i₀ parents i = n - i
+μ-loop table n parents₀ child₀ parents child = n - child
 
 loop-holds : tie.Need-loop-holds Inv-loop μ-loop
 loop-holds c = (omega arith, lays-none _ _ _)
@@ -25,8 +25,8 @@ mul-parents c = search needs
 slice-write-parents : tie.Need-slice-write-parents Inv-loop μ-loop
 slice-write-parents c = search needs
 
-add-i : tie.Need-add-i Inv-loop μ-loop
-add-i c = search needs
+add-child : tie.Need-add-child Inv-loop μ-loop
+add-child c = search needs
 
 loop-less : tie.Need-loop-less Inv-loop μ-loop
 loop-less c = search needs
@@ -50,7 +50,7 @@ parent-all-spec =
     parent-requires
     mul-parents
     slice-write-parents
-    add-i
+    add-child
     loop-less
     loop-again
     same-length
