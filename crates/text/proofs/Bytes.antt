@@ -9,17 +9,6 @@ use borrow.Author.Tests.{le-leb, lt-leb, eq-eqb, ne-eqb}
 use Rattle.meaning.specs.Text.{Bytes, all, between, same, isField, nameByte, isName}
 use Rattle.text.proofs.Pieces.{drop-next}
 
--- Two texts from a position on
-module _ (a b : Bytes) (i : ℕ) where
-  pub same-end : length a ≤ i → length b ≤ i → same (drop i a) (drop i b) ≡ true
-  same-end h k = rw (drop-of-length-le a h, drop-of-length-le b k)
-
-  pub same-fail : i < length a → i < length b → (getD a i 0 ≡ getD b i 0 → ⊥) → same (drop i a) (drop i b) ≡ false
-  same-fail h k n = rw (drop-next a i h, drop-next b i k, ne-eqb _ _ n)
-
-  pub same-pass : i < length a → i < length b → getD a i 0 ≡ getD b i 0 → same (drop i a) (drop i b) ≡ same (drop (i + 1) a) (drop (i + 1) b)
-  same-pass h k e = rw (drop-next a i h, drop-next b i k, eq-eqb _ _ e)
-
 pub same-length : (a b : Bytes) → (length a ≡ length b → ⊥) → same a b ≡ false
 same-length [] [] n = absurd (n refl)
 same-length [] (y ∷ b) n = refl

@@ -1,4 +1,6 @@
 // Bytes of a text: pieces, names and fields.
+mod words;
+
 ghost use mathlib.Core.Path.{_≡_};
 ghost use mathlib.Core.Bool.{not, cond};
 ghost use mathlib.Core.List.{[]};
@@ -40,19 +42,25 @@ pub fn count_pieces(s: &[u8], sep: u8) -> usize
     pieces
 }
 
-// Whether two texts are equal byte for byte.
+// Whether two texts are equal byte for byte. Those of 8 to 16 bytes, as long names are, by two words that may overlap.
 pub fn same(a: &[u8], b: &[u8]) -> bool
     ensures { λ r. ⌜ r ≡ same (now (a .entry)) (now (b .entry)) ⌝ }
 {
     if a.len() != b.len() {
         return false;
     }
-    let mut i = 0;
-    while i < a.len() {
-        if a[i] != b[i] {
-            return false;
-        }
-        i += 1;
+    if a.len() < 8 {
+        return words::same_bytes(a, b);
+    }
+    if 16 < a.len() {
+        return words::same_bytes(a, b);
+    }
+    let last = a.len() - 8;
+    if words::word(a, last) != words::word(b, last) {
+        return false;
+    }
+    if words::word(a, 0) != words::word(b, 0) {
+        return false;
     }
     true
 }

@@ -1,67 +1,86 @@
--- `text::same` meets its contract. The loop keeps the answer: the texts are the same if what is left of them is.
-use Prim.Native.Nat.{_-_, _≤_}
-use mathlib.Core.Path.{_≡_, sym, refl}
+-- `text::same` meets its contract: by lengths, by bytes, or by the words at both ends.
+use Prim.Native.Nat.{_-_}
+use mathlib.Core.Path.{sym, ap, _∙_}
 use native.Mathlib.Omega.{arith}
 use borrow.Author.Needs.{needs}
-use lib.ListN.{length, drop}
-use Rattle.meaning.specs.Text.{same}
-use Rattle.text.proofs.Bytes.{same-length, same-end, same-fail, same-pass}
+use lib.ListN.{length}
+use Rattle.text.specs.Words.{wordAt}
+use Rattle.text.proofs.Bytes.{same-length}
+use Rattle.text.proofs.Equal.{same-apart, same-words}
 use Rattle.text.proofs.same.Statement.{statement}
 use Rattle.text.proofs.same.Tie as tie
 
-abbrev Inv-loop : tie.InvT-loop
-Inv-loop a b i₀ i = (i ≤ length a) × (same a b ≡ same (drop i a) (drop i b))
+returns : tie.Need-returns
+returns c = let a = c .before .before .before .args in sym (same-length (a .a .now) (a .b .now) (c .if1 .taken))
 
-abbrev μ-loop : tie.MeasureT-loop
-μ-loop a b i₀ i = length a - i
+same-bytes-requires : tie.Need-same-bytes-requires
+same-bytes-requires c κs = search needs
 
-returns : tie.Need-returns Inv-loop μ-loop
-returns c = let a = c .before .args in sym (same-length (a .a .now) (a .b .now) (c .if1 .taken))
+returns-2 : tie.Need-returns-2
+returns-2 c = search needs
 
-loop-holds : tie.Need-loop-holds Inv-loop μ-loop
-loop-holds c = (search needs, refl)
+same-bytes-requires-2 : tie.Need-same-bytes-requires-2
+same-bytes-requires-2 c κs = search needs
 
-shared-slice-read-if2 : tie.Need-shared-slice-read-if2 Inv-loop μ-loop
-shared-slice-read-if2 c = search needs
+returns-3 : tie.Need-returns-3
+returns-3 c = search needs
 
-shared-slice-read-if2-2 : tie.Need-shared-slice-read-if2-2 Inv-loop μ-loop
-shared-slice-read-if2-2 c = search needs
+sub-last : tie.Need-sub-last
+sub-last c = search needs
 
-returns-2 : tie.Need-returns-2 Inv-loop μ-loop
-returns-2 c =
-    let g = c .before .before .before .before in
-    let a = g .before .before .args in
-    cc (same-fail (a .a .now) (a .b .now) (g .loop .i) (search needs) (omega arith) (c .if2 .taken))
+word-requires : tie.Need-word-requires
+word-requires c κs = search needs
 
-add-i : tie.Need-add-i Inv-loop μ-loop
-add-i c = search needs
+word-requires-2 : tie.Need-word-requires-2
+word-requires-2 c κs = search needs
 
-loop-less : tie.Need-loop-less Inv-loop μ-loop
-loop-less c = search needs
+returns-4 : tie.Need-returns-4
+returns-4 c =
+    let w = c .before in
+    let a = w .before .before .before .before .before .before .before .args in
+    sym (same-apart (a .a .now) (a .b .now) (λ e. c .if4 .taken (w .before .word .ensures .0 ∙ ap (λ l. wordAt l (length (a .a .now) - 8)) e ∙ sym (w .word2 .ensures .0))))
 
-loop-again : tie.Need-loop-again Inv-loop μ-loop
-loop-again c =
-    let g = c .before .before .before .before in
-    let a = g .before .before .args in
-    (search needs, cc (same-pass (a .a .now) (a .b .now) (g .loop .i) (search needs) (omega arith) (c .if2 .left)))
+word-requires-3 : tie.Need-word-requires-3
+word-requires-3 c κs = search needs
 
-returns-3 : tie.Need-returns-3 Inv-loop μ-loop
-returns-3 c =
-    let a = c .before .before .before .args in
-    cc (same-end (a .a .now) (a .b .now) (c .before .loop .i) (search needs) (omega arith))
+word-requires-4 : tie.Need-word-requires-4
+word-requires-4 c κs = search needs
+
+returns-5 : tie.Need-returns-5
+returns-5 c =
+    let w = c .before in
+    let a = w .before .before .before .before .before .before .before .before .before .before .args in
+    sym (same-apart (a .a .now) (a .b .now) (λ e. c .if5 .taken (w .before .word3 .ensures .0 ∙ ap (λ l. wordAt l 0) e ∙ sym (w .word4 .ensures .0))))
+
+returns-6 : tie.Need-returns-6
+returns-6 c =
+    let w = c .before .before .before .before in
+    let a = w .before .before .before .before .before .before .before .args in
+    let last = w .before .word .ensures .0 in
+    let low = c .before .before .word3 .ensures .0 in
+    sym
+    (same-words (a .a .now) (a .b .now) (length (a .a .now) - 8) (search needs) (omega arith) (omega arith)
+    (w .before .word .ensures .1)
+    (w .word2 .ensures .1)
+    (sym last ∙ c .before .before .before .if4 .left ∙ w .word2 .ensures .0)
+    (c .before .before .word3 .ensures .1)
+    (c .before .word4 .ensures .1)
+    (sym low ∙ c .if5 .left ∙ c .before .word4 .ensures .0))
 
 pub same-spec : {M : Type 1} → statement M
 same-spec =
     tie.close
     (tie.spec
-    Inv-loop
-    μ-loop
     returns
-    loop-holds
-    shared-slice-read-if2
-    shared-slice-read-if2-2
+    same-bytes-requires
     returns-2
-    add-i
-    loop-less
-    loop-again
-    returns-3)
+    same-bytes-requires-2
+    returns-3
+    sub-last
+    word-requires
+    word-requires-2
+    returns-4
+    word-requires-3
+    word-requires-4
+    returns-5
+    returns-6)
