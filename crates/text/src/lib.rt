@@ -1,4 +1,5 @@
 // Bytes of a text: pieces, names and fields.
+mod runs;
 mod words;
 
 ghost use mathlib.Core.Path.{_≡_};
@@ -6,7 +7,7 @@ ghost use mathlib.Core.Bool.{not, cond};
 ghost use mathlib.Core.List.{[]};
 ghost use Prim.Native.Nat.{ℕ, _+_, _≤_, _<_};
 ghost use lib.ListN.{length, drop, getD};
-ghost use Rattle.meaning.specs.Text.{all, between, same, amongNames, repeated, cut, tab, isField, nameByte, isName};
+ghost use Rattle.meaning.specs.Text.{all, same, amongNames, repeated, cut, tab, isField, nameByte, isName};
 ghost use Rattle.meaning.specs.Deciding.{valueOf};
 ghost use Rattle.text.specs.Places.{foundOf};
 
@@ -17,13 +18,22 @@ pub fn end_of(s: &[u8], at: usize, sep: u8) -> usize
     ensures within { λ r. ⌜ (at ≤ r) × (r ≤ length (now (s .entry))) ⌝ }
 {
     let mut i = at;
-    while i < s.len() {
+    while 4 <= s.len() - i {
         if s[i] == sep {
             return i;
         }
-        i += 1;
+        if s[i + 1] == sep {
+            return i + 1;
+        }
+        if s[i + 2] == sep {
+            return i + 2;
+        }
+        if s[i + 3] == sep {
+            return i + 3;
+        }
+        i += 4;
     }
-    i
+    runs::end_near(s, i, sep)
 }
 
 // How many pieces the text has: one more than there are bytes `sep`.
@@ -100,15 +110,6 @@ pub fn is_name(s: &[u8]) -> bool
     true
 }
 
-fn field_byte(b: u8) -> bool
-    ensures { λ r. ⌜ r ≡ between 33 126 b ⌝ }
-{
-    if b < 33 {
-        return false;
-    }
-    b <= 126
-}
-
 // Whether a text is a field: one or more visible bytes.
 pub fn is_field(f: &[u8]) -> bool
     ensures { λ r. ⌜ r ≡ isField (now (f .entry)) ⌝ }
@@ -118,7 +119,7 @@ pub fn is_field(f: &[u8]) -> bool
     }
     let mut i = 0;
     while i < f.len() {
-        if !field_byte(f[i]) {
+        if !runs::field_byte(f[i]) {
             return false;
         }
         i += 1;
@@ -132,30 +133,21 @@ pub fn count_fields(line: &[u8]) -> usize
     ensures few { λ r. ⌜ r ≤ length (now (line .entry)) + 1 ⌝ }
 {
     let mut ended = 0;
-    // the field at hand has no byte yet
-    let mut fresh = true;
-    let mut i = 0;
-    while i < line.len() {
-        let b = line[i];
-        if b == b'\t' {
-            if fresh {
-                return 0;
-            }
-            ended += 1;
-            fresh = true;
-            i += 1;
-            continue;
-        }
-        if !field_byte(b) {
+    let mut at = 0;
+    loop {
+        let e = runs::visible_to(line, at);
+        if e == at {
             return 0;
         }
-        fresh = false;
-        i += 1;
+        if e == line.len() {
+            return ended + 1;
+        }
+        if line[e] != b'\t' {
+            return 0;
+        }
+        ended += 1;
+        at = e + 1;
     }
-    if fresh {
-        return 0;
-    }
-    ended + 1
 }
 
 // A line from its field k on.
