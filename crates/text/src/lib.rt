@@ -52,7 +52,7 @@ pub fn count_pieces(s: &[u8], sep: u8) -> usize
     pieces
 }
 
-// Whether two texts are equal byte for byte. Those of 8 to 16 bytes, as long names are, by two words that may overlap.
+// Whether two texts are equal byte for byte. Short ones are compared here, where it is inlined; long ones by words.
 pub fn same(a: &[u8], b: &[u8]) -> bool
     ensures { λ r. ⌜ r ≡ same (now (a .entry)) (now (b .entry)) ⌝ }
 {
@@ -62,17 +62,7 @@ pub fn same(a: &[u8], b: &[u8]) -> bool
     if a.len() < 8 {
         return words::same_bytes(a, b);
     }
-    if 16 < a.len() {
-        return words::same_bytes(a, b);
-    }
-    let last = a.len() - 8;
-    if words::word(a, last) != words::word(b, last) {
-        return false;
-    }
-    if words::word(a, 0) != words::word(b, 0) {
-        return false;
-    }
-    true
+    words::same_long(a, b)
 }
 
 fn name_byte(b: u8) -> bool
