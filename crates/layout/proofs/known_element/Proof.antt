@@ -29,56 +29,70 @@ loop-holds c = (search needs, refl)
 sub-i : tie.Need-sub-i Inv-loop μ-loop
 sub-i c = search needs
 
-mul-start : tie.Need-mul-start Inv-loop μ-loop
-mul-start c = let (room, start, end) = placed (c) in search needs
-
-mul-start-2 : tie.Need-mul-start-2 Inv-loop μ-loop
-mul-start-2 c = let (room, start, end) = placed (c) in search needs
-
-shared-slice-read-start : tie.Need-shared-slice-read-start Inv-loop μ-loop
-shared-slice-read-start c = let (room, start, end) = placed (c .before) in search needs
-
-add-start : tie.Need-add-start Inv-loop μ-loop
-add-start c = let (room, start, end) = placed (c .before) in search needs
-
 mul-end : tie.Need-mul-end Inv-loop μ-loop
-mul-end c = let (room, start, end) = placed (c .before) in search needs
+mul-end c = let (room, start, end) = placed (c) in search needs
 
 add-end : tie.Need-add-end Inv-loop μ-loop
-add-end c = let (room, start, end) = placed (c .before) in search needs
+add-end c = let (room, start, end) = placed (c) in search needs
 
 mul-end-2 : tie.Need-mul-end-2 Inv-loop μ-loop
-mul-end-2 c = let (room, start, end) = placed (c .before) in search needs
+mul-end-2 c = let (room, start, end) = placed (c) in search needs
 
 shared-slice-read-end : tie.Need-shared-slice-read-end Inv-loop μ-loop
-shared-slice-read-end c = let (room, start, end) = placed (c .before .before) in search needs
+shared-slice-read-end c = let (room, start, end) = placed (c .before) in search needs
 
-sub-same : tie.Need-sub-same Inv-loop μ-loop
-sub-same c = let (room, start, end) = placed (c .before .before) in search needs
-
-part-same-start : tie.Need-part-same-start Inv-loop μ-loop
-part-same-start c = let (room, start, end) = placed (c .before .before) in search needs
-
-part-same-end : tie.Need-part-same-end Inv-loop μ-loop
-part-same-end c = let (room, start, end) = placed (c .before .before) in search needs
-
-same-requires : tie.Need-same-requires Inv-loop μ-loop
-same-requires c κs = search needs
-
-returns : tie.Need-returns Inv-loop μ-loop
-returns c =
-    let turn = c .before .before .before .before .before .before in
-    let a = turn .before .before .before .before .args in
-    sym (sym (turn .loop .inv .1) ∙ element-hit (a .file .now) (a .name .now) (a .places .now) (turn .loop .i) (omega arith) (sym (c .before .same .ensures) ∙ c .if1 .taken))
+ends-otherwise-requires : tie.Need-ends-otherwise-requires Inv-loop μ-loop
+ends-otherwise-requires c κs = let (room, start, end) = placed (c .before) in (omega arith, end)
 
 loop-less : tie.Need-loop-less Inv-loop μ-loop
 loop-less c = search needs
 
 loop-again : tie.Need-loop-again Inv-loop μ-loop
 loop-again c =
-    let turn = c .before .before .before .before .before .before in
+    let turn = c .before .before .before .before in
     let a = turn .before .before .before .before .args in
-    (omega arith, sym (element-miss (a .file .now) (a .name .now) (a .places .now) (turn .loop .i) (omega arith) (sym (c .before .same .ensures) ∙ c .if1 .left)) ∙ turn .loop .inv .1)
+    let (room, start, end) = placed (c .before .before .before) in
+    let other = c .before .ends-otherwise .ensures (c .if1 .taken) (startOf (a .places .now) (turn .loop .i - 1) + 4) start in
+    (omega arith, sym (element-miss (a .file .now) (a .name .now) (a .places .now) (turn .loop .i) (omega arith) other) ∙ turn .loop .inv .1)
+
+mul-start : tie.Need-mul-start Inv-loop μ-loop
+mul-start c = let (room, start, end) = placed (c .before .before .before) in search needs
+
+mul-start-2 : tie.Need-mul-start-2 Inv-loop μ-loop
+mul-start-2 c = let (room, start, end) = placed (c .before .before .before) in search needs
+
+shared-slice-read-start : tie.Need-shared-slice-read-start Inv-loop μ-loop
+shared-slice-read-start c = let (room, start, end) = placed (c .before .before .before .before) in search needs
+
+add-start : tie.Need-add-start Inv-loop μ-loop
+add-start c = let (room, start, end) = placed (c .before .before .before .before) in search needs
+
+sub-same : tie.Need-sub-same Inv-loop μ-loop
+sub-same c = let (room, start, end) = placed (c .before .before .before .before) in search needs
+
+part-same-start : tie.Need-part-same-start Inv-loop μ-loop
+part-same-start c = let (room, start, end) = placed (c .before .before .before .before) in search needs
+
+part-same-end : tie.Need-part-same-end Inv-loop μ-loop
+part-same-end c = let (room, start, end) = placed (c .before .before .before .before) in search needs
+
+same-requires : tie.Need-same-requires Inv-loop μ-loop
+same-requires c κs = search needs
+
+returns : tie.Need-returns Inv-loop μ-loop
+returns c =
+    let turn = c .before .before .before .before .before .before .before .before in
+    let a = turn .before .before .before .before .args in
+    sym (sym (turn .loop .inv .1) ∙ element-hit (a .file .now) (a .name .now) (a .places .now) (turn .loop .i) (omega arith) (sym (c .before .same .ensures) ∙ c .if2 .taken))
+
+loop-less-2 : tie.Need-loop-less-2 Inv-loop μ-loop
+loop-less-2 c = search needs
+
+loop-again-2 : tie.Need-loop-again-2 Inv-loop μ-loop
+loop-again-2 c =
+    let turn = c .before .before .before .before .before .before .before .before in
+    let a = turn .before .before .before .before .args in
+    (omega arith, sym (element-miss (a .file .now) (a .name .now) (a .places .now) (turn .loop .i) (omega arith) (sym (c .before .same .ensures) ∙ c .if2 .left)) ∙ turn .loop .inv .1)
 
 returns-2 : tie.Need-returns-2 Inv-loop μ-loop
 returns-2 c =
@@ -94,19 +108,22 @@ known-element-spec =
     μ-loop
     loop-holds
     sub-i
-    mul-start
-    mul-start-2
-    shared-slice-read-start
-    add-start
     mul-end
     add-end
     mul-end-2
     shared-slice-read-end
+    ends-otherwise-requires
+    loop-less
+    loop-again
+    mul-start
+    mul-start-2
+    shared-slice-read-start
+    add-start
     sub-same
     part-same-start
     part-same-end
     same-requires
     returns
-    loop-less
-    loop-again
+    loop-less-2
+    loop-again-2
     returns-2)
