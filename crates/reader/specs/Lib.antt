@@ -1,3 +1,4 @@
 -- What the contracts of the reader cite.
+pub mod Headed
 pub mod Sofar
 pub mod Steps

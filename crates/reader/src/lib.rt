@@ -1,4 +1,5 @@
 // Reading a policy file in one pass: where its attributes and elements stand, the table of its elements, or the refusal.
+mod heads;
 mod tree_lines;
 
 use layout::Attributes;

@@ -1,6 +1,8 @@
 // A tree line: its tests, its masks, and its element laid down behind the others.
 use crate::State;
 use crate::Step;
+use crate::heads;
+use crate::heads::FieldEnds;
 use layout::Attributes;
 use layout::Row;
 use layout::Tree;
@@ -17,6 +19,7 @@ ghost use Rattle.meaning.specs.Reading.{depthOf, wordOf, masksOf, Sofar, lowest
 ghost use Rattle.layout.specs.Places.{part, attributesOf, AllStanding, namesTo, Named};
 ghost use Rattle.layout.specs.Nearest.{Stands};
 ghost use Rattle.syntax.specs.Fields.{numberOfWord};
+ghost use Rattle.reader.specs.Headed.{Headed};
 ghost use Rattle.reader.specs.Sofar.{elementFrom, earlierTests, TreeLine};
 ghost use Rattle.reader.specs.Steps.{Ready, Line, Fits, Put, StepIs};
 
@@ -34,13 +37,14 @@ fn element_refusal(
     tree: Tree,
     kind: Kind,
     line: &[u8],
+    e: FieldEnds,
 ) -> usize
-    requires { ⌜ Named (now file) (now places) (tree .len) × (tree .depth ≤ 7) × (4 ≤ length (cut tab (now line))) ⌝ }
+    requires { ⌜ Named (now file) (now places) (tree .len) × (tree .depth ≤ 7) × Headed (now line) e ⌝ }
     ensures { λ r. ⌜ ((s : Sofar) → s .attributes ≡ attributesOf (now (file .entry)) a → Stands tree (s .before)
         → map nameOf (s .before) ≡ namesTo (now (file .entry)) (now (places .entry)) (tree .len)
         → r ≡ lowest (earlierTests s (getD (cut tab (now (line .entry))) 3 []) (elementFrom (s .attributes) kind (cut tab (now (line .entry)))))) ⌝ }
 {
-    let name = fields::field(line, 2);
+    let name = heads::name_field(line, e);
     if !text::is_name(name) {
         return 3;
     }
@@ -53,23 +57,23 @@ fn element_refusal(
     if a.len == 0 {
         return 6;
     }
-    let depth = syntax::depth_of(fields::field(line, 1));
+    let depth = syntax::depth_of(heads::depth_field(line, e));
     if !layout::well_placed(kind, depth, tree) {
         return 6;
     }
-    if syntax::word_number(kind, fields::field(line, 3)) == 6 {
+    if syntax::word_number(kind, heads::word_field(line, e)) == 6 {
         return 7;
     }
     0
 }
 
 // The masks of a tree line, one for each attribute.
-fn line_masks(file: &[u8], a: Attributes, line: &[u8]) -> Masks
-    requires { ⌜ AllStanding (now file) a × ((i : ℕ) → i < a .len → getD (a .counts) i 0 ≤ 16) × (1 ≤ a .len) × (length (cut tab (now line)) ≡ 4 + a .len) ⌝ }
+fn line_masks(file: &[u8], a: Attributes, line: &[u8], e: FieldEnds) -> Masks
+    requires { ⌜ AllStanding (now file) a × ((i : ℕ) → i < a .len → getD (a .counts) i 0 ≤ 16) × (1 ≤ a .len) × (length (cut tab (now line)) ≡ 4 + a .len) × Headed (now line) e ⌝ }
     ensures { λ r. ⌜ r .good ≡ not (badMasks (attributesOf (now (file .entry)) a) (padded 6 (masksOf (attributesOf (now (file .entry)) a) (drop 4 (cut tab (now (line .entry))))))) ⌝ }
     ensures { λ r. ⌜ (r .good ≡ true → r .masks ≡ padded 6 (masksOf (attributesOf (now (file .entry)) a) (drop 4 (cut tab (now (line .entry)))))) ⌝ }
 {
-    let targets = text::from_field(line, 4);
+    let targets = heads::target_fields(line, e);
     let values = a.values;
     let ends = a.ends;
     let counts = a.counts;
@@ -99,11 +103,12 @@ fn put_line(
     end: usize,
     kind: Kind,
     line: &[u8],
+    e: FieldEnds,
     masks: [u16; 6],
     table: &mut [u16],
     places: &mut [usize],
 ) -> State
-    requires { ⌜ Fits (now table) (now places) st end (cut tab (now line)) ⌝ }
+    requires { ⌜ Fits (now table) (now places) st end (cut tab (now line)) × Headed (now line) e ⌝ }
     ensures { λ r. ⌜ Put st end kind (cut tab (now (line .entry))) r ⌝ }
     ensures { λ r. ⌜ now (table .exit) ≡ sets (now (table .entry)) (8 * st .tree .len) (numberOfWord (wordOf kind (getD (cut tab (now (line .entry))) 3 [])) ∷ depthOf (getD (cut tab (now (line .entry))) 1 []) ∷ masks) ⌝ }
     ensures { λ r. ⌜ now (places .exit) ≡ sets (now (places .entry)) (2 * st .tree .len) (st .at ∷ (st .at + 4 + length (getD (cut tab (now (line .entry))) 2 [])) ∷ []) ⌝ }
@@ -111,9 +116,9 @@ fn put_line(
     let at = st.at;
     let tree = st.tree;
     let attributes = st.attributes;
-    let depth = syntax::depth_of(fields::field(line, 1));
-    let word = syntax::word_number(kind, fields::field(line, 3));
-    let name = fields::field(line, 2);
+    let depth = syntax::depth_of(heads::depth_field(line, e));
+    let word = syntax::word_number(kind, heads::word_field(line, e));
+    let name = heads::name_field(line, e);
     let row = Row {
         word: word as u16,
         depth: depth as u16,
@@ -153,11 +158,12 @@ pub fn tree_line(
             state: st,
         };
     }
-    let refusal = element_refusal(file, attributes, places, tree, kind, line);
+    let e = heads::field_ends(line);
+    let refusal = element_refusal(file, attributes, places, tree, kind, line, e);
     if refusal != 0 {
         return Step { refusal, state: st };
     }
-    let m = line_masks(file, attributes, line);
+    let m = line_masks(file, attributes, line, e);
     if !m.good {
         return Step {
             refusal: 8,
@@ -165,6 +171,6 @@ pub fn tree_line(
         };
     }
     let masks = m.masks;
-    let state = put_line(st, end, kind, line, masks, table, places);
+    let state = put_line(st, end, kind, line, e, masks, table, places);
     Step { refusal: 0, state }
 }

@@ -63,20 +63,20 @@ start-6 c = start-5 (c .before .before .before)
 
 -- what each call found
 name-found : (c : tie.After-is-name) → isNamed (start c) ≡ c .is-name .result
-name-found c = sym (ap isName (c .before .field .ensures)) ∙ sym (c .is-name .ensures)
+name-found c = sym (ap isName (c .before .name-field .ensures)) ∙ sym (c .is-name .ensures)
 
 known-found : (c : tie.After-known-element) → isKnown (start-2 c) ≡ c .known-element .result
 known-found c =
     let args = start-2 c .args in
-    sym (ap (λ n. amongNames n (namesTo (args .file .now) (args .places .now) (args .tree .len))) (c .before .before .before .field .ensures)) ∙ sym (c .known-element .ensures)
+    sym (ap (λ n. amongNames n (namesTo (args .file .now) (args .places .now) (args .tree .len))) (c .before .before .before .name-field .ensures)) ∙ sym (c .known-element .ensures)
 
 place-found : (c : tie.After-well-placed) (before : List Element) → Stands (start-5 c .args .tree) before → isPlaced (start-5 c) before ≡ c .well-placed .result
 place-found c before stands =
-    let depth = c .before .depth-of .ensures .0 ∙ ap depthOf (c .before .before .field2 .ensures) in
+    let depth = c .before .depth-of .ensures .0 ∙ ap depthOf (c .before .before .depth-field .ensures) in
     sym (ap (λ d. wellPlaced (start-5 c .args .kind) d before) depth) ∙ sym (c .well-placed .ensures before stands)
 
 word-found : (c : tie.After-word-number) → wordNumber (start-6 c) ≡ c .word-number .result
-word-found c = sym (ap (λ w. numberOfWord (wordOf (start-6 c .args .kind) w)) (c .before .field3 .ensures)) ∙ sym (c .word-number .ensures .0)
+word-found c = sym (ap (λ w. numberOfWord (wordOf (start-6 c .args .kind) w)) (c .before .word-field .ensures)) ∙ sym (c .word-number .ensures .0)
 
 -- The tests that are left, once the line passed those before
 named : (c : tie.Else1) → isNamed (start (c .before)) ≡ true
@@ -96,8 +96,8 @@ from-word c before stands =
     let placed = place-found (c .before) before stands ∙ not-false (c .before .well-placed .result) (c .if5 .left) in
     from-place (c .before .before .before .before) before ∙ rw placed
 
-field-requires : tie.Need-field-requires
-field-requires c κs = search needs
+name-field-requires : tie.Need-name-field-requires
+name-field-requires c κs = search needs
 
 is-name-requires : tie.Need-is-name-requires
 is-name-requires c κs = search needs
@@ -122,8 +122,8 @@ returns-4 c =
     let name-new = few .before .before in
     answer (start-2 (name-new .before)) 6 (λ before stands. rw (named (name-new .before .before), fresh name-new, lt-leb 64 _ (few .if3 .left), eq-eqb _ 0 (c .if4 .taken)))
 
-field-requires-2 : tie.Need-field-requires-2
-field-requires-2 c κs = search needs
+depth-field-requires : tie.Need-depth-field-requires
+depth-field-requires c κs = search needs
 
 depth-of-requires : tie.Need-depth-of-requires
 depth-of-requires c κs = search needs
@@ -136,8 +136,8 @@ returns-5 c =
     let misplaced = not-true (c .before .well-placed .result) (c .if5 .taken) in
     answer (start-5 (c .before)) 6 (λ before stands. from-place (c .before .before .before .before) before ∙ rw (place-found (c .before) before stands ∙ misplaced))
 
-field-requires-3 : tie.Need-field-requires-3
-field-requires-3 c κs = search needs
+word-field-requires : tie.Need-word-field-requires
+word-field-requires c κs = search needs
 
 word-number-requires : tie.Need-word-number-requires
 word-number-requires c κs = search needs
@@ -152,18 +152,18 @@ pub element-refusal-spec : {M : Type 1} → statement M
 element-refusal-spec =
     tie.close
     (tie.spec
-    field-requires
+    name-field-requires
     is-name-requires
     returns
     known-element-requires
     returns-2
     returns-3
     returns-4
-    field-requires-2
+    depth-field-requires
     depth-of-requires
     well-placed-requires
     returns-5
-    field-requires-3
+    word-field-requires
     word-number-requires
     returns-6
     returns-7)

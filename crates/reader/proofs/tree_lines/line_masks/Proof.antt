@@ -23,14 +23,14 @@ standing c = c .before .before .before .before .before .before .before .pre .0 .
 below-six : (c : tie.At-loop Inv-loop μ-loop) → c .loop .i < 6
 below-six c = omega (arith, c .loop .inv .here, c .before .before .before .before .before .before .before .pre .0 .few)
 
-from-field-requires : tie.Need-from-field-requires Inv-loop μ-loop
-from-field-requires c κs = search needs
+target-fields-requires : tie.Need-target-fields-requires Inv-loop μ-loop
+target-fields-requires c κs = search needs
 
 loop-holds : tie.Need-loop-holds Inv-loop μ-loop
 loop-holds c =
     let pre = c .before .before .before .before .before .before .pre in
     let count = length-drop 4 (cut tab (c .before .before .before .before .before .before .args .line .now)) in
-    walk-starts (c .before .before .before .from-field .ensures) (omega (arith, count, pre .3)) (pre .2) (pre .0 .few)
+    walk-starts (c .before .before .before .target-fields .ensures) (omega (arith, count, pre .3)) (pre .2) (pre .0 .few)
 
 end-of-requires : tie.Need-end-of-requires Inv-loop μ-loop
 end-of-requires c κs = c .loop .inv .within
@@ -112,7 +112,7 @@ line-masks-spec =
     (tie.spec
     Inv-loop
     μ-loop
-    from-field-requires
+    target-fields-requires
     loop-holds
     end-of-requires
     mul-first

@@ -14,35 +14,34 @@ use Rattle.layout.proofs.put_element.Reads as put-element-reads
 use Rattle.layout.proofs.with_element.Reads as with-element-reads
 use Rattle.syntax.proofs.depth_of.Reads as depth-of-reads
 use Rattle.syntax.proofs.word_number.Reads as word-number-reads
-use Rattle.fields.proofs.field.Reads as field-reads
 
 -- src/lib.rt:105:34
-field-requires : tie.Need-field-requires
-field-requires c κs = search needs
+depth-field-requires : tie.Need-depth-field-requires
+depth-field-requires c κs = search needs
 
 -- src/lib.rt:105:9
 depth-of-requires : tie.Need-depth-of-requires
 depth-of-requires c κs = search needs
 
 -- src/lib.rt:106:42
-field-requires-2 : tie.Need-field-requires-2
-field-requires-2 c κs = search needs
+word-field-requires : tie.Need-word-field-requires
+word-field-requires c κs = search needs
 
 -- src/lib.rt:106:9
 word-number-requires : tie.Need-word-number-requires
 word-number-requires c κs = search needs
 
 -- src/lib.rt:107:9
-field-requires-3 : tie.Need-field-requires-3
-field-requires-3 c κs = search needs
+name-field-requires : tie.Need-name-field-requires
+name-field-requires c κs = search needs
 
 -- src/lib.rt:109:15
-cast-t18 : tie.Need-cast-t18
-cast-t18 c = search needs
-
--- src/lib.rt:110:16
 cast-t19 : tie.Need-cast-t19
 cast-t19 c = search needs
+
+-- src/lib.rt:110:16
+cast-t20 : tie.Need-cast-t20
+cast-t20 c = search needs
 
 -- src/lib.rt:113:59
 add-put-element : tie.Need-add-put-element
@@ -50,7 +49,7 @@ add-put-element c = search needs
 
 -- src/lib.rt:113:59
 add-put-element-2 : tie.Need-add-put-element-2
-add-put-element-2 c = omega (arith, ap length (c .before .before .field3 .ensures), c .before .before .before .before .before .before .before .before .before .before .before .before .pre .name-inside)
+add-put-element-2 c = omega (arith, ap length (c .before .before .name-field .ensures), c .before .before .before .before .before .before .before .before .before .before .before .before .pre .0 .name-inside)
 
 -- src/lib.rt:113:5
 put-element-requires : tie.Need-put-element-requires
@@ -59,16 +58,16 @@ put-element-requires c κs = search needs
 -- src/lib.rt:114:9
 with-element-requires : tie.Need-with-element-requires
 with-element-requires c κs =
-    let depth = c .before .before .before .before .before .before .before .before .before .before .depth-of .ensures .0 ∙ ap depthOf (c .before .before .before .before .before .before .before .before .before .before .before .field .ensures) in
-    (omega (arith, depth, c .before .before .before .before .before .before .before .before .before .before .before .before .before .before .before .before .before .pre .shallow), c .before .before .before .before .before .before .before .before .before .before .before .before .before .before .before .before .before .pre .few)
+    let depth = c .before .before .before .before .before .before .before .before .before .before .depth-of .ensures .0 ∙ ap depthOf (c .before .before .before .before .before .before .before .before .before .before .before .depth-field .ensures) in
+    (omega (arith, depth, c .before .before .before .before .before .before .before .before .before .before .before .before .before .before .before .before .before .pre .0 .shallow), c .before .before .before .before .before .before .before .before .before .before .before .before .before .before .before .before .before .pre .0 .few)
 
 -- src/lib.rt:116:13
-add-t25 : tie.Need-add-t25
-add-t25 c = search needs
+add-t26 : tie.Need-add-t26
+add-t26 c = search needs
 
 -- src/lib.rt:117:15
-add-t27 : tie.Need-add-t27
-add-t27 c = omega (arith, c .before .before .before .before .before .before .before .before .before .before .before .before .before .before .before .before .before .before .before .pre .lines-passed, c .before .before .before .before .before .before .before .before .before .before .before .before .before .before .before .before .before .before .before .pre .name-inside, c .before .before .before .before .before .before .before .before .before .before .before .before .before .before .before .before .before .before .before .pre .ends)
+add-t28 : tie.Need-add-t28
+add-t28 c = omega (arith, c .before .before .before .before .before .before .before .before .before .before .before .before .before .before .before .before .before .before .before .pre .0 .lines-passed, c .before .before .before .before .before .before .before .before .before .before .before .before .before .before .before .before .before .before .before .pre .0 .name-inside, c .before .before .before .before .before .before .before .before .before .before .before .before .before .before .before .before .before .before .before .pre .0 .ends)
 
 -- src/lib.rt:88:1
 same-length : tie.Need-same-length
@@ -82,8 +81,8 @@ same-length-2 c = search needs
 returns : tie.Need-returns
 returns c =
     let args = c .before .before .before .before .before .before .before .before .before .before .before .before .before .before .before .before .before .before .before .args in
-    let depth = c .before .before .before .before .before .before .before .before .before .before .before .before .depth-of .ensures .0 ∙ ap depthOf (c .before .before .before .before .before .before .before .before .before .before .before .before .before .field .ensures) in
-    let word = c .before .before .before .before .before .before .before .before .before .before .word-number .ensures .0 ∙ ap (λ w. numberOfWord (wordOf (args .kind) w)) (c .before .before .before .before .before .before .before .before .before .before .before .field2 .ensures) in
+    let depth = c .before .before .before .before .before .before .before .before .before .before .before .before .depth-of .ensures .0 ∙ ap depthOf (c .before .before .before .before .before .before .before .before .before .before .before .before .before .depth-field .ensures) in
+    let word = c .before .before .before .before .before .before .before .before .before .before .word-number .ensures .0 ∙ ap (λ w. numberOfWord (wordOf (args .kind) w)) (c .before .before .before .before .before .before .before .before .before .before .before .word-field .ensures) in
     let put = c .before .before .before .before .before .before .put-element .ensures in (
       record {
         at-next = refl;
@@ -92,26 +91,26 @@ returns c =
         same-space = refl;
         stands = λ before e s k d. c .before .with-element .ensures before e s k (d ∙ sym depth);
       },
-      (put .0 ∙ same-row (args .table .now) (8 * args .st .tree .len) word depth (args .masks), put .1 ∙ same-end (args .places .now) (2 * args .st .tree .len) (args .st .at) (c .before .before .before .before .before .before .before .before .before .field3 .ensures)),
+      (put .0 ∙ same-row (args .table .now) (8 * args .st .tree .len) word depth (args .masks), put .1 ∙ same-end (args .places .now) (2 * args .st .tree .len) (args .st .at) (c .before .before .before .before .before .before .before .before .before .name-field .ensures)),
     )
 
 pub put-line-spec : {M : Type 1} → statement M
 put-line-spec =
     tie.close
     (tie.spec
-    field-requires
+    depth-field-requires
     depth-of-requires
-    field-requires-2
+    word-field-requires
     word-number-requires
-    field-requires-3
-    cast-t18
+    name-field-requires
     cast-t19
+    cast-t20
     add-put-element
     add-put-element-2
     put-element-requires
     with-element-requires
-    add-t25
-    add-t27
+    add-t26
+    add-t28
     same-length
     same-length-2
     returns)
