@@ -7,9 +7,10 @@ ghost use mathlib.Core.Bool.{not, cond};
 ghost use mathlib.Core.List.{[]};
 ghost use Prim.Native.Nat.{ℕ, _+_, _≤_, _<_};
 ghost use lib.ListN.{length, drop, getD};
-ghost use Rattle.meaning.specs.Text.{all, same, amongNames, repeated, cut, tab, isField, nameByte, isName};
+ghost use Rattle.meaning.specs.Text.{all, same, amongNames, repeated, cut, newline, tab, isField, nameByte, isName};
 ghost use Rattle.meaning.specs.Deciding.{valueOf};
 ghost use Rattle.text.specs.Places.{foundOf};
+ghost use Rattle.text.specs.Runs.{FirstLine};
 
 // Where the piece that starts at `at` ends: the place of the next `sep`, or the length.
 pub fn end_of(s: &[u8], at: usize, sep: u8) -> usize
@@ -134,6 +135,48 @@ pub fn count_fields(line: &[u8]) -> usize
         }
         if line[e] != b'\t' {
             return 0;
+        }
+        ended += 1;
+        at = e + 1;
+    }
+}
+
+// Where a line ends, and how many fields it has.
+pub struct Counted {
+    pub end: usize,
+    pub fields: usize,
+}
+
+// A line whose byte at e is wrong.
+fn wrong_line(s: &[u8], e: usize) -> Counted
+    requires { ⌜ e ≤ length (now s) ⌝ }
+    ensures { λ r. ⌜ (r .end ≡ e + length (getD (cut newline (drop e (now (s .entry)))) 0 [])) × (r .end ≤ length (now (s .entry))) × (r .fields ≡ 0) ⌝ }
+{
+    let end = end_of(s, e, b'\n');
+    Counted { end, fields: 0 }
+}
+
+// The line that a text starts with: where it ends, and how many fields it has where a newline ends it. One pass over the bytes.
+pub fn first_line(s: &[u8]) -> Counted
+    ensures { λ r. ⌜ FirstLine (now (s .entry)) (r .end) (r .fields) ⌝ }
+{
+    let mut ended = 0;
+    let mut at = 0;
+    loop {
+        let e = runs::visible_to(s, at);
+        if e == s.len() {
+            return Counted { end: e, fields: 0 };
+        }
+        let b = s[e];
+        if e == at {
+            return wrong_line(s, e);
+        }
+        if b == b'\n' {
+            let fields = ended + 1;
+            return Counted { end: e, fields };
+        }
+        if b != b'\t' {
+            return wrong_line(s, e);
         }
         ended += 1;
         at = e + 1;
