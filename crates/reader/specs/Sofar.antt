@@ -2,7 +2,7 @@
 use Prim.Native.Nat.{ℕ, _-_, _*_, _≤_, _<_}
 use mathlib.Core.Path.{_≡_}
 use mathlib.Core.Option.{some}
-use mathlib.Core.Bool.{true, false, _||_, not}
+use mathlib.Core.Bool.{true, false, cond, _||_, not}
 use mathlib.Core.List.{List, [], _∷_, map}
 use lib.Dec.{leb, eqb}
 use lib.ListN.{length, drop, getD}
@@ -71,6 +71,10 @@ pub record TreeLine (fs : List Bytes) (k : Kind) (n : ℕ) : Type 0 where
   pub three : 3 ≤ n
   pub no-attribute : same (getD fs 0 []) (bytes "A") ≡ false
   pub letter : kindOf (getD fs 0 []) ≡ some k
+
+-- so many fields, or 0 where one of them is none
+abbrev pub CountIs : List Bytes → ℕ → Type 0
+CountIs fs n = n ≡ cond (all isField fs) (length fs) 0
 
 -- a line of these fields by its kind; any other is wrong by test 2, whatever was read so far
 abbrev pub ShapeIs : List Bytes → LineKind → ℕ → Type 0

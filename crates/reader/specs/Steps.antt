@@ -14,7 +14,7 @@ use Rattle.layout.specs.Nearest.{Stands}
 use Rattle.reader.specs.declared.State.{State}
 use Rattle.reader.specs.declared.Step.{Step}
 use Rattle.reader.specs.declared.Reading.{Reading}
-use Rattle.reader.specs.Sofar.{sofarOf, refusalOf}
+use Rattle.reader.specs.Sofar.{sofarOf, refusalOf, CountIs}
 
 -- the attributes lie in the file, with at most 16 values each and a small space
 pub record Spaced (f : Bytes) (a : Attributes) : Type 0 where
@@ -48,6 +48,13 @@ pub record Line (f : Bytes) (st : State) (end : ℕ) : Type 0 where
   pub starts : st .at ≤ end
   pub ends : end < length f
   pub all-of-it : end ≡ st .at + length (getD (cut newline (drop (st .at) f)) 0 [])
+
+-- the line at a place: its end, and how many fields it has where a newline ends it
+pub record LineAt (f : Bytes) (at end fields : ℕ) : Type 0 where
+  pub all-of-it : end ≡ at + length (getD (cut newline (drop at f)) 0 [])
+  pub starts : at ≤ end
+  pub inside : end ≤ length f
+  pub count : end < length f → CountIs (cut tab (part f at end)) fields
 
 -- room for the element of a tree line of these fields, and the state behind it
 pub record Fits (table places : List ℕ) (st : State) (end : ℕ) (fs : List Bytes) : Type 0 where

@@ -6,6 +6,7 @@ use layout::Attributes;
 use layout::Tree;
 use meaning::Answer;
 use syntax::LineKind;
+use text::Counted;
 ghost use mathlib.Core.Path.{_≡_};
 ghost use mathlib.Core.Bool.{cond};
 ghost use mathlib.Core.List.{List};
@@ -16,8 +17,8 @@ ghost use Rattle.meaning.specs.Text.{cut, tab};
 ghost use Rattle.meaning.specs.Model.{refused};
 ghost use Rattle.meaning.specs.Reading.{nothing, finished, read as readFile};
 ghost use Rattle.layout.specs.Places.{part};
-ghost use Rattle.reader.specs.Sofar.{Tested, AttributeRefusal, AttributeLine, ShapeIs};
-ghost use Rattle.reader.specs.Steps.{Begun, Ready, Line, readSofar, StepIs, ReadAs};
+ghost use Rattle.reader.specs.Sofar.{Tested, AttributeRefusal, AttributeLine, CountIs, ShapeIs};
+ghost use Rattle.reader.specs.Steps.{Begun, Ready, Line, LineAt, readSofar, StepIs, ReadAs};
 
 // Where the reader stands: the next line's start and number, what was read, and the space so far.
 pub struct State {
@@ -114,10 +115,11 @@ pub fn attribute_line(file: &[u8], st: State, end: usize, fields: usize) -> Step
     Step { refusal, state }
 }
 
-pub fn line_shape(line: &[u8]) -> LineShape
+// The shape of a line whose fields were counted.
+fn shape_of(line: &[u8], fields: usize) -> LineShape
+    requires { ⌜ CountIs (cut tab (now line)) fields ⌝ }
     ensures { λ r. ⌜ ShapeIs (cut tab (now (line .entry))) (r .kind) (r .fields) ⌝ }
 {
-    let fields = text::count_fields(line);
     if fields < 3 {
         return LineShape {
             kind: LineKind::Other,
@@ -128,13 +130,37 @@ pub fn line_shape(line: &[u8]) -> LineShape
     LineShape { kind, fields }
 }
 
-// One line, which a newline at `end` ends.
-fn read_line(file: &[u8], st: State, end: usize, table: &mut [u16], places: &mut [usize]) -> Step
-    requires { ⌜ Ready (now file) (now table) (now places) st × Line (now file) st end ⌝ }
+pub fn line_shape(line: &[u8]) -> LineShape
+    ensures { λ r. ⌜ ShapeIs (cut tab (now (line .entry))) (r .kind) (r .fields) ⌝ }
+{
+    shape_of(line, text::count_fields(line))
+}
+
+// The line at a place: where it ends, and how many fields it has.
+fn line_at(file: &[u8], at: usize) -> Counted
+    requires { ⌜ at ≤ length (now file) ⌝ }
+    ensures { λ r. ⌜ LineAt (now (file .entry)) at (r .end) (r .fields) ⌝ }
+{
+    let found = text::first_line(&file[at..]);
+    let end = at + found.end;
+    let fields = found.fields;
+    Counted { end, fields }
+}
+
+// One line of so many fields, which a newline at `end` ends.
+fn read_line(
+    file: &[u8],
+    st: State,
+    end: usize,
+    fields: usize,
+    table: &mut [u16],
+    places: &mut [usize],
+) -> Step
+    requires { ⌜ Ready (now file) (now table) (now places) st × Line (now file) st end × CountIs (cut tab (part (now file) (st .at) end)) fields ⌝ }
     ensures { λ r. ⌜ StepIs (now (file .entry)) (now (table .entry)) (now (places .entry)) (now (table .exit)) (now (places .exit)) st end r ⌝ }
 {
     let at = st.at;
-    let shape = line_shape(&file[at..end]);
+    let shape = shape_of(&file[at..end], fields);
     let kind = shape.kind;
     let fields = shape.fields;
     match kind {
@@ -228,11 +254,12 @@ pub fn read(file: &[u8], table: &mut [u16], places: &mut [usize]) -> Reading
     loop {
         let at = st.at;
         let line = st.line;
-        let end = text::end_of(file, at, 10);
+        let found = line_at(file, at);
+        let end = found.end;
         if end == file.len() {
             return finish(st, end);
         }
-        let step = read_line(file, st, end, table, places);
+        let step = read_line(file, st, end, found.fields, table, places);
         let refusal = step.refusal;
         if refusal != 0 {
             let attributes = st.attributes;

@@ -1,4 +1,4 @@
-use Prim.Native.Nat.{_-_, _≤_, zero-le}
+use Prim.Native.Nat.{_-_, _≤_, _<_, zero-le}
 use mathlib.Core.Path.{_≡_, refl}
 use native.Mathlib.Omega.{arith}
 use borrow.Author.Needs.{needs}
@@ -13,7 +13,7 @@ use Rattle.reader.proofs.read.Lts as lts
 use Rattle.reader.proofs.finish.Reads as finish-reads
 use Rattle.reader.proofs.read_line.Reads as read-line-reads
 use Rattle.reader.proofs.start.Reads as start-reads
-use Rattle.text.proofs.end_of.Reads as end-of-reads
+use Rattle.reader.proofs.line_at.Reads as line-at-reads
 
 abbrev Inv-loop : tie.InvT-loop
 Inv-loop file table₀ places₀ st₀ table places st = (length table ≡ length table₀) × (length places ≡ length places₀) × Ready file table places st × (length file ≤ 16384) × (Keeps file table places st)
@@ -38,8 +38,8 @@ loop-holds c =
     (refl, refl, ready, size, keeps-first (args .file .now) (args .table .now) (args .places .now) (c .before .start .result) size (c .before .start .ensures .1) none)
 
 -- src/lib.rt:133:13
-end-of-requires : tie.Need-end-of-requires Inv-loop μ-loop
-end-of-requires c κs = c .loop .inv .2 .begun .inside
+line-at-requires : tie.Need-line-at-requires Inv-loop μ-loop
+line-at-requires c κs = c .loop .inv .2 .begun .inside
 
 -- src/lib.rt:135:13
 finish-requires : tie.Need-finish-requires Inv-loop μ-loop
@@ -57,14 +57,16 @@ same-length-2 c = search needs
 returns-2 : tie.Need-returns-2 Inv-loop μ-loop
 returns-2 c =
     let inv = c .before .before .before .loop .inv in
-    let end = c .before .before .end-of .ensures .0 in
+    let end = c .before .before .line-at .ensures .all-of-it in
     ended _ _ _ _ (inv .2) (inv .3) (inv .4) _ end (c .before .if2 .taken) _ (c .finish .ensures _ _ _ (inv .2) (few-lines _ _ _ _ (inv .2) (inv .3) (inv .4) _ end) (c .before .if2 .taken))
 
 -- src/lib.rt:137:13
 read-line-requires : tie.Need-read-line-requires Inv-loop μ-loop
 read-line-requires c κs =
     let inv = c .before .before .before .before .loop .inv in
-    (inv .2, record { starts = c .before .before .before .end-of .ensures .1 .0; ends = omega arith; all-of-it = c .before .before .before .end-of .ensures .0 })
+    let here = c .before .before .before .line-at in
+    let ends : here .result .end < length (c .before .before .before .before .before .before .before .before .before .before .args .file .now) = omega (arith, here .ensures .inside) in
+    (inv .2, record { starts = here .ensures .starts; ends = ends; all-of-it = here .ensures .all-of-it }, here .ensures .count ends)
 
 -- src/lib.rt:141:13
 same-length-3 : tie.Need-same-length-3 Inv-loop μ-loop
@@ -79,7 +81,7 @@ returns-3 : tie.Need-returns-3 Inv-loop μ-loop
 returns-3 c =
     let inv = c .before .before .before .before .before .before .before .before .before .before .before .loop .inv in
     let step = c .before .before .before .before .before .before .read-line .ensures in
-    refused-here _ _ _ _ (inv .2) (inv .3) (inv .4) _ (c .before .before .before .before .before .before .before .before .before .before .end-of .ensures .0) (omega arith) _ (step .refusal) _ _ _ (c .before .if3 .taken) refl refl
+    refused-here _ _ _ _ (inv .2) (inv .3) (inv .4) _ (c .before .before .before .before .before .before .before .before .before .before .line-at .ensures .all-of-it) (omega arith) _ (step .refusal) _ _ _ (c .before .if3 .taken) refl refl
 
 -- src/lib.rt:131:5
 loop-less : tie.Need-loop-less Inv-loop μ-loop
@@ -93,7 +95,7 @@ loop-again c =
     let inv = c .before .before .before .before .before .before .before .before .before .before .before .loop .inv in
     let step = c .before .before .before .before .before .before .read-line .ensures in
     let next = step .next (c .before .if3 .left) in
-    (search needs, search needs, next .ready, inv .3, keeps-next _ _ _ _ (inv .2) (inv .3) (inv .4) _ (c .before .before .before .before .before .before .before .before .before .before .end-of .ensures .0) (omega arith) _ (step .refusal) _ _ _ (c .before .if3 .left) next)
+    (search needs, search needs, next .ready, inv .3, keeps-next _ _ _ _ (inv .2) (inv .3) (inv .4) _ (c .before .before .before .before .before .before .before .before .before .before .line-at .ensures .all-of-it) (omega arith) _ (step .refusal) _ _ _ (c .before .if3 .left) next)
 
 pub read-spec : {M : Type 1} → statement M
 read-spec =
@@ -104,7 +106,7 @@ read-spec =
     start-requires
     returns
     loop-holds
-    end-of-requires
+    line-at-requires
     finish-requires
     same-length
     same-length-2
