@@ -168,7 +168,7 @@ pub fn first_line(s: &[u8]) -> Counted
             return Counted { end: e, fields: 0 };
         }
         let b = s[e];
-        if e == at {
+        if at == e {
             return wrong_line(s, e);
         }
         if b == b'\n' {
