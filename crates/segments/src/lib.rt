@@ -10,7 +10,7 @@ ghost use Rattle.meaning.specs.Text.{counting, firstFrom};
 ghost use Rattle.meaning.specs.Deciding.{bit};
 ghost use Rattle.decisions.specs.Table.{parentOf, placeOr};
 ghost use Rattle.flags.specs.Ready.{countsOf};
-ghost use Rattle.segments.specs.Words.{wordFrom, alike, sizeAt};
+ghost use Rattle.segments.specs.Words.{alike, sizeAt};
 ghost use Rattle.segments.specs.Rows.{Applied, Given, wordAcross, Column, Narrowed, AppliedRow, Rowed, Marked};
 ghost use Rattle.segments.specs.Turning.{Mask, ExchangedWord, Exchanged, Turned};
 ghost use Rattle.segments.specs.Chains.{bucketOf, Chained};
