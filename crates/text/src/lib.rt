@@ -101,23 +101,6 @@ pub fn is_name(s: &[u8]) -> bool
     true
 }
 
-// Whether a text is a field: one or more visible bytes.
-pub fn is_field(f: &[u8]) -> bool
-    ensures { λ r. ⌜ r ≡ isField (now (f .entry)) ⌝ }
-{
-    if f.len() < 1 {
-        return false;
-    }
-    let mut i = 0;
-    while i < f.len() {
-        if !runs::field_byte(f[i]) {
-            return false;
-        }
-        i += 1;
-    }
-    true
-}
-
 // How many fields a line has, or 0 where one of them is empty or has another byte. One pass over the bytes.
 pub fn count_fields(line: &[u8]) -> usize
     ensures { λ r. ⌜ r ≡ cond (all isField (cut tab (now (line .entry)))) (length (cut tab (now (line .entry)))) 0 ⌝ }
