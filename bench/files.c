@@ -1,190 +1,14 @@
 /* Three sorts of files: what a laboratory has, the largest that are accepted, and those made to be slow to trim or to
  * report on. The last sort aims at several ways of trimming: one that tries each rule on each request, one that goes by
  * segments, one that remembers which request needs a rule. */
-#include "files.h"
+#include "file_lines.h"
 
 #include <stdio.h>
 #include <stdlib.h>
 #include <string.h>
 
-struct shape { /* the attributes, and what makes names */
-    unsigned attributes, values[6];
-    char value[6][16][17];
-    int long_names;
-};
-
-static void put(struct policy_file *file, const char *bytes)
-{
-    size_t length = strlen(bytes);
-
-    if (file->length + length > sizeof file->bytes) {
-        fprintf(stderr, "%s: file too long\n", file->name);
-        exit(1);
-    }
-    memcpy(file->bytes + file->length, bytes, length);
-    file->length += length;
-}
-
-static void attribute(struct policy_file *file, struct shape *shape, const char *name, const char *const *values,
-                      unsigned count)
-{
-    unsigned attribute = shape->attributes++;
-
-    shape->values[attribute] = count;
-    put(file, "A\t");
-    put(file, name);
-    for (unsigned i = 0; i < count; i++) {
-        snprintf(shape->value[attribute][i], 17, "%s", values[i]);
-        put(file, "\t");
-        put(file, values[i]);
-    }
-    put(file, "\n");
-}
-
-/* Attributes of equally many values, with names of 16 bytes or short ones. */
-static void even_space(struct policy_file *file, struct shape *shape, unsigned attributes, unsigned values,
-                       int long_names)
-{
-    memset(shape, 0, sizeof *shape);
-    shape->long_names = long_names;
-    for (unsigned i = 0; i < attributes; i++) {
-        char name[17], text[16][17];
-        const char *pointers[16];
-        snprintf(name, sizeof name, long_names ? "attribute-no-%03u" : "a%u", i);
-        for (unsigned j = 0; j < values; j++) {
-            if (long_names)
-                snprintf(text[j], sizeof text[j], "value-%03u-of-%03u", j, i);
-            else
-                snprintf(text[j], sizeof text[j], "%c%c", (char)('a' + i), (char)('a' + j));
-            pointers[j] = text[j];
-        }
-        attribute(file, shape, name, pointers, values);
-    }
-}
-
-/* A tree line. A mask of 0 or of all values is written `*`. */
-static void element(struct policy_file *file, const struct shape *shape, char kind, unsigned depth, const char *name,
-                    const char *word, const unsigned targets[6])
-{
-    char start[64];
-
-    snprintf(start, sizeof start, "%c\t%u\t%s\t%s", kind, depth, name, word);
-    put(file, start);
-    for (unsigned i = 0; i < shape->attributes; i++) {
-        unsigned all = (1u << shape->values[i]) - 1, mask = targets[i] & all;
-        const char *before = "\t";
-        if (mask == 0 || mask == all)
-            put(file, "\t*");
-        else
-            for (unsigned value = 0; value < shape->values[i]; value++)
-                if (mask >> value & 1) {
-                    put(file, before);
-                    put(file, shape->value[i][value]);
-                    before = ",";
-                }
-    }
-    put(file, "\n");
-}
-
-static void numbered(struct policy_file *file, const struct shape *shape, char kind, unsigned depth, unsigned number,
-                     const char *word, const unsigned targets[6])
-{
-    char name[17];
-    const char *long_name = kind == 'R' ? "rule-number-%04u" : kind == 'P' ? "policy-numbr%04u" : "policy-set--%04u";
-
-    snprintf(name, sizeof name, shape->long_names ? long_name : "e%u", number);
-    element(file, shape, kind, depth, name, word, targets);
-}
-
 static const unsigned everything[6] = {0};
 static const char *const effects[2] = {"permit", "deny"};
-static const char *const algorithms[4] = {
-    "deny-overrides", "permit-overrides", "first-applicable", "only-one-applicable",
-};
-
-static unsigned random_below(uint64_t *state, unsigned limit)
-{
-    *state = *state * 6364136223846793005u + 1442695040888963407u;
-    return (unsigned)(*state >> 33) % limit;
-}
-
-static unsigned random_mask(uint64_t *state, unsigned values, unsigned bits)
-{
-    unsigned mask = 0;
-    while (bits-- > 0)
-        mask |= 1u << random_below(state, values);
-    return mask;
-}
-
-/* Laboratories: five roles, six actions, eight nests. */
-
-static void laboratory(struct policy_file *file, struct shape *shape)
-{
-    static const char *const roles[] = {"tech", "lead", "service", "student", "guest"};
-    static const char *const actions[] = {"jog", "teach", "run", "grip", "unlock", "calibrate"};
-    static const char *const nests[] = {"rack-1", "rack-2", "rack-3", "reader", "washer", "shaker", "cooler", "waste"};
-
-    memset(shape, 0, sizeof *shape);
-    attribute(file, shape, "role", roles, 5);
-    attribute(file, shape, "action", actions, 6);
-    attribute(file, shape, "nest", nests, 8);
-}
-
-enum { TECH = 1, LEAD = 2, SERVICE = 4, STUDENT = 8, GUEST = 16, JOG = 1, TEACH = 2, RUN = 4, GRIP = 8, UNLOCK = 16,
-       CALIBRATE = 32, RACKS = 7, READER = 8, WASHER = 16, SHAKER = 32, COOLER = 64, WASTE = 128 };
-
-struct laboratory_element { char kind; uint8_t depth; const char *name, *word; unsigned targets[6]; };
-
-static const struct laboratory_element small[] = {
-    {'S', 0, "arm", "first-applicable", {0}},
-    {'P', 1, "locked-nests", "deny-overrides", {0, 0, WASTE | COOLER}},
-    {'R', 2, "no-waste", "deny", {STUDENT | GUEST, 0, WASTE}},
-    {'R', 2, "cooler-teach", "deny", {0, TEACH | CALIBRATE, COOLER}},
-    {'S', 1, "people", "only-one-applicable", {0}},
-    {'P', 2, "staff", "permit-overrides", {TECH | LEAD | SERVICE, 0, 0}},
-    {'R', 3, "staff-moves", "permit", {0, JOG | RUN | GRIP, 0}},
-    {'R', 3, "lead-all", "permit", {LEAD, 0, 0}},
-    {'R', 3, "staff-rest", "deny", {0, 0, 0}},
-    {'P', 2, "learners", "first-applicable", {STUDENT | GUEST, 0, 0}},
-    {'R', 3, "guest-jog", "permit", {0, JOG, RACKS}},
-    {'R', 3, "guest-rest", "deny", {0, 0, 0}},
-};
-
-static const struct laboratory_element common[] = {
-    {'S', 0, "arm", "", {0}},
-    {'P', 1, "emergency", "deny-overrides", {0, GRIP | UNLOCK | CALIBRATE, 0}},
-    {'R', 2, "no-guest-unlock", "deny", {GUEST | STUDENT, GRIP | UNLOCK, 0}},
-    {'R', 2, "no-calibration", "deny", {TECH | STUDENT | GUEST, CALIBRATE, 0}},
-    {'R', 2, "service-unlock", "permit", {SERVICE | LEAD, UNLOCK | CALIBRATE, 0}},
-    {'S', 1, "motion", "permit-overrides", {0, JOG | RUN | TEACH, 0}},
-    {'P', 2, "jogging", "first-applicable", {0, JOG, 0}},
-    {'R', 3, "jog-racks", "permit", {TECH | LEAD | STUDENT, 0, RACKS}},
-    {'R', 3, "jog-washer", "deny", {STUDENT, 0, WASHER | SHAKER}},
-    {'R', 3, "jog-lead", "permit", {LEAD, JOG, 0}},
-    {'R', 3, "jog-rest", "deny", {0, 0, 0}},
-    {'P', 2, "teaching", "deny-overrides", {0, TEACH, 0}},
-    {'R', 3, "teach-lead", "permit", {LEAD | SERVICE, 0, 0}},
-    {'R', 3, "teach-cooler", "deny", {0, 0, COOLER}},
-    {'P', 2, "running", "permit-overrides", {0, RUN, 0}},
-    {'R', 3, "run-tech", "permit", {TECH | LEAD, 0, 0}},
-    {'R', 3, "run-student", "permit", {STUDENT, RUN, RACKS | READER}},
-    {'R', 3, "run-guest", "deny", {GUEST, 0, 0}},
-    {'S', 1, "gripping", "only-one-applicable", {0, GRIP, 0}},
-    {'P', 2, "grip-racks", "first-applicable", {0, 0, RACKS | READER}},
-    {'R', 3, "grip-staff", "permit", {TECH | LEAD | SERVICE, 0, 0}},
-    {'R', 3, "grip-lead", "permit", {LEAD, GRIP, RACKS}},
-    {'P', 2, "grip-wet", "deny-overrides", {0, 0, READER | WASHER | SHAKER}},
-    {'R', 3, "grip-wet-lead", "permit", {LEAD, 0, 0}},
-    {'R', 3, "grip-wet-guest", "deny", {GUEST | STUDENT, 0, 0}},
-};
-
-static void lay_out(struct policy_file *file, const struct shape *shape, const struct laboratory_element *elements,
-                    size_t count, const char *first_word)
-{
-    for (size_t i = 0; i < count; i++)
-        element(file, shape, elements[i].kind, elements[i].depth, elements[i].name,
-                i == 0 ? first_word : elements[i].word, elements[i].targets);
-}
 
 /* The largest files. */
 
@@ -356,8 +180,7 @@ static void bad_last_target(struct policy_file *file, struct shape *shape)
 
 static void name_again(struct policy_file *file, struct shape *shape)
 {
-    laboratory(file, shape);
-    lay_out(file, shape, common, sizeof common / sizeof *common, "deny-overrides");
+    common_laboratory(file, shape, "deny-overrides");
     put(file, "R\t3\tgrip-wet-lead\tpermit\t*\t*\t*\n");
 }
 
@@ -408,28 +231,23 @@ int make_file(struct policy_file *file, unsigned number)
     file->name = names[number];
     file->length = 0;
     file->requests = 0;
-    if (number < 5) {
-        laboratory(file, &shape);
-        if (number == 0)
-            lay_out(file, &shape, small, sizeof small / sizeof *small, small[0].word);
-        else
-            lay_out(file, &shape, common, sizeof common / sizeof *common, algorithms[number - 1]);
-    } else
-        switch (number) {
-        case 5: largest(file, &shape); break;
-        case 6: long_lists(file, &shape); break;
-        case 7: case 8: case 9: flat(file, &shape, algorithms[number - 7]); break;
-        case 10: all_needed(file, &shape); break;
-        case 11: none_needed(file, &shape, "first-applicable"); break;
-        case 12: none_needed(file, &shape, "permit-overrides"); break;
-        case 13: needless_first(file, &shape); break;
-        case 14: deep(file, &shape); break;
-        case 15: only_one(file, &shape); break;
-        case 16: many_policies(file, &shape); break;
-        case 17: bad_last_target(file, &shape); break;
-        case 18: name_again(file, &shape); break;
-        default: many_values(file, &shape); break;
-        }
+    switch (number) {
+    case 0: small_laboratory(file, &shape); break;
+    case 1: case 2: case 3: case 4: common_laboratory(file, &shape, algorithms[number - 1]); break;
+    case 5: largest(file, &shape); break;
+    case 6: long_lists(file, &shape); break;
+    case 7: case 8: case 9: flat(file, &shape, algorithms[number - 7]); break;
+    case 10: all_needed(file, &shape); break;
+    case 11: none_needed(file, &shape, "first-applicable"); break;
+    case 12: none_needed(file, &shape, "permit-overrides"); break;
+    case 13: needless_first(file, &shape); break;
+    case 14: deep(file, &shape); break;
+    case 15: only_one(file, &shape); break;
+    case 16: many_policies(file, &shape); break;
+    case 17: bad_last_target(file, &shape); break;
+    case 18: name_again(file, &shape); break;
+    default: many_values(file, &shape); break;
+    }
     if (number < 17)
         make_requests(file, &shape);
     return 1;

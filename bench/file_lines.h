@@ -1,0 +1,37 @@
+/* What makes the lines of the measured files. */
+#ifndef FILE_LINES_H
+#define FILE_LINES_H
+
+#include "files.h"
+
+struct shape { /* the attributes, and what makes names */
+    unsigned attributes, values[6];
+    char value[6][16][17];
+    int long_names;
+};
+
+static const char *const algorithms[4] = {
+    "deny-overrides", "permit-overrides", "first-applicable", "only-one-applicable",
+};
+
+void put(struct policy_file *file, const char *bytes);
+void attribute(struct policy_file *file, struct shape *shape, const char *name, const char *const *values,
+               unsigned count);
+
+/* Attributes of equally many values, with names of 16 bytes or short ones. */
+void even_space(struct policy_file *file, struct shape *shape, unsigned attributes, unsigned values, int long_names);
+
+/* A tree line; `numbered` makes its name. A mask of 0 or of all values is written `*`. */
+void element(struct policy_file *file, const struct shape *shape, char kind, unsigned depth, const char *name,
+             const char *word, const unsigned targets[6]);
+void numbered(struct policy_file *file, const struct shape *shape, char kind, unsigned depth, unsigned number,
+              const char *word, const unsigned targets[6]);
+
+unsigned random_below(uint64_t *state, unsigned limit);
+unsigned random_mask(uint64_t *state, unsigned values, unsigned bits);
+
+/* laboratories.c: the small file, and the common one with this algorithm at the top. */
+void small_laboratory(struct policy_file *file, struct shape *shape);
+void common_laboratory(struct policy_file *file, struct shape *shape, const char *algorithm);
+
+#endif
