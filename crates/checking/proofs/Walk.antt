@@ -15,7 +15,7 @@ use Rattle.meaning.specs.Text.{Bytes, empty}
 use Rattle.meaning.specs.Model.{Attribute, sizes, Result, refused, given, unless, wordText}
 use Rattle.meaning.specs.Reading.{Sofar, wellPlaced, Tests, lowest, elementTests}
 use Rattle.meaning.specs.Writing.{readElements}
-use Rattle.meaning.specs.Claims.{All}
+use Rattle.meaning.specs.Claims.Texts.{All}
 use Rattle.laws.proofs.Types.{Element}
 use Rattle.laws.proofs.Bools.{Test, passed, failed, test, or-false}
 use Rattle.laws.proofs.Reading.{lowest-zero, element-numbered}

@@ -11,7 +11,7 @@ use Rattle.meaning.specs.Text.{Bytes, cut, newline, tab}
 use Rattle.meaning.specs.Model.{Result, refused, given, _then_}
 use Rattle.meaning.specs.Reading.{Line, attributeLine, treeLine, otherLine, lineOf, Sofar, wrongFields, nothing, readText, short}
 use Rattle.meaning.specs.Writing.{headerTests}
-use Rattle.meaning.specs.Claims.{All}
+use Rattle.meaning.specs.Claims.Texts.{All}
 use Rattle.layout.specs.declared.Attributes.{Attributes}
 use Rattle.layout.specs.Places.{part}
 use Rattle.reader.specs.declared.State.{State}

@@ -13,7 +13,7 @@ use Rattle.meaning.specs.Reading.{read}
 use Rattle.meaning.specs.Trimming.{trimmed}
 use Rattle.meaning.specs.Report.{report, fitted, trimFile}
 use Rattle.meaning.specs.Operations.{answered, lent, trimAnswer, trimLent}
-use Rattle.meaning.specs.Claims.{TrimsSoundly}
+use Rattle.meaning.specs.Claims.Trimming.{TrimsSoundly}
 use Rattle.laws.proofs.Demand3.{trims-soundly}
 
 -- an answer and a buffer afterwards: the trimmed text and its length, the bytes behind it, and the whole claim

@@ -15,7 +15,8 @@ use Rattle.meaning.specs.Reading.{read}
 use Rattle.meaning.specs.Report.{fitted}
 use Rattle.meaning.specs.Writing.{listFile, writeFile}
 use Rattle.meaning.specs.Operations.{answered, lent, readAnswer, readLent, writeAnswer, writeLent}
-use Rattle.meaning.specs.Claims.{All, Shaped, attributeLines}
+use Rattle.meaning.specs.Claims.Texts.{All}
+use Rattle.meaning.specs.Claims.Writing.{Shaped, attributeLines}
 use Rattle.laws.proofs.Types.{Element}
 use Rattle.laws.proofs.Bools.{Test, passed, failed, test}
 use Rattle.laws.proofs.Reading.{refused-given, given-given, step-then}

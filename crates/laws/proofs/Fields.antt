@@ -11,7 +11,9 @@ use Rattle.meaning.specs.Text.{Bytes, empty, all, between, join, comma, isField
 use Rattle.meaning.specs.Model.{Attribute, nameOf, kindText, wordText}
 use Rattle.meaning.specs.Reading.{badMasks}
 use Rattle.meaning.specs.Writing.{targetText, targetTexts, elementFields}
-use Rattle.meaning.specs.Claims.{All, GoodAttribute, GoodElement}
+use Rattle.meaning.specs.Claims.Texts.{All}
+use Rattle.meaning.specs.Claims.PolicyFile.{GoodAttribute}
+use Rattle.laws.proofs.Bounds.{GoodElement}
 use Rattle.laws.proofs.Bools.{Test, passed, failed, test, contradiction, and-true}
 use Rattle.laws.proofs.Text.{Free, Frees, NonEmptyName, name-bytes, name-of}
 use Rattle.laws.proofs.Targets.{Written, star, names, mask-written}

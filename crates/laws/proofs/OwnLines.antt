@@ -8,7 +8,7 @@ use Rattle.meaning.specs.Text.{Bytes, any, keep, without, front, same, amongNam
 use Rattle.meaning.specs.Model.{nameOf, Policy, given}
 use Rattle.meaning.specs.Reading.{Line, attributeLine, treeLine, otherLine, lineOf, elementOf, Sofar, lineTests, extended, readLines, nothing, read}
 use Rattle.meaning.specs.Trimming.{lines, fieldOf, ruleLine, nameAt, strike}
-use Rattle.meaning.specs.Claims.{Trims, none-left, last-struck, stays}
+use Rattle.meaning.specs.Claims.Trimming.{Trims, none-left, last-struck, stays}
 use Rattle.laws.proofs.Types.{rule}
 use Rattle.laws.proofs.Bools.{Test, passed, failed, test, contradiction, or-false, or-true, and-true}
 use Rattle.laws.proofs.Text.{same-true, same-refl}

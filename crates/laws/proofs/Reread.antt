@@ -15,7 +15,10 @@ use Rattle.meaning.specs.Model.{Attribute, padded, nameOf, Policy, refused, giv
 use Rattle.meaning.specs.Reading.{Line, attributeLine, treeLine, otherLine, lineOf, spelled, depthOf, wordOf, masksOf, orPermit, elementOf, Sofar, nonZero, badMasks, elementTests, lineTests, lowest, wrongFields, withElement, extended, readLines, nothing, readText, short, finished, read}
 use Rattle.meaning.specs.Report.{fitted}
 use Rattle.meaning.specs.Writing.{headerTests, readElements, targetTexts, elementFields, writeFile}
-use Rattle.meaning.specs.Claims.{attributeLines, All, GoodAttribute, Shaped, GoodElement, RoundTrips}
+use Rattle.meaning.specs.Claims.Writing.{attributeLines, Shaped, RoundTrips}
+use Rattle.meaning.specs.Claims.Texts.{All}
+use Rattle.meaning.specs.Claims.PolicyFile.{GoodAttribute}
+use Rattle.laws.proofs.Bounds.{GoodElement}
 use Rattle.laws.proofs.Bools.{Test, passed, failed, test, contradiction, or-false, and-true}
 use Rattle.laws.proofs.Text.{Frees, cut-frees, cut-join, join-free, frees-append}
 use Rattle.laws.proofs.Reading.{refused-given, given-given, step-then, step-unless, Passes, lowest-zero, element-numbered, line-numbered, PassesLine, read-step, read-step⁻, lines-keep, ReadText, text-read, short-given, policyOf, finished-given, read-lines}
@@ -26,7 +29,7 @@ use Rattle.laws.proofs.Fields.{digit, fields-free, element-fields}
 use Rattle.laws.proofs.Rewritten.{file-text, word-again, treeText, elements-taken, rewritten}
 
 -- A depth and a word, read again
-depth-back : (d : ℕ) → d ≤ 7 → depthOf (decimal d) ≡ d
+pub depth-back : (d : ℕ) → d ≤ 7 → depthOf (decimal d) ≡ d
 depth-back d l =
     let octal : between 48 55 (48 + d) ≡ true = rw (le-leb 48 (48 + d) (omega arith), le-leb (48 + d) 55 (omega arith)) in
     rw (digit d (omega arith), octal) (omega arith)
@@ -57,19 +60,19 @@ only-zeros (x ∷ xs) h =
     let zeros = only-zeros xs others in
     cc
 
-padded-take : (size k : ℕ) (xs : List ℕ) → length xs ≡ size → k ≤ size → nonZero (drop k xs) ≡ false → padded size (take k xs) ≡ xs
+pub padded-take : (size k : ℕ) (xs : List ℕ) → length xs ≡ size → k ≤ size → nonZero (drop k xs) ≡ false → padded size (take k xs) ≡ xs
 padded-take size k xs e l z =
     let t : length (take k xs) ≡ k = length-take-le k xs (omega arith) in
     let d : size - k ≡ length (drop k xs) = sym (length-drop k xs ∙ ap (λ n. n - k) e) in
     rw (t, d, ← only-zeros (drop k xs) z) (take-append-drop k xs)
 
 -- The masks, read again
-record MasksBack (attrs : List Attribute) (ms : List ℕ) : Type 0 where
+pub record MasksBack (attrs : List Attribute) (ms : List ℕ) : Type 0 where
   pub count : length (targetTexts attrs ms) ≡ length attrs
   pub masks : masksOf attrs (targetTexts attrs ms) ≡ take (length attrs) ms
   pub zeros-behind : nonZero (drop (length attrs) ms) ≡ false
 
-masks-back : (attrs : List Attribute) (ms : List ℕ) → All GoodAttribute attrs → badMasks attrs ms ≡ false → MasksBack attrs ms
+pub masks-back : (attrs : List Attribute) (ms : List ℕ) → All GoodAttribute attrs → badMasks attrs ms ≡ false → MasksBack attrs ms
 masks-back [] ms g h = record { count = refl; masks = refl; zeros-behind = h }
 masks-back (a ∷ attrs) [] g h = contradiction refl h
 masks-back (a ∷ attrs) (m ∷ ms) g h =
@@ -79,7 +82,7 @@ masks-back (a ∷ attrs) (m ∷ ms) g h =
     record { count = ap suc (later .count); masks = rw (own, later .masks); zeros-behind = later .zeros-behind }
 
 -- An element that passed: its line, without the newline, is read as that element
-abbrev bare : List Attribute → Element → Bytes
+abbrev pub bare : List Attribute → Element → Bytes
 bare attrs e = join tab (elementFields attrs e)
 
 abbrev lineFor : List Attribute → Element → Line
@@ -108,18 +111,18 @@ record ElementsBack (s : Sofar) (es : List Element) (z : Sofar) : Type 0 where
   pub elements-good : All (GoodElement (s .attributes)) es
   pub lines-read : (n : ℕ) → readLines lineTests [] n s (map (bare (s .attributes)) es) ≡ given z
 
-element-line : (s : Sofar) (e : Element) → Good s → GoodElement (s .attributes) e → Passes (elementTests s (wordText (e .word)) e) → (n : ℕ) (ls : List Bytes)
-    → readLines lineTests [] n s (bare (s .attributes) e ∷ ls) ≡ readLines lineTests [] (suc n) (withElement s e) ls
-element-line s e g h p n ls =
+pub element-line : (rest : Bytes) (s : Sofar) (e : Element) → Good s → GoodElement (s .attributes) e → Passes (elementTests s (wordText (e .word)) e) → (n : ℕ) (ls : List Bytes)
+    → readLines lineTests rest n s (bare (s .attributes) e ∷ ls) ≡ readLines lineTests rest (suc n) (withElement s e) ls
+element-line rest s e g h p n ls =
     let attrs = s .attributes in
     let (pieces, is-tree) = bare-line attrs e (g .attributes-good) (g .few-attributes) h in
     let back = element-back attrs e (g .attributes-good) (g .few-attributes) h (p .1 .1 .1 .1 .0) in
     let count = masks-back attrs (e .masks) (g .attributes-good) (h .masked) .count in
     let fields : wrongFields s (elementFields attrs e) (lineFor attrs e) ≡ false = rw (element-fields attrs e (g .attributes-good) h, eq-eqb (length (targetTexts attrs (e .masks))) (length attrs) count) in
     let passes : PassesLine lineTests line-numbered s (elementFields attrs e) (lineFor attrs e) = (fields, subst⁻¹ (λ x. Passes (elementTests s (wordText (e .word)) x)) back p) in
-    read-step⁻ lineTests line-numbered [] n s (bare attrs e) ls (rw (pieces, is-tree) passes)
-    ∙ ap (λ x. readLines lineTests [] (suc n) (extended s x) ls) (ap lineOf pieces ∙ is-tree)
-    ∙ ap (λ x. readLines lineTests [] (suc n) (withElement s x) ls) back
+    read-step⁻ lineTests line-numbered rest n s (bare attrs e) ls (rw (pieces, is-tree) passes)
+    ∙ ap (λ x. readLines lineTests rest (suc n) (extended s x) ls) (ap lineOf pieces ∙ is-tree)
+    ∙ ap (λ x. readLines lineTests rest (suc n) (withElement s x) ls) back
 
 elements-back : (m : ℕ) (s : Sofar) (es : List Element) (z : Sofar) → Good s → All Shaped es → readElements m s es ≡ given z → ElementsBack s es z
 elements-back m s [] z g shaped h = record { elements-good = tt; lines-read = λ n. h }
@@ -131,7 +134,7 @@ elements-back m s (e ∷ es) z g shaped h =
     let later = elements-back (suc m) (withElement s e) es z next (shaped .1) r in
     record {
       elements-good = (next .elements-good .0, later .elements-good);
-      lines-read = λ n. element-line s e g (next .elements-good .0) p n (map (bare (s .attributes)) es) ∙ later .lines-read (suc n);
+      lines-read = λ n. element-line [] s e g (next .elements-good .0) p n (map (bare (s .attributes)) es) ∙ later .lines-read (suc n);
     }
 
 -- The attribute lines that the writer read: a file reads them alike
@@ -202,7 +205,7 @@ tree-lines : (attrs : List Attribute) (es : List Element) → treeText attrs es 
 tree-lines attrs [] = refl
 tree-lines attrs (e ∷ es) = ap (λ x. line (elementFields attrs e) ++ x) (tree-lines attrs es)
 
-lines-free : (attrs : List Attribute) (es : List Element) → All GoodAttribute attrs → All (GoodElement attrs) es → Frees newline (map (bare attrs) es)
+pub lines-free : (attrs : List Attribute) (es : List Element) → All GoodAttribute attrs → All (GoodElement attrs) es → Frees newline (map (bare attrs) es)
 lines-free attrs [] g h = tt
 lines-free attrs (e ∷ es) g h = (join-free newline tab (elementFields attrs e) refl (fields-free newline (elementFields attrs e) refl (element-fields attrs e g (h .0))), lines-free attrs es g (h .1))
 

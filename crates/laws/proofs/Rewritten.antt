@@ -15,7 +15,7 @@ use Rattle.meaning.specs.Model.{Attribute, Policy, given, wordText, words}
 use Rattle.meaning.specs.Reading.{Line, attributeLine, treeLine, otherLine, lineOf, depthOf, wordOf, targetOf, orEmpty, masksOf, orPermit, elementOf, Sofar, wellPlaced, badMasks, elementTests, lineTests, lowest, withElement, extended, readLines, read}
 use Rattle.meaning.specs.Report.{fitted}
 use Rattle.meaning.specs.Writing.{headerTests, readElements, targetTexts, elementFields, writeFile}
-use Rattle.meaning.specs.Claims.{attributeLine as isAttribute, attributeLines}
+use Rattle.meaning.specs.Claims.Writing.{attributeLine as isAttribute, attributeLines}
 use Rattle.laws.proofs.Bools.{Test, passed, failed, test, contradiction, or-false, and-true}
 use Rattle.laws.proofs.Text.{join-cut, Frees, cut-frees}
 use Rattle.laws.proofs.Reading.{given-given, step-unless, passes-lowest, line-numbered, PassesLine, read-step, read-step⁻, read-text, short-text, finished-some, Accepted, accepted}
@@ -25,7 +25,7 @@ use Rattle.laws.proofs.Fields.{digit}
 use Rattle.laws.proofs.Bounds.{placed-depth, masks-good, padded-name, header-numbered}
 
 -- A depth, a word and the targets that passed are written as they were read
-depth-again : (d : Bytes) → depthOf d ≤ 7 → decimal (depthOf d) ≡ d
+pub depth-again : (d : Bytes) → depthOf d ≤ 7 → decimal (depthOf d) ≡ d
 depth-again [] h = absurd (omega arith)
 depth-again (x ∷ []) h = go (test (between 48 55 x))
   where
@@ -45,7 +45,7 @@ word-again k w h = go (wordOf k w) refl h
     go none e h = contradiction refl h
     go (some x) e h = spelled-some wordText w (words k) x e
 
-targets-again : (attrs : List Attribute) (ts : List Bytes) (zs : List ℕ) → length ts ≡ length attrs → badMasks attrs (masksOf attrs ts ++ zs) ≡ false → targetTexts attrs (masksOf attrs ts ++ zs) ≡ ts
+pub targets-again : (attrs : List Attribute) (ts : List Bytes) (zs : List ℕ) → length ts ≡ length attrs → badMasks attrs (masksOf attrs ts ++ zs) ≡ false → targetTexts attrs (masksOf attrs ts ++ zs) ≡ ts
 targets-again [] [] zs e h = refl
 targets-again [] (t ∷ ts) zs e h = absurd (omega (arith, e))
 targets-again (a ∷ attrs) [] zs e h = absurd (omega (arith, e))
@@ -63,10 +63,10 @@ treeText attrs es = gathered (λ e. line (elementFields attrs e)) es
 
 -- A tree line that passed is the line that its element is written as
 module _ (s : Sofar) (k : Kind) (d n w : Bytes) (ts : List Bytes) where
-  abbrev el : Element
+  abbrev pub el : Element
   el = elementOf (s .attributes) k d n w ts
 
-  fields-again : (fs : List Bytes) → lineOf fs ≡ treeLine k d n w ts → PassesLine lineTests line-numbered s fs (treeLine k d n w ts) → elementFields (s .attributes) el ≡ fs
+  pub fields-again : (fs : List Bytes) → lineOf fs ≡ treeLine k d n w ts → PassesLine lineTests line-numbered s fs (treeLine k d n w ts) → elementFields (s .attributes) el ≡ fs
   fields-again fs e (f2, (f3, (f4, (f5, (f6, (f7, (f8, f))))))) =
       let placed = or-false (empty (s .attributes)) (not (wellPlaced k (depthOf d) (s .before))) f6 .1 in
       let counted = or-false (not (all isField fs)) (not (eqb (length ts) (length (s .attributes)))) f2 .1 in
@@ -122,10 +122,10 @@ tree-again n s (l ∷ ls) z b h =
     go otherLine e (f2, f) later = contradiction refl (or-false (not (all isField (cut tab l))) true f2 .1)
 
 -- and the attribute lines before them, which the writer reads alike
-abbrev only : List Attribute → Sofar
+abbrev pub only : List Attribute → Sofar
 only attrs = record { attributes = attrs; before = [] }
 
-record Whole (n : ℕ) (attrs : List Attribute) (ls : List Bytes) (z : Sofar) : Type 0 where
+pub record Whole (n : ℕ) (attrs : List Attribute) (ls : List Bytes) (z : Sofar) : Type 0 where
   pub fields-same : map (cut tab) ls ≡ map (cut tab) (keep isAttribute ls) ++ map (elementFields (z .attributes)) (reverse (z .before))
   pub header-read : readLines headerTests [] n (only attrs) (keep isAttribute ls) ≡ given (only (z .attributes))
   pub taken : (n : ℕ) → readElements n (only (z .attributes)) (reverse (z .before)) ≡ given z
@@ -139,7 +139,7 @@ from-tree n attrs ls z t =
       taken = λ m. cc (k .elements-added, k .attributes-stay, t .taken m);
     }
 
-whole-again : (n : ℕ) (attrs : List Attribute) (ls : List Bytes) (z : Sofar) → readLines lineTests [] n (only attrs) ls ≡ given z → Whole n attrs ls z
+pub whole-again : (n : ℕ) (attrs : List Attribute) (ls : List Bytes) (z : Sofar) → readLines lineTests [] n (only attrs) ls ≡ given z → Whole n attrs ls z
 whole-again n attrs [] z h = from-tree n attrs [] z (record { more = []; no-attributes = refl; fields-same = refl; taken = λ m. h })
 whole-again n attrs (l ∷ ls) z h =
     let (p, r) = read-step lineTests line-numbered [] n (only attrs) l ls z h in
@@ -168,7 +168,7 @@ pub gathered-map : {A B C : Type 0} (f : B → List C) (g : A → B) (xs : List 
 gathered-map f g [] = refl
 gathered-map f g (x ∷ xs) = ap (λ zs. f (g x) ++ zs) (gathered-map f g xs)
 
-unlines-fields : (ls : List Bytes) → unlines ls ≡ gathered line (map (cut tab) ls)
+pub unlines-fields : (ls : List Bytes) → unlines ls ≡ gathered line (map (cut tab) ls)
 unlines-fields [] = refl
 unlines-fields (l ∷ ls) = rw (join-cut tab l, unlines-fields ls)
 

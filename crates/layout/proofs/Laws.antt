@@ -12,7 +12,7 @@ use borrow.Author.Tests.{eq-eqb}
 use Rattle.meaning.specs.Text.{Bytes}
 use Rattle.meaning.specs.Model.{padded, nameOf, Policy}
 use Rattle.meaning.specs.Deciding.{matches, childReplies, firstDecision, decide}
-use Rattle.meaning.specs.Claims.{All}
+use Rattle.meaning.specs.Claims.Texts.{All}
 use Rattle.decisions.specs.Table.{wordAt, elementAt, left, before}
 use Rattle.laws.proofs.Types.{rule, Element}
 use Rattle.layout.specs.declared.Attributes.{Attributes}

@@ -9,7 +9,7 @@ use lib.Seq.{length-take-le}
 use borrow.Author.Tests.{leb-true}
 use Rattle.meaning.specs.Model.{Policy, Result, refused, given}
 use Rattle.meaning.specs.Reading.{read}
-use Rattle.meaning.specs.Claims.{GoodElement}
+use Rattle.laws.proofs.Bounds.{GoodElement}
 use Rattle.laws.proofs.Bools.{and-true}
 use Rattle.laws.proofs.Bounds.{bounded, all-reverse, named}
 use Rattle.layout.specs.Places.{startOf, nameIn, elementIn, elementsTo, Naming}

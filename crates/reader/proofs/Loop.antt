@@ -10,7 +10,7 @@ use borrow.Author.Tests.{le-ltb, lt-ltb}
 use Rattle.meaning.specs.Text.{Bytes, cut, newline, tab}
 use Rattle.meaning.specs.Model.{Policy, Result, refused, given, _then_}
 use Rattle.meaning.specs.Reading.{Line, attributeLine, treeLine, otherLine, lineOf, Sofar, wrongFields, lineTests, extended, nothing, finished, read}
-use Rattle.meaning.specs.Claims.{All}
+use Rattle.meaning.specs.Claims.Texts.{All}
 use Rattle.layout.specs.Places.{part}
 use Rattle.reader.specs.declared.State.{State}
 use Rattle.reader.specs.declared.Reading.{Reading}

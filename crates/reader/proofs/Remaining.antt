@@ -11,7 +11,7 @@ use borrow.Author.Tests.{eq-eqb, ne-eqb}
 use Rattle.meaning.specs.Text.{Bytes, empty, front, last, cut, newline, tab}
 use Rattle.meaning.specs.Model.{Result, refused, given, unless}
 use Rattle.meaning.specs.Reading.{Line, lineOf, Sofar, Tests, lowest, extended, readLines}
-use Rattle.meaning.specs.Claims.{All}
+use Rattle.meaning.specs.Claims.Texts.{All}
 use Rattle.laws.proofs.Bools.{Test, passed, failed, test}
 use Rattle.laws.proofs.Text.{Some, one-or-more, cut-some}
 use Rattle.text.proofs.Pieces.{piece-rest, piece-more}

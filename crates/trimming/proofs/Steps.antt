@@ -13,7 +13,7 @@ use Rattle.meaning.specs.Model.{nameOf, Policy, given}
 use Rattle.meaning.specs.Reading.{read}
 use Rattle.meaning.specs.Trimming.{lines, isRuleLine, nameAt, strike, firstChange, needless}
 use Rattle.meaning.specs.Report.{nameIn}
-use Rattle.meaning.specs.Claims.{isRule}
+use Rattle.meaning.specs.Claims.Trimming.{isRule}
 use Rattle.laws.proofs.Bools.{contradiction, and-true}
 use Rattle.laws.proofs.Reading.{accepted}
 use Rattle.laws.proofs.Lines.{unlines, text-unlines}

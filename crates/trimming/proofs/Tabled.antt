@@ -14,7 +14,8 @@ use Rattle.meaning.specs.Model.{Policy, sizes, product, given}
 use Rattle.meaning.specs.Reading.{read}
 use Rattle.meaning.specs.Deciding.{requestOf, outcome, decide}
 use Rattle.meaning.specs.Segments.{depthAt}
-use Rattle.meaning.specs.Claims.{All, isRule}
+use Rattle.meaning.specs.Claims.Texts.{All}
+use Rattle.meaning.specs.Claims.Trimming.{isRule}
 use Rattle.laws.proofs.Children.{accepted-steps, no-deeper}
 use Rattle.laws.proofs.ElementKinds.{isEffect, WordFits, kinds}
 use Rattle.decisions.specs.Table.{wordAt, depthOf, elementAt, Leaves}

@@ -12,7 +12,7 @@ use Rattle.meaning.specs.Model.{Policy, given}
 use Rattle.meaning.specs.Reading.{read}
 use Rattle.meaning.specs.Trimming.{isRuleLine, nameAt, ruleLines, trimmed}
 use Rattle.meaning.specs.Report.{nameIn, keptLine}
-use Rattle.meaning.specs.Claims.{Trims, none-left, last-struck}
+use Rattle.meaning.specs.Claims.Trimming.{Trims, none-left, last-struck}
 use Rattle.laws.proofs.Trimming.{next-none, next-last, rule-needed, trimmed-steps, steps-end, steps-settle}
 use Rattle.trimming.specs.Flags.{Clear, leftFrom, leftPolicy, textLeft, firstChangeAt, keptAt, nextAt, trimmingAt, keptPlaces, keptLineAt}
 use Rattle.trimming.proofs.Left.{left-all, left-within, left-fewer}

@@ -12,7 +12,7 @@ use Rattle.meaning.specs.Model.{Policy, space}
 use Rattle.meaning.specs.Deciding.{sameOutcome, outcome}
 use Rattle.meaning.specs.Trimming.{lines}
 use Rattle.meaning.specs.Report.{nameIn}
-use Rattle.meaning.specs.Claims.{isRule}
+use Rattle.meaning.specs.Claims.Trimming.{isRule}
 use Rattle.flags.specs.Decided.{Struck, onward}
 
 -- place i is left: its flag is 0

@@ -12,7 +12,7 @@ use Rattle.meaning.specs.Reading.{Sofar, short, readText, finished}
 use Rattle.meaning.specs.Report.{fitted}
 use Rattle.meaning.specs.Writing.{headerTests, readElements, elementFields, writeFile}
 use Rattle.meaning.specs.Operations.{answered, lent, writeAnswer, writeLent}
-use Rattle.meaning.specs.Claims.{All}
+use Rattle.meaning.specs.Claims.Texts.{All}
 use Rattle.laws.proofs.Reading.{short-given}
 use Rattle.laws.proofs.Rewritten.{elements-taken}
 use Rattle.laws.proofs.GoodLists.{Small, taken-small, taken-few}

@@ -1,0 +1,73 @@
+-- A request matches an element's target if each attribute's value is marked in its mask.
+use mathlib.Core.Path.{_≡_, refl, sym, ap, _∙_, subst}
+use mathlib.Core.Logic.{_↔_}
+use Prim.Native.Nat.{ℕ, zero, suc, _+_, _*_, _/_, _%_, _^_, _≤_, _<_}
+use native.Mathlib.Omega.{arith}
+use native.Mathlib.Nat.{pow-succ'}
+use mathlib.Core.Bool.{Bool, true, false, cond, _&&_}
+use mathlib.Core.List.{List, [], _∷_, List·Memᴰ, List·Memᴰ·head, List·Memᴰ·tail}
+use lib.ListN.{length, getD}
+use lib.Dec.{eqb}
+use lib.Pow.{pow-pos, shr-shr}
+use borrow.Author.Tests.{eq-eqb, ne-eqb}
+use Rattle.meaning.specs.Text.{Bytes}
+use Rattle.meaning.specs.Model.{Attribute, Policy, sizes, space, given}
+use Rattle.meaning.specs.Reading.{full, badMasks, read}
+use Rattle.meaning.specs.Deciding.{Request, requestOf, bit, within, hits}
+use Rattle.meaning.specs.Claims.Texts.{All}
+use Rattle.meaning.specs.Claims.PolicyFile.{GoodAttribute, marksMask}
+use Rattle.meaning.specs.Claims.Requests.{Fits, InField, InTarget, Matched}
+use Rattle.laws.proofs.Bounds.{GoodElement}
+use Rattle.laws.proofs.Types.{Element}
+use Rattle.laws.proofs.Bools.{contradiction, and-true}
+use Rattle.laws.proofs.Bounds.{masks-good, bounded}
+use Rattle.laws.proofs.Bits.{bit-zero, bit-down}
+use Rattle.laws.proofs.Marks.{marksOf, marks-mask}
+use Rattle.laws.proofs.RequestLines.{numbered}
+
+-- A mask's bit is its mark
+mark-bit : (bs : List Bool) (v : ℕ) → bit (marksMask bs) v ≡ getD bs v false
+mark-bit [] v = bit-zero v
+mark-bit (true ∷ bs) zero = let odd : (1 + 2 * marksMask bs) / 1 % 2 ≡ 1 = omega arith in eq-eqb ((1 + 2 * marksMask bs) / 1 % 2) 1 odd
+mark-bit (false ∷ bs) zero = let even : (0 + 2 * marksMask bs) / 1 % 2 ≡ 0 = omega arith in ne-eqb ((0 + 2 * marksMask bs) / 1 % 2) 1 (omega arith)
+mark-bit (true ∷ bs) (suc v) = let half : (1 + 2 * marksMask bs) / 2 ≡ marksMask bs = omega arith in next (1 + 2 * marksMask bs) v ∙ ap (λ m. bit m v) half ∙ mark-bit bs v
+  where
+    next : (m v : ℕ) → bit m (suc v) ≡ bit (m / 2) v
+    next m v = let e : suc v ≡ 1 + v = omega arith in ap (bit m) e ∙ sym (bit-down m 1 v)
+mark-bit (false ∷ bs) (suc v) = let half : (0 + 2 * marksMask bs) / 2 ≡ marksMask bs = omega arith in next (0 + 2 * marksMask bs) v ∙ ap (λ m. bit m v) half ∙ mark-bit bs v
+  where
+    next : (m v : ℕ) → bit m (suc v) ≡ bit (m / 2) v
+    next m v = let e : suc v ≡ 1 + v = omega arith in ap (bit m) e ∙ sym (bit-down m 1 v)
+
+field-in : (mask v : ℕ) → InField mask v → bit mask v ≡ true
+field-in mask v (marks, e, h) = ap (λ m. bit m v) e ∙ mark-bit marks v ∙ h
+
+in-field : (vs : List Bytes) (mask v : ℕ) → mask ≤ full vs → bit mask v ≡ true → InField mask v
+in-field vs mask v l h =
+    let e = marks-mask vs mask (omega (arith, pow-pos (length vs))) in
+    (marksOf vs mask, e, sym (mark-bit (marksOf vs mask) v) ∙ ap (λ m. bit m v) (sym e) ∙ h)
+
+target-in : (ms : List ℕ) (q : Request) → InTarget ms q → within ms q ≡ true
+target-in ms [] t = refl
+target-in [] (v ∷ vs) t = absurd t
+target-in (m ∷ ms) (v ∷ vs) t = rw (field-in m v (t .0)) (target-in ms vs (t .1))
+
+in-target : (attrs : List Attribute) (ms : List ℕ) (q : Request) → Fits (sizes attrs) q → badMasks attrs ms ≡ false → within ms q ≡ true → InTarget ms q
+in-target [] ms [] f b h = tt
+in-target [] ms (v ∷ vs) f b h = absurd f
+in-target (a ∷ attrs) ms [] f b h = absurd f
+in-target (a ∷ attrs) [] (v ∷ vs) f b h = contradiction refl b
+in-target (a ∷ attrs) (m ∷ ms) (v ∷ vs) f b h =
+    let g = masks-good a attrs m ms b in
+    let (own, others) = and-true (bit m v) (within ms vs) h in
+    (in-field (a .values) m v (g .no-high-bit) own, in-target attrs ms vs (f .1) (g .others) others)
+
+one-good : (attrs : List Attribute) (e : Element) {es : List Element} → List·Memᴰ e es → All (GoodElement attrs) es → badMasks attrs (e .masks) ≡ false
+one-good attrs e (List·Memᴰ·head {x = x} {xs = xs} i) g = ap (λ y. badMasks attrs (y .masks)) i ∙ g .0 .masked
+one-good attrs e (List·Memᴰ·tail {x = x} {xs = xs} m) g = one-good attrs e m (g .1)
+
+pub matched : (f : Bytes) (p : Policy) → read f ≡ given p → Matched p
+matched f p h =
+    let b = bounded f p h in
+    let numbers = numbered (p .attributes) (b .some-attribute) (b .attributes-good) in
+    λ n l e m. (λ t. in-target (p .attributes) (e .masks) (requestOf (sizes (p .attributes)) n) (numbers .number-again n l .0) (one-good (p .attributes) e m (b .elements-good)) t, target-in (e .masks) (requestOf (sizes (p .attributes)) n))

@@ -1,0 +1,69 @@
+-- All claims together, that whoever meets them gives what is defined, and the tools that they shut out.
+use mathlib.Core.Path.{_≡_}
+use mathlib.Core.Logic.{_≢_, _↔_}
+use Prim.Native.Nat.{ℕ, _<_}
+use mathlib.Core.Bool.{not}
+use mathlib.Core.List.{List, [], List·Memᴰ}
+use Rattle.meaning.specs.Text.{Bytes, keep, join, newline}
+use Rattle.meaning.specs.Model.{Word, Element, Policy, space, Result, refused, given}
+use Rattle.meaning.specs.Reading.{read}
+use Rattle.meaning.specs.Deciding.{Reply, combined, Outcome, outcome, decideFile}
+use Rattle.meaning.specs.Trimming.{lines, ruleLine, strike, Trimmed, trimmed}
+use Rattle.meaning.specs.Segments.{segments, segmentSize, Conflict, conflicts}
+use Rattle.meaning.specs.Report.{report}
+use Rattle.meaning.specs.Writing.{writeFile}
+use Rattle.meaning.specs.Claims.Texts.{All, Texts}
+use Rattle.meaning.specs.Claims.PolicyFile.{WellFormed, Reads}
+use Rattle.meaning.specs.Claims.Refusals.{Refuses}
+use Rattle.meaning.specs.Claims.Writing.{Shaped, RoundTrips, Made}
+use Rattle.meaning.specs.Claims.Requests.{Numbered, Matched}
+use Rattle.meaning.specs.Claims.Standard.{standard}
+use Rattle.meaning.specs.Claims.Deciding.{Parented, Standardly, Decides}
+use Rattle.meaning.specs.Claims.Segments.{Segmented, Conflicting, ConflictsListed}
+use Rattle.meaning.specs.Claims.Trimming.{Lines, Needless, Meets}
+use Rattle.meaning.specs.Claims.Operations.{Operations, Prints}
+
+-- Whoever meets these claims gives just what is defined: every wrong tool is shut out
+pub record Settled : Type 0 where
+  pub segmented : (p : Policy) (firsts : List ℕ) (size : ℕ → ℕ) → Segmented firsts size p → (firsts ≡ segments p) × ((s : ℕ) → List·Memᴰ s firsts → size s ≡ segmentSize p s)
+  pub listed : (p : Policy) (cs : List Conflict) → ConflictsListed cs p → cs ≡ conflicts p
+  pub trimmed-so : (trim : Bytes → Trimmed) (tell : Bytes → Policy → Bytes) → Meets trim tell → (f : Bytes) (p : Policy) → read f ≡ given p → trim f ≡ trimmed f
+  pub reported-so : (trim : Bytes → Trimmed) (tell : Bytes → Policy → Bytes) → Meets trim tell → (f : Bytes) (p : Policy) → read f ≡ given p → tell f p ≡ report f p
+
+-- The tools that the paper shuts out by name do not meet their claims, whatever else they give: one that hands the file back
+-- untrimmed, strikes one rule and stops, or strikes all rules; one decision for all requests, no conflicts, an invented count;
+-- all files refused
+abbrev pub ruleless : Bytes → Bytes
+ruleless f = join newline (keep (λ l. not (ruleLine l)) (lines f))
+
+pub record ShutOut : Type 0 where
+  pub untrimmed : (trim : Bytes → Trimmed) (tell : Bytes → Policy → Bytes) → Meets trim tell → (f : Bytes) (p : Policy) (k : ℕ) → read f ≡ given p → Needless f k → trim f .text ≢ f
+  pub one-struck : (trim : Bytes → Trimmed) (tell : Bytes → Policy → Bytes) → Meets trim tell → (f : Bytes) (p : Policy) (k j : ℕ) → read f ≡ given p → Needless (strike k f) j → trim f .text ≢ strike k f
+  pub all-struck : (trim : Bytes → Trimmed) (tell : Bytes → Policy → Bytes) → Meets trim tell → (f : Bytes) (p : Policy) (r : Bytes) → read f ≡ given p → decideFile (ruleless f) r ≢ decideFile f r → trim f .text ≢ ruleless f
+  pub one-decision : (tool : Bytes → Bytes → Result Outcome) (f : Bytes) (p : Policy) (n m : ℕ) → n < space (p .attributes) → m < space (p .attributes) → outcome p n ≢ outcome p m
+      → Decides tool f p → (d : Outcome) → ((r : Bytes) → tool f r ≡ given d) → ⊥
+  pub no-conflicts : (p : Policy) (c : Conflict) → Conflicting p c → ConflictsListed [] p → ⊥
+  pub invented-count : (p : Policy) (firsts : List ℕ) (size : ℕ → ℕ) (s : ℕ) → List·Memᴰ s firsts → size s ≢ segmentSize p s → Segmented firsts size p → ⊥
+  pub all-refused : (tool : Bytes → Result Policy) (f : Bytes) (p : Policy) → WellFormed f p → Reads tool → (n m : ℕ) → tool f ≢ refused n m
+
+-- All of it, of every file, or of every accepted one
+pub record Promises : Type 0 where
+  pub texts : Texts
+  pub acceptance : Reads read
+  pub refusals : (f : Bytes) (n m : ℕ) → read f ≡ refused n m ↔ Refuses f n m
+  pub round-trips : RoundTrips
+  pub writing : (room : ℕ) (header : Bytes) (es : List Element) (t : Bytes) → All Shaped es → writeFile room header es ≡ given t ↔ Made room header es t
+  pub numbers : (f : Bytes) (p : Policy) → read f ≡ given p → Numbered (p .attributes)
+  pub targets : (f : Bytes) (p : Policy) → read f ≡ given p → Matched p
+  pub appendix-C : (w : Word) (rs : List Reply) → combined w rs ≡ standard w rs
+  pub parents : (f : Bytes) (p : Policy) → read f ≡ given p → Parented p
+  pub decisions : (f : Bytes) (p : Policy) → read f ≡ given p → Standardly p
+  pub deciding : (f : Bytes) (p : Policy) → read f ≡ given p → Decides decideFile f p
+  pub segmenting : (f : Bytes) (p : Policy) → read f ≡ given p → Segmented (segments p) (segmentSize p) p
+  pub conflicting : (f : Bytes) (p : Policy) → read f ≡ given p → ConflictsListed (conflicts p) p
+  pub file-lines : (f : Bytes) (p : Policy) (w : WellFormed f p) → Lines f (w .rows)
+  pub trimming : Meets trimmed report
+  pub settled : Settled
+  pub shut-out : ShutOut
+  pub operations : Operations
+  pub printing : Prints

@@ -1,0 +1,75 @@
+-- The paper's table of refusals, row by row, said of a text and two numbers.
+use mathlib.Core.Path.{_≡_}
+use mathlib.Core.Logic.{_≢_, _⊎_}
+use Prim.Native.Nat.{ℕ, suc, _+_, _≤_, _<_}
+use mathlib.Core.Bool.{true, false}
+use mathlib.Core.List.{List, [], _∷_, _++_, map, reverse, List·Memᴰ}
+use lib.ListN.{length, getD, drop}
+use Rattle.meaning.specs.Text.{Bytes, bytes, all, gathered, repeated, cut, join, newline, tab, line, isField, isName}
+use Rattle.meaning.specs.Model.{Kind, Word, Attribute, Element, nameOf, space, kindText, wordText}
+use Rattle.meaning.specs.Claims.PolicyFile.{Allowed, Targets, PlacedAt, attributeNames, GoodLines}
+
+-- Refused: the table's rows 2 to 8 on a line, by its fields, behind lines that break no rule, of these attributes and elements,
+-- the nearest first. A row's condition on an attribute line and on a tree line
+abbrev pub On : (Attribute → Type 0) → (Kind → Bytes → Bytes → Bytes → List Bytes → Type 0) → List Bytes → Type 0
+On A T fs = ((getD fs 0 [] ≡ bytes "A") × A (record { name = getD fs 1 []; values = drop 2 fs }))
+    ⊎ ((k : Kind) × (getD fs 0 [] ≡ kindText k) × T k (getD fs 1 []) (getD fs 2 []) (getD fs 3 []) (drop 4 fs))
+
+-- empty line or field, other byte; first field not A, S, P or R; field count under 3 (A), or not 4 plus the attributes so far
+abbrev pub BadFields : List Attribute → List Bytes → Type 0
+BadFields attrs fs = (all isField fs ≡ false)
+    ⊎ (((getD fs 0 [] ≢ bytes "A") × ((k : Kind) → getD fs 0 [] ≢ kindText k))
+    ⊎ (((getD fs 0 [] ≡ bytes "A") × (length fs < 3))
+    ⊎ ((k : Kind) × (getD fs 0 [] ≡ kindText k) × (length fs ≢ 4 + length attrs))))
+
+-- a name used before among the attributes, a value twice; attribute 7, value 17, space over 4,096
+abbrev pub Used : List Attribute → Attribute → Type 0
+Used attrs a = List·Memᴰ (a .name) (attributeNames attrs) ⊎ (repeated (a .values) ≡ true)
+
+abbrev pub TooMany : List Attribute → Attribute → Type 0
+TooMany attrs a = (6 ≤ length attrs) ⊎ ((16 < length (a .values)) ⊎ (4096 < space (attrs ++ (a ∷ []))))
+
+-- tree line before any A, bad depth, place or parent; a word not allowed for its kind; a bad target
+abbrev pub BadPlace : List Attribute → List Element → Kind → Bytes → Type 0
+BadPlace attrs before k d = (length attrs ≡ 0) ⊎ ((x : ℕ) → x ≤ 7 → d ≡ (48 + x) ∷ [] → PlacedAt before k x → ⊥)
+
+abbrev pub BadWord : Kind → Bytes → Type 0
+BadWord k w = (v : Word) → Allowed k v → w ≢ wordText v
+
+abbrev pub BadTargets : List Attribute → List Bytes → Type 0
+BadTargets attrs ts = (ms : List ℕ) → Targets attrs ts ms → ⊥
+
+abbrev pub tableRows : (unended : Type 0) → List Attribute → List Element → List Bytes → List (ℕ × Type 0)
+tableRows unended attrs before fs =
+    (2, unended ⊎ BadFields attrs fs)
+    ∷ (3, On (λ a. all isName (a .name ∷ a .values) ≡ false) (λ k d n w ts. isName n ≡ false) fs)
+    ∷ (4, On (Used attrs) (λ k d n w ts. List·Memᴰ n (map nameOf before)) fs)
+    ∷ (5, On (TooMany attrs) (λ k d n w ts. 64 ≤ length before) fs)
+    ∷ (6, On (λ a. 1 ≤ length before) (λ k d n w ts. BadPlace attrs before k d) fs)
+    ∷ (7, On (λ a. ⊥) (λ k d n w ts. BadWord k w) fs)
+    ∷ (8, On (λ a. ⊥) (λ k d n w ts. BadTargets attrs ts) fs)
+    ∷ []
+
+-- n is the lowest number whose row holds
+abbrev pub Lowest : ℕ → List (ℕ × Type 0) → Type 0
+Lowest n [] = ⊥
+Lowest n (r ∷ rs) = (r .1 × (n ≡ r .0)) ⊎ ((r .1 → ⊥) × Lowest n rs)
+
+-- The first bad line: those before it break no rule. What stands behind the last newline is a line too, where it is not empty
+pub record BadLine (f : Bytes) (n m : ℕ) : Type 0 where
+  pub before : List (List Bytes)
+  pub bad : Bytes
+  pub after : List Bytes
+  pub are : cut newline f ≡ map (join tab) before ++ (bad ∷ after)
+  pub is-line : bad ≡ [] → 1 ≤ length after
+  pub attributes : List Attribute
+  pub elements : List Element
+  pub good : GoodLines before attributes elements
+  pub number : Lowest n (tableRows (length after ≡ 0) attributes (reverse elements) (cut tab bad))
+  pub second : m ≡ suc (length before)
+
+-- Reading tests 1, then lines from the top, then 9
+abbrev pub Refuses : Bytes → ℕ → ℕ → Type 0
+Refuses f n m = ((16384 < length f) × (n ≡ 1) × (m ≡ 0))
+    ⊎ (((length f ≤ 16384) × BadLine f n m)
+    ⊎ ((length f ≤ 16384) × (rows : List (List Bytes)) × (attrs : List Attribute) × (f ≡ gathered line rows) × GoodLines rows attrs [] × (n ≡ 9) × (m ≡ 0)))

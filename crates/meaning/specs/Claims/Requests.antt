@@ -1,0 +1,61 @@
+-- Requests: their numbers and lines, and which targets they match.
+use mathlib.Core.Path.{_≡_}
+use mathlib.Core.Logic.{_≢_, _⊎_, _↔_}
+use Prim.Native.Nat.{ℕ, suc, _+_, _%_, _<_}
+use mathlib.Core.Bool.{Bool, true, false}
+use mathlib.Core.List.{List, [], _∷_, map, List·Memᴰ}
+use lib.ListN.{length, getD}
+use Rattle.meaning.specs.Text.{Bytes, cut, join, tab}
+use Rattle.meaning.specs.Model.{Attribute, Element, Policy, sizes, space, refused, given}
+use Rattle.meaning.specs.Deciding.{Request, numberOf, requestOf, nextRequest, requestLine, hits}
+use Rattle.meaning.specs.Claims.PolicyFile.{marksMask}
+
+-- One value number for each attribute, counted from 0, below its count
+abbrev pub Fits : List ℕ → Request → Type 0
+Fits [] [] = Unit {0}
+Fits [] (v ∷ vs) = ⊥
+Fits (s ∷ ss) [] = ⊥
+Fits (s ∷ ss) (v ∷ vs) = (v < s) × Fits ss vs
+
+-- As a line: the value names parted by tabs
+abbrev pub requestFields : List Attribute → Request → List Bytes
+requestFields [] vs = []
+requestFields (a ∷ attrs) [] = []
+requestFields (a ∷ attrs) (v ∷ vs) = getD (a .values) v [] ∷ requestFields attrs vs
+
+abbrev pub requestText : List Attribute → Request → Bytes
+requestText attrs q = join tab (requestFields attrs q)
+
+-- one request before another: a lower value in the first attribute that differs
+abbrev pub Earlier : Request → Request → Type 0
+Earlier [] r = ⊥
+Earlier (v ∷ vs) [] = ⊥
+Earlier (v ∷ vs) (w ∷ ws) = (v < w) ⊎ ((v ≡ w) × Earlier vs ws)
+
+-- field i is a value of attribute i, both from 0
+abbrev pub ValueAt : List Attribute → List Bytes → ℕ → Type 0
+ValueAt attrs fs i = List·Memᴰ (getD fs i []) (getD (map (λ a. a .values) attrs) i [])
+
+-- Numbers below the space and requests, one for the other, in order; a line for each of them, and 10 for any other
+pub record Numbered (attrs : List Attribute) : Type 0 where
+  pub number-again : (n : ℕ) → n < space attrs → Fits (sizes attrs) (requestOf (sizes attrs) n) × (numberOf (sizes attrs) (requestOf (sizes attrs) n) ≡ n)
+  pub request-again : (q : Request) → Fits (sizes attrs) q → (numberOf (sizes attrs) q < space attrs) × (requestOf (sizes attrs) (numberOf (sizes attrs) q) ≡ q)
+  pub rising : (q r : Request) → Fits (sizes attrs) q → Fits (sizes attrs) r → Earlier q r → numberOf (sizes attrs) q < numberOf (sizes attrs) r
+  pub next-number : (q : Request) → numberOf (sizes attrs) (nextRequest (sizes attrs) q) ≡ (numberOf (sizes attrs) q + 1) % space attrs
+  pub to-line : (q : Request) → Fits (sizes attrs) q → requestLine attrs (requestText attrs q) ≡ given q
+  pub by-line : (r : Bytes) (q : Request) → requestLine attrs r ≡ given q → Fits (sizes attrs) q × (r ≡ requestText attrs q)
+  pub wrong-count : (r : Bytes) → length (cut tab r) ≢ length attrs → requestLine attrs r ≡ refused 10 0
+  pub no-value : (r : Bytes) (i : ℕ) → length (cut tab r) ≡ length attrs → i < length attrs
+      → ((j : ℕ) → j < i → ValueAt attrs (cut tab r) j) → (ValueAt attrs (cut tab r) i → ⊥) → requestLine attrs r ≡ refused 10 (suc i)
+
+-- A request matches a target if each attribute's value is in that field: marked in its mask
+abbrev pub InField : ℕ → ℕ → Type 0
+InField mask v = (marks : List Bool) × (mask ≡ marksMask marks) × (getD marks v false ≡ true)
+
+abbrev pub InTarget : List ℕ → Request → Type 0
+InTarget ms [] = Unit {0}
+InTarget [] (v ∷ vs) = ⊥
+InTarget (m ∷ ms) (v ∷ vs) = InField m v × InTarget ms vs
+
+abbrev pub Matched : Policy → Type 0
+Matched p = (n : ℕ) → n < space (p .attributes) → (e : Element) → List·Memᴰ e (p .elements) → hits p n e ≡ true ↔ InTarget (e .masks) (requestOf (sizes (p .attributes)) n)
