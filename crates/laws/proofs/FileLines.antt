@@ -1,23 +1,22 @@
 -- The lines of a policy file by their fields: which are rules', their names, and what is left when one is struck.
 use mathlib.Core.Path.{_≡_, refl, sym, ap, _∙_, subst}
 use Prim.Native.Nat.{ℕ, zero, suc}
-use mathlib.Core.Bool.{true}
 use mathlib.Core.List.{List, [], _∷_, _++_, map, map-append, append-assoc}
 use lib.ListN.{length, getD, length-map}
 use Rattle.meaning.specs.Text.{Bytes, bytes, gathered, without, cut, join, newline, tab, line}
 use Rattle.meaning.specs.Model.{Attribute, Policy}
-use Rattle.meaning.specs.Trimming.{lines, fieldOf, strike}
+use Rattle.meaning.specs.Trimming.{lines, fieldOf}
 use Rattle.meaning.specs.Writing.{elementFields}
 use Rattle.meaning.specs.Claims.Texts.{All}
 use Rattle.meaning.specs.Claims.PolicyFile.{GoodAttribute, attributeFields, GoodLines, WellFormed}
 use Rattle.meaning.specs.Claims.Trimming.{Lines}
 use Rattle.laws.proofs.Types.{Element}
 use Rattle.laws.proofs.Text.{cut-join}
-use Rattle.laws.proofs.Lines.{unlines, join-unlines, cut-unlines}
+use Rattle.laws.proofs.Lines.{join-unlines, cut-unlines, rows-lines}
 use Rattle.laws.proofs.Fields.{fields-free, element-fields}
 use Rattle.laws.proofs.Bounds.{all-append, GoodElement}
 use Rattle.laws.proofs.TreeLines.{of-lines}
-use Rattle.laws.proofs.WellFormed.{text-cut, rows-lines, rows-free}
+use Rattle.laws.proofs.WellFormed.{text-cut, rows-free}
 use Rattle.laws.proofs.Reflects.{same-text}
 
 -- Each line is cut into its own fields

@@ -110,3 +110,13 @@ row-lowest (t ∷ ts) (r ∷ rs) n m (inr (unheld, l)) = go (test (t .1)) (row-l
     go : Test (t .1) → lowest ts ≡ n → lowest (t ∷ ts) ≡ n
     go (passed p) later = absurd (unheld (m .1 .holds p))
     go (failed p) later = rw p later
+
+-- the number of a row is not 0
+abbrev pub NumberedRows : List (ℕ × Type 0) → Type 0
+NumberedRows [] = Unit {0}
+NumberedRows (r ∷ rs) = (1 ≤ r .0) × NumberedRows rs
+
+pub row-number : (rs : List (ℕ × Type 0)) (n : ℕ) → NumberedRows rs → Lowest n rs → 1 ≤ n
+row-number [] n b l = absurd l
+row-number (r ∷ rs) n b (inl (x, e)) = omega (arith, b .0, e)
+row-number (r ∷ rs) n b (inr (x, l)) = row-number rs n (b .1) l

@@ -1,28 +1,24 @@
 -- The tests of a line and the rows of the paper's table: a test passes exactly if its row holds.
 use mathlib.Core.Path.{_≡_, refl, sym, ap, _∙_, subst}
-use mathlib.Core.Logic.{_≢_, _⊎_, inl, inr}
-use Prim.Native.Nat.{ℕ, zero, suc, _+_, _-_, _≤_, _<_, zero-le, suc-le-suc}
+use mathlib.Core.Logic.{inl, inr}
+use Prim.Native.Nat.{ℕ, _+_, _-_, _≤_}
 use native.Mathlib.Omega.{arith}
-use mathlib.Core.Bool.{Bool, true, false, not, _&&_, _||_, false≢true}
-use mathlib.Core.List.{List, [], _∷_, _++_, map, List·Memᴰ, Memᴰ·cast}
-use mathlib.Core.Option.{Option, none, some}
-use lib.ListN.{length, getD, take, drop, replicate}
-use lib.Seq.{take-append-seam, drop-append-seam}
-use lib.Dec.{eqb, leb, ltb, lit≤, lit<}
-use borrow.Author.Tests.{leb-true, le-leb, ltb-true, lt-ltb, eqb-true, eqb-false, eq-eqb, ne-eqb, not-true, not-false}
-use Rattle.meaning.specs.Text.{Bytes, bytes, empty, all, isNone, same, sameName, between, amongNames, repeated, isField, isName, decimal}
-use Rattle.meaning.specs.Model.{Attribute, padded, nameOf, space, kindText, wordText}
-use Rattle.meaning.specs.Reading.{Line, attributeLine, treeLine, otherLine, kindOf, treeOf, lineOf, depthOf, wordOf, orPermit, targetOf, orEmpty, masksOf, elementOf, Sofar, wellPlaced, Tests, lowest, wrongFields, nonZero, badName, badMasks, attributeTests, elementTests, lineTests}
-use Rattle.meaning.specs.Writing.{targetText, targetTexts}
+use mathlib.Core.Bool.{Bool, true, false, not, _||_}
+use mathlib.Core.List.{List, [], _∷_, _++_, map, List·Memᴰ}
+use mathlib.Core.Option.{some}
+use lib.ListN.{length, take, drop, replicate}
+use lib.Seq.{drop-append-seam}
+use lib.Dec.{eqb}
+use borrow.Author.Tests.{eqb-true, not-true, not-false}
+use Rattle.meaning.specs.Text.{Bytes, empty, all, isNone, amongNames, repeated, isField, isName}
+use Rattle.meaning.specs.Model.{Attribute, padded, nameOf, space, kindText}
+use Rattle.meaning.specs.Reading.{Line, attributeLine, treeLine, otherLine, lineOf, depthOf, wordOf, orPermit, targetOf, masksOf, elementOf, Sofar, wellPlaced, Tests, lowest, wrongFields, nonZero, badName, badMasks, attributeTests, elementTests, lineTests}
 use Rattle.meaning.specs.Claims.Texts.{All}
-use Rattle.meaning.specs.Claims.PolicyFile.{GoodAttribute, attributeFields, attributeNames, Target, Targets, Allowed, PlacedAt}
-use Rattle.meaning.specs.Claims.Refusals.{On, BadFields, Used, TooMany, BadPlace, BadWord, BadTargets, tableRows, Lowest}
-use Rattle.laws.proofs.Types.{Kind, set, policy, rule, Word, Element}
-use Rattle.laws.proofs.Bools.{Test, passed, failed, test, contradiction, or-false, or-true, and-true, never}
-use Rattle.laws.proofs.Search.{any-only, none-some}
-use Rattle.laws.proofs.Text.{same-true}
-use Rattle.laws.proofs.Reading.{Numbered, line-numbered}
-use Rattle.laws.proofs.Lines.{spelled-some, attribute-fields, tree-fields, kind-not-attribute}
+use Rattle.meaning.specs.Claims.PolicyFile.{GoodAttribute, attributeFields, attributeNames, Targets, PlacedAt}
+use Rattle.meaning.specs.Claims.Refusals.{On, Used, TooMany, BadPlace, BadWord, BadTargets, tableRows}
+use Rattle.laws.proofs.Types.{Kind, Element}
+use Rattle.laws.proofs.Bools.{Test, passed, failed, test, contradiction, or-false}
+use Rattle.laws.proofs.Lines.{attribute-fields, tree-fields}
 use Rattle.laws.proofs.Fields.{digit}
 use Rattle.laws.proofs.Bounds.{named, placed-depth, padded-name}
 use Rattle.laws.proofs.Targets.{mask-read}
@@ -31,7 +27,8 @@ use Rattle.laws.proofs.Rewritten.{depth-again, word-again, targets-agai
 use Rattle.laws.proofs.Reread.{depth-back}
 use Rattle.laws.proofs.TreeLines.{word-allowed, allowed-word, zeros, name-size, targets-back, targets-of}
 use Rattle.laws.proofs.Placed.{placed-well, well-placed}
-use Rattle.laws.proofs.Reflects.{Reflects, reflects, either, either-of-three, opposite, itself, never-holds, at-least, more-than, among, not-nothing, is-nothing, Matches, lowest-row, row-lowest}
+use Rattle.laws.proofs.Reflects.{Reflects, reflects, either, either-of-three, opposite, itself, never-holds, at-least, more-than, among, not-nothing, is-nothing, Matches}
+use Rattle.laws.proofs.BadFields.{kind-same, not-letter, Beside}
 
 -- the masks of some targets
 masks-of : (attrs : List Attribute) (ts : List Bytes) (ms : List ℕ) → All GoodAttribute attrs → Targets attrs ts ms → masksOf attrs ts ≡ ms
@@ -45,22 +42,7 @@ masks-of (a ∷ attrs) (t ∷ ts) (m ∷ ms) g x =
     let is : targetOf (a .values) t ≡ some m = ap (targetOf (a .values)) (own .is-text) ∙ mask-read (a .values) m (g .0 .values-named) (g .0 .distinct) (own .not-empty) (own .no-high-bit) in
     rw (is, masks-of attrs ts ms (g .1) (x .1))
 
-abbrev Big : List (ℕ × Type 0) → Type 0
-Big [] = Unit {0}
-Big (r ∷ rs) = (1 ≤ r .0) × Big rs
-
 -- A row on an attribute line and on a tree line
-kind-again : (k : Kind) → kindOf (kindText k) ≡ some k
-kind-again set = refl
-kind-again policy = refl
-kind-again rule = refl
-
-kind-same : (j k : Kind) → kindText j ≡ kindText k → j ≡ k
-kind-same j k e = let s : some j ≡ some k = sym (kind-again j) ∙ ap kindOf e ∙ kind-again k in cc
-
-not-letter : (k : Kind) → bytes "A" ≢ kindText k
-not-letter k e = contradiction (ap (λ t. same t (bytes "A")) (sym e)) (kind-not-attribute k)
-
 module _ (A : Attribute → Type 0) (T : Kind → Bytes → Bytes → Bytes → List Bytes → Type 0) (b : Bool) where
   on-attribute : (a : Attribute) → Reflects b (A a) → Reflects b (On A T (attributeFields a))
   on-attribute a r = record { holds = λ e. inl (refl, r .holds e); tests = go }
@@ -87,7 +69,7 @@ module _ (s : Sofar) where
   abbrev before : List Element
   before = s .before
 
-  abbrev laterRows : List Bytes → List (ℕ × Type 0)
+  abbrev pub laterRows : List Bytes → List (ℕ × Type 0)
   laterRows fs = drop 1 (tableRows ⊥ attrs before fs)
 
   attribute-rows : (a : Attribute) → Matches (attributeTests s a ++ noTests) (laterRows (attributeFields a))
@@ -192,129 +174,13 @@ module _ (s : Sofar) where
       ),
     )
 
--- Row 2
-no-letter : (f : Bytes) → kindOf f ≡ none → (k : Kind) → f ≢ kindText k
-no-letter f e k i = none-some (sym e ∙ ap kindOf i ∙ kind-again k)
-
--- fewer than three fields
-few-fields : (attrs : List Attribute) (f : Bytes) (fs : List Bytes) → length (f ∷ fs) < 3 → BadFields attrs (f ∷ fs)
-few-fields attrs f fs l = go (test (same f (bytes "A"))) (kindOf f) refl
+-- Rows 3 to 8 of a line beside the reader's tests, or tests that are as many as the rows
+pub reader-rows : (s : Sofar) → All GoodAttribute (s .attributes) → (fs : List Bytes) → Beside s fs (lineTests s (lineOf fs)) (laterRows s fs)
+reader-rows s g fs = go (lineOf fs) refl
   where
-    go : Test (same f (bytes "A")) → (o : Option Kind) → kindOf f ≡ o → BadFields attrs (f ∷ fs)
-    go (passed e) o i = inr (inr (inl (same-true f (bytes "A") e, l)))
-    go (failed e) none i = inr (inl (λ x. contradiction (rw x refl) e, no-letter f i))
-    go (failed e) (some k) i = inr (inr (inr (k, sym (spelled-some kindText f (set ∷ policy ∷ rule ∷ []) k i), omega (arith, l))))
-
-other-bad : (attrs : List Attribute) (fs : List Bytes) → lineOf fs ≡ otherLine → BadFields attrs fs
-other-bad attrs [] h = inr (inl (λ e. never cc, nothing-kind))
-  where
-    nothing-kind : (k : Kind) → [] ≢ kindText k
-    nothing-kind set e = never cc
-    nothing-kind policy e = never cc
-    nothing-kind rule e = never cc
-other-bad attrs (f ∷ []) h = few-fields attrs f [] (lit< tt)
-other-bad attrs (f ∷ g ∷ []) h = few-fields attrs f (g ∷ []) (lit< tt)
-other-bad attrs (f ∷ g ∷ x ∷ xs) h = go (test (same f (bytes "A"))) (kindOf f) refl xs refl
-  where
-    go : Test (same f (bytes "A")) → (o : Option Kind) → kindOf f ≡ o → (ys : List Bytes) → xs ≡ ys → BadFields attrs (f ∷ g ∷ x ∷ xs)
-    go (passed e) o i ys j = let z : attributeLine (record { name = g; values = x ∷ xs }) ≡ otherLine = rw e at h in never cc
-    go (failed e) none i ys j = inr (inl (λ y. contradiction (rw y refl) e, no-letter f i))
-    go (failed e) (some k) i [] j = inr (inr (inr (k, sym (spelled-some kindText f (set ∷ policy ∷ rule ∷ []) k i), λ c. omega (arith, c, ap length j))))
-    go (failed e) (some k) i (w ∷ ts) j = let z : treeLine k g x w ts ≡ otherLine = rw (e, i, j) at h in never cc
-
-module _ (s : Sofar) where
-  wrong-bad : (fs : List Bytes) (l : Line) → lineOf fs ≡ l → wrongFields s fs l ≡ true → BadFields (s .attributes) fs
-  wrong-bad fs (attributeLine a) i h = inl (not-true (all isField fs) (or-left (not (all isField fs)) h))
-    where
-      or-left : (b : Bool) → (b || false) ≡ true → b ≡ true
-      or-left true e = refl
-      or-left false e = e
-  wrong-bad fs (treeLine k d n w ts) i h = go (test (all isField fs))
-    where
-      go : Test (all isField fs) → BadFields (s .attributes) fs
-      go (failed e) = inl e
-      go (passed e) =
-          let uncounted : not (eqb (length ts) (length (s .attributes))) ≡ true = rw e at h in
-          let other = eqb-false (length ts) (length (s .attributes)) (not-true (eqb (length ts) (length (s .attributes))) uncounted) in
-          let are = tree-fields fs k d n w ts i in
-          inr (inr (inr (k, ap (λ x. getD x 0 []) are, λ c. other (omega (arith, c, ap length are)))))
-  wrong-bad fs otherLine i h = other-bad (s .attributes) fs i
-
-  right-good : (fs : List Bytes) (l : Line) → lineOf fs ≡ l → wrongFields s fs l ≡ false → BadFields (s .attributes) fs → ⊥
-  right-good fs (attributeLine a) i h b = go b
-    where
-      are : fs ≡ attributeFields a
-      are = attribute-fields fs a i .are
-
-      go : BadFields (s .attributes) fs → ⊥
-      go (inl e) = contradiction (not-false (all isField fs) (or-false (not (all isField fs)) false h .0)) e
-      go (inr (inl (n, k))) = n (ap (λ x. getD x 0 []) are)
-      go (inr (inr (inl (e, c)))) = omega (arith, c, ap length are, attribute-fields fs a i .some-value)
-      go (inr (inr (inr (k, e, c)))) = not-letter k (sym (ap (λ x. getD x 0 []) are) ∙ e)
-  right-good fs (treeLine k d n w ts) i h b = go b
-    where
-      are : fs ≡ kindText k ∷ d ∷ n ∷ w ∷ ts
-      are = tree-fields fs k d n w ts i
-
-      counted : length ts ≡ length (s .attributes)
-      counted = eqb-true (length ts) (length (s .attributes)) (not-false (eqb (length ts) (length (s .attributes))) (or-false (not (all isField fs)) (not (eqb (length ts) (length (s .attributes)))) h .1))
-
-      go : BadFields (s .attributes) fs → ⊥
-      go (inl e) = contradiction (not-false (all isField fs) (or-false (not (all isField fs)) (not (eqb (length ts) (length (s .attributes)))) h .0)) e
-      go (inr (inl (m, j))) = j k (ap (λ x. getD x 0 []) are)
-      go (inr (inr (inl (e, c)))) = omega (arith, c, ap length are)
-      go (inr (inr (inr (j, e, c)))) = c (omega (arith, ap length are, counted))
-  right-good fs otherLine i h b = contradiction refl (or-false (not (all isField fs)) true h .1)
-
-  -- All rows of a line, ended by a newline
-  abbrev pub allTests : List Bytes → Tests
-  allTests fs = (2, wrongFields s fs (lineOf fs)) ∷ lineTests s (lineOf fs)
-
-  row-2 : (U : Type 0) → (U → ⊥) → (fs : List Bytes) → Reflects (wrongFields s fs (lineOf fs)) (U ⊎ BadFields (s .attributes) fs)
-  row-2 U unheld fs = reflects (wrongFields s fs (lineOf fs)) (U ⊎ BadFields (s .attributes) fs) (λ e. inr (wrong-bad fs (lineOf fs) refl e)) go
-    where
-      go : wrongFields s fs (lineOf fs) ≡ false → U ⊎ BadFields (s .attributes) fs → ⊥
-      go e (inl u) = unheld u
-      go e (inr b) = right-good fs (lineOf fs) refl e b
-
-  -- the later tests, by tests that are as many as the rows
-  later-rows : All GoodAttribute (s .attributes) → (fs : List Bytes) (l : Line) → lineOf fs ≡ l → wrongFields s fs l ≡ false → (ts : Tests) × (lowest (lineTests s l) ≡ lowest ts) × Matches ts (laterRows s fs)
-  later-rows g fs (attributeLine a) i h = (attributeTests s a ++ noTests, refl, subst (λ x. Matches (attributeTests s a ++ noTests) (laterRows s x)) (sym (attribute-fields fs a i .are)) (attribute-rows s a))
-  later-rows g fs (treeLine k d n w ts) i h =
-      let counted = eqb-true (length ts) (length (s .attributes)) (not-false (eqb (length ts) (length (s .attributes))) (or-false (not (all isField fs)) (not (eqb (length ts) (length (s .attributes)))) h .1)) in
-      (elementTests s w (elementOf (s .attributes) k d n w ts), refl, subst (λ x. Matches (elementTests s w (elementOf (s .attributes) k d n w ts)) (laterRows s x)) (sym (tree-fields fs k d n w ts i)) (tree-rows s g k d n w ts counted))
-  later-rows g fs otherLine i h = contradiction refl (or-false (not (all isField fs)) true h .1)
-
-  module _ (good : All GoodAttribute (s .attributes)) (U : Type 0) (unheld : U → ⊥) (fs : List Bytes) where
-    abbrev rows : List (ℕ × Type 0)
-    rows = tableRows U (s .attributes) (s .before) fs
-
-    -- the number that a line is refused with is the lowest whose row holds, and the other way
-    pub line-row : (n : ℕ) → lowest (allTests fs) ≡ suc n → Lowest (suc n) rows
-    line-row n h = go (test (wrongFields s fs (lineOf fs)))
-      where
-        go : Test (wrongFields s fs (lineOf fs)) → Lowest (suc n) rows
-        go (passed e) = let two : 2 ≡ suc n = rw e at h in inl (row-2 U unheld fs .holds e, sym two)
-        go (failed e) =
-            let (ts, i, m) = later-rows good fs (lineOf fs) refl e in
-            let rest : lowest (lineTests s (lineOf fs)) ≡ suc n = rw e at h in
-            inr (λ r. contradiction (row-2 U unheld fs .tests r) e, lowest-row ts (laterRows s fs) n m (sym i ∙ rest))
-
-    pub row-line : (n : ℕ) → Lowest n rows → lowest (allTests fs) ≡ n
-    row-line n (inl (r, e)) = rw (row-2 U unheld fs .tests r) (sym e)
-    row-line n (inr (none-here, l)) = go (test (wrongFields s fs (lineOf fs)))
-      where
-        go : Test (wrongFields s fs (lineOf fs)) → lowest (allTests fs) ≡ n
-        go (passed e) = absurd (none-here (row-2 U unheld fs .holds e))
-        go (failed e) =
-            let (ts, i, m) = later-rows good fs (lineOf fs) refl e in
-            rw e (i ∙ row-lowest ts (laterRows s fs) n m l)
-
--- a row's number is not 0
-pub row-number : (U : Type 0) (attrs : List Attribute) (before : List Element) (fs : List Bytes) (n : ℕ) → Lowest n (tableRows U attrs before fs) → 1 ≤ n
-row-number U attrs before fs n l = go (tableRows U attrs before fs) (lit≤ tt, (lit≤ tt, (lit≤ tt, (lit≤ tt, (lit≤ tt, (lit≤ tt, (lit≤ tt, tt))))))) l
-  where
-    go : (rs : List (ℕ × Type 0)) → Big rs → Lowest n rs → 1 ≤ n
-    go [] b l = absurd l
-    go (r ∷ rs) b (inl (x, e)) = omega (arith, b .0, e)
-    go (r ∷ rs) b (inr (x, l)) = go rs (b .1) l
+    go : (l : Line) → lineOf fs ≡ l → wrongFields s fs l ≡ false → (ts : Tests) × (lowest (lineTests s l) ≡ lowest ts) × Matches ts (laterRows s fs)
+    go (attributeLine a) i h = (attributeTests s a ++ noTests, refl, subst (λ x. Matches (attributeTests s a ++ noTests) (laterRows s x)) (sym (attribute-fields fs a i .are)) (attribute-rows s a))
+    go (treeLine k d n w ts) i h =
+        let counted = eqb-true (length ts) (length (s .attributes)) (not-false (eqb (length ts) (length (s .attributes))) (or-false (not (all isField fs)) (not (eqb (length ts) (length (s .attributes)))) h .1)) in
+        (elementTests s w (elementOf (s .attributes) k d n w ts), refl, subst (λ x. Matches (elementTests s w (elementOf (s .attributes) k d n w ts)) (laterRows s x)) (sym (tree-fields fs k d n w ts i)) (tree-rows s g k d n w ts counted))
+    go otherLine i h = contradiction refl (or-false (not (all isField fs)) true h .1)

@@ -1,150 +1,43 @@
 -- A file is accepted, as a policy, exactly if it is a policy file of that policy.
 use mathlib.Core.Path.{_≡_, refl, sym, ap, ap₂, _∙_, subst}
-use mathlib.Core.Logic.{_⊎_, inl, inr, _↔_}
-use Prim.Native.Nat.{ℕ, zero, suc, _+_, _*_, _≤_, _<_, zero-le, suc-le-suc}
+use mathlib.Core.Logic.{_↔_}
+use Prim.Native.Nat.{ℕ, suc, _+_, _≤_, _<_, zero-le, suc-le-suc}
 use native.Mathlib.Omega.{arith}
 use native.Mathlib.Nat.{mul-le-mul-left}
-use mathlib.Core.Bool.{true, false, not, _||_}
-use mathlib.Core.List.{List, [], _∷_, _++_, map, reverse, reverseAux, reverse-reverse, map-append, append-assoc, append-nil, List·Memᴰ, List·Memᴰ·head, List·Memᴰ·tail, List·Memᴰ·append-cases, List·Memᴰ·not-nil, List·Memᴰ·eq-of-singleton, Memᴰ·append-left, Memᴰ·append-right}
+use mathlib.Core.Bool.{true, false}
+use mathlib.Core.List.{List, [], _∷_, _++_, map, reverse, reverseAux, reverse-reverse, map-append, append-assoc, append-nil, List·Memᴰ, List·Memᴰ·head, List·Memᴰ·tail, List·Memᴰ·not-nil, Memᴰ·append-right}
 use lib.ListN.{length, length-append, length-map, length-reverse}
 use lib.Seq.{append-snoc}
-use lib.Dec.{eqb, leb, ltb}
-use borrow.Author.Tests.{not-false, lt-leb, le-ltb}
-use Rattle.meaning.specs.Text.{Bytes, bytes, empty, all, keep, front, gathered, isNone, amongNames, repeated, cut, join, newline, tab, line, isField, isName}
-use Rattle.meaning.specs.Model.{Attribute, nameOf, Policy, sizes, space, product, given, wordText}
-use Rattle.meaning.specs.Reading.{Line, attributeLine, treeLine, otherLine, lineOf, elementOf, wordOf, Sofar, wellPlaced, wrongFields, attributeTests, elementTests, lineTests, withElement, extended, readLines, nothing, read}
-use Rattle.meaning.specs.Writing.{headerTests, elementFields}
+use borrow.Author.Tests.{lt-leb, le-ltb}
+use Rattle.meaning.specs.Text.{Bytes, bytes, empty, all, cut, join, newline, tab, isField, isName}
+use Rattle.meaning.specs.Model.{Attribute, nameOf, Policy, sizes, space, given, wordText}
+use Rattle.meaning.specs.Reading.{Line, attributeLine, lineOf, Sofar, Tests, attributeTests, elementTests, lineTests, withElement, extended, readLines, nothing, read}
+use Rattle.meaning.specs.Writing.{headerTests, readElements, elementFields}
 use Rattle.meaning.specs.Claims.Texts.{All, Distinct, Each}
-use Rattle.meaning.specs.Claims.PolicyFile.{GoodAttribute, attributeFields, attributeNames, TreeLines, Placed, NewName, GoodLines, WellFormed}
-use Rattle.meaning.specs.Claims.Writing.{attributeLine as isAttribute}
-use Rattle.laws.proofs.Bounds.{GoodElement, Bounded}
-use Rattle.laws.proofs.Types.{Kind, Element}
-use Rattle.laws.proofs.Bools.{contradiction, or-false, and-true}
+use Rattle.meaning.specs.Claims.PolicyFile.{GoodAttribute, attributeFields, attributeNames, Placed, NewName, GoodLines, WellFormed}
+use Rattle.laws.proofs.Types.{Element}
+use Rattle.laws.proofs.Bools.{contradiction, and-true}
 use Rattle.laws.proofs.Text.{Frees, cut-join, join-free, frees-append}
-use Rattle.laws.proofs.Reading.{Passes, line-numbered, PassesLine, read-step, read-step⁻, read-end, lines-keep, policyOf, Accepted, accepted, read-lines}
-use Rattle.laws.proofs.Lines.{attribute-fields, unlines, text-unlines, cut-unlines}
+use Rattle.laws.proofs.Reading.{Passes, passes-lowest, Numbered, line-numbered, PassesLine, read-step⁻, accepted, short-text}
 use Rattle.laws.proofs.Fields.{fields-free, name-field}
-use Rattle.laws.proofs.Bounds.{all-reverse, Good, nothing-good, line-good, bounded, element-good, header-numbered}
-use Rattle.laws.proofs.Requests.{Positive, product-pos}
+use Rattle.laws.proofs.Bounds.{GoodElement, filled, Good, element-good, header-numbered}
+use Rattle.laws.proofs.Requests.{product-pos}
 use Rattle.laws.proofs.Answers.{positive}
-use Rattle.laws.proofs.Rewritten.{word-again, only, whole-again, gathered-append, gathered-map, unlines-fields, file-fields}
+use Rattle.laws.proofs.Rewritten.{only}
 use Rattle.laws.proofs.Reread.{bare, element-line, lines-free}
-use Rattle.laws.proofs.TreeLines.{HasWord, lines-of, of-lines}
-use Rattle.laws.proofs.Placed.{placed-well, well-placed, not-among, new-name}
+use Rattle.laws.proofs.TreeLines.{HasWord, of-lines}
+use Rattle.laws.proofs.Placed.{placed-well, new-name}
+use Rattle.laws.proofs.FirstBad.{text-given, rows-read}
+use Rattle.laws.proofs.GoodSofar.{not-empty, GoodSofar, nothing-sofar, line-sofar, good-lines}
 
--- Lists that have no element twice, from the end
-module _ {A : Type 0} where
-  snoc-distinct : (xs : List A) (x : A) → Distinct xs → (List·Memᴰ x xs → ⊥) → Distinct (xs ++ (x ∷ []))
-  snoc-distinct [] x d n = (List·Memᴰ·not-nil, tt)
-  snoc-distinct (y ∷ ys) x d n = (λ m. go (List·Memᴰ·append-cases ys m), snoc-distinct ys x (d .1) (λ m. n (List·Memᴰ·tail m)))
-    where
-      go : List·Memᴰ y ys ⊎ List·Memᴰ y (x ∷ []) → ⊥
-      go (inl m) = d .0 m
-      go (inr m) = n (List·Memᴰ·head (sym (List·Memᴰ·eq-of-singleton m)))
-
-  distinct-new : (xs : List A) (x : A) (ys : List A) → Distinct (xs ++ (x ∷ ys)) → List·Memᴰ x xs → ⊥
-  distinct-new [] x ys d m = List·Memᴰ·not-nil m
-  distinct-new (z ∷ xs) x ys d (List·Memᴰ·head e) = d .0 (Memᴰ·append-right xs (List·Memᴰ·head (sym e)))
-  distinct-new (z ∷ xs) x ys d (List·Memᴰ·tail m) = distinct-new xs x ys (d .1) m
-
-  -- what holds of each element of a list turned round, with those behind it
-  abbrev pub Chain : (List A → A → Type 0) → List A → Type 0
-  Chain P [] = Unit {0}
-  Chain P (x ∷ xs) = P xs x × Chain P xs
-
-  pub chain-each : (P : List A → A → Type 0) (before xs : List A) → Chain P before → Each P before xs → Each P [] (reverseAux before xs)
-  chain-each P [] xs c e = e
-  chain-each P (b ∷ before) xs c e = chain-each P before (b ∷ xs) (c .1) (c .0, e)
-
-not-empty : {A : Type 0} (xs : List A) → 1 ≤ length xs → empty xs ≡ false
-not-empty [] l = absurd (omega arith)
-not-empty (x ∷ xs) l = refl
-
--- Accepted: what each line keeps
-pub record Kept (s : Sofar) : Type 0 where
-  pub attributes-distinct : Distinct (attributeNames (s .attributes))
-  pub placed : Chain Placed (s .before)
-  pub new-names : Chain NewName (s .before)
-  pub words : All HasWord (s .before)
-
-pub line-kept : (s : Sofar) (fs : List Bytes) (l : Line) → lineOf fs ≡ l → PassesLine lineTests line-numbered s fs l → Kept s → Kept (extended s l)
-line-kept s fs (attributeLine a) i (f2, (f3, (f4, f))) k =
-    let new = or-false (amongNames (a .name) (attributeNames (s .attributes))) (repeated (a .values)) f4 .0 in
-    record {
-      attributes-distinct = rw (map-append (λ a. a .name) (s .attributes) (a ∷ [])) (snoc-distinct (attributeNames (s .attributes)) (a .name) (k .attributes-distinct) (not-among (a .name) (attributeNames (s .attributes)) new));
-      placed = k .placed;
-      new-names = k .new-names;
-      words = k .words;
-    }
-line-kept s fs (treeLine kd d n w ts) i (f2, (f3, (f4, (f5, (f6, (f7, f)))))) k =
-    let e : Element = elementOf (s .attributes) kd d n w ts in
-    let at = or-false (empty (s .attributes)) (not (wellPlaced (e .kind) (e .depth) (s .before))) f6 .1 in
-    record {
-      attributes-distinct = k .attributes-distinct;
-      placed = (well-placed (s .before) (e .kind) (e .depth) (not-false (wellPlaced (e .kind) (e .depth) (s .before)) at), k .placed);
-      new-names = (not-among (nameOf e) (map nameOf (s .before)) f4, k .new-names);
-      words = (ap (λ t. isNone (wordOf kd t)) (word-again kd w f7) ∙ f7, k .words);
-    }
-line-kept s fs otherLine i f k = k
-
--- the attribute lines' fields
-header-fields : (n : ℕ) (attrs : List Attribute) (own : List Bytes) (z : Sofar) → readLines headerTests [] n (only attrs) own ≡ given z → map attributeFields (z .attributes) ≡ map attributeFields attrs ++ map (cut tab) own
-header-fields n attrs [] z h = ap (λ s. map attributeFields (s .attributes)) (sym (read-end headerTests header-numbered [] n (only attrs) z h .1)) ∙ sym (append-nil (map attributeFields attrs))
-header-fields n attrs (l ∷ own) z h =
-    let (p, r) = read-step headerTests header-numbered [] n (only attrs) l own z h in
-    go (lineOf (cut tab l)) refl p r (λ a. header-fields (suc n) (attrs ++ (a ∷ [])) own z)
-  where
-    go : (x : Line) → lineOf (cut tab l) ≡ x → PassesLine headerTests header-numbered (only attrs) (cut tab l) x → readLines headerTests [] (suc n) (extended (only attrs) (lineOf (cut tab l))) own ≡ given z
-        → ((a : Attribute) → readLines headerTests [] (suc n) (only (attrs ++ (a ∷ []))) own ≡ given z → map attributeFields (z .attributes) ≡ map attributeFields (attrs ++ (a ∷ [])) ++ map (cut tab) own)
-        → map attributeFields (z .attributes) ≡ map attributeFields attrs ++ map (cut tab) (l ∷ own)
-    go (attributeLine a) e p r later =
-        later a (rw e at r) ∙ ap (λ x. x ++ map (cut tab) own) (map-append attributeFields attrs (a ∷ []))
-        ∙ append-snoc (map attributeFields attrs) (attributeFields a) (map (cut tab) own)
-        ∙ ap (λ x. map attributeFields attrs ++ (x ∷ map (cut tab) own)) (sym (attribute-fields (cut tab l) a e .are))
-    go (treeLine k d m w ts) e (f2, (f3, (f6, f))) r later = contradiction refl f6
-    go otherLine e (f2, f) r later = contradiction refl (or-false (not (all isField (cut tab l))) true f2 .1)
-
-file-rows : (f : Bytes) (p : Policy) → read f ≡ given p → f ≡ gathered line (map attributeFields (p .attributes) ++ map (elementFields (p .attributes)) (p .elements))
-file-rows f p h =
-    let a = accepted f p h in
-    let ls = front (cut newline f) in
-    let own = keep isAttribute ls in
-    let header = header-fields 1 [] own (only (a .sofar .attributes)) (whole-again 1 [] ls (a .sofar) (a .text .lines-read) .header-read) in
-    text-unlines f ls (a .text .pieces) ∙ unlines-fields ls ∙ ap (gathered line) (file-fields f p h
-    ∙ ap (λ x. x ++ map (elementFields (p .attributes)) (p .elements)) (sym header ∙ ap (λ q. map attributeFields (q .attributes)) (sym (a .is-policy))))
-
--- What was read so far, as lines that break no rule
-pub so-good : (s : Sofar) → Good s → Kept s → GoodLines (map attributeFields (s .attributes) ++ map (elementFields (s .attributes)) (reverse (s .before))) (s .attributes) (reverse (s .before))
-so-good s g k = record {
-  tree = map (elementFields (s .attributes)) (reverse (s .before));
-  are = refl;
-  few-attributes = g .few-attributes;
-  attributes-good = g .attributes-good;
-  attributes-distinct = k .attributes-distinct;
-  small-space = g .small-space;
-  few-elements = rw (length-reverse (s .before)) (g .few-elements);
-  some-attribute = λ l. g .some-attribute (not-empty (s .before) (omega (arith, l, length-reverse (s .before))));
-  tree-lines = lines-of (s .attributes) (g .attributes-good) (g .few-attributes) (reverse (s .before)) (all-reverse (GoodElement (s .attributes)) (s .before) (g .elements-good)) (all-reverse HasWord (s .before) (k .words));
-  placed = chain-each Placed (s .before) [] (k .placed) tt;
-  new-names = chain-each NewName (s .before) [] (k .new-names) tt;
-}
-
-pub nothing-kept : Kept nothing
-nothing-kept = record { attributes-distinct = tt; placed = tt; new-names = tt; words = tt }
-
+-- Accepted: its lines break no rule
 accepted-well : (f : Bytes) (p : Policy) → read f ≡ given p → WellFormed f p
 accepted-well f p h =
     let a = accepted f p h in
     let z = a .sofar in
-    let g = lines-keep lineTests line-numbered Good line-good [] 1 nothing (front (cut newline f)) z (a .text .lines-read) nothing-good in
-    let k = lines-keep lineTests line-numbered Kept line-kept [] 1 nothing (front (cut newline f)) z (a .text .lines-read) nothing-kept in
-    record {
-      size = a .size;
-      rows = map attributeFields (p .attributes) ++ map (elementFields (p .attributes)) (p .elements);
-      text = file-rows f p h;
-      good = subst (λ q. GoodLines (map attributeFields (q .attributes) ++ map (elementFields (q .attributes)) (q .elements)) (q .attributes) (q .elements)) (sym (a .is-policy)) (so-good z g k);
-      some-element = bounded f p h .some-element;
-    }
+    let (rows, text, good) = text-given lineTests line-numbered GoodSofar line-sofar nothing-sofar f z (a .text) in
+    let some-element : 1 ≤ length (reverse (z .before)) = rw (length-reverse (z .before)) (filled (z .before) (a .some-element)) in
+    subst (WellFormed f) (sym (a .is-policy)) (record { size = a .size; rows = rows; text = text; good = good-lines z rows good; some-element = some-element })
 
 -- A policy file's attribute lines are read
 abbrev attributeText : Attribute → Bytes
@@ -168,43 +61,64 @@ module _ (a : Attribute) (g : GoodAttribute a) where
       go n [] l = absurd (omega arith)
       go n (v ∷ vs) l = refl
 
+distinct-new : {A : Type 0} (xs : List A) (x : A) (ys : List A) → Distinct (xs ++ (x ∷ ys)) → List·Memᴰ x xs → ⊥
+distinct-new [] x ys d m = List·Memᴰ·not-nil m
+distinct-new (z ∷ xs) x ys d (List·Memᴰ·head e) = d .0 (Memᴰ·append-right xs (List·Memᴰ·head (sym e)))
+distinct-new (z ∷ xs) x ys d (List·Memᴰ·tail m) = distinct-new xs x ys (d .1) m
+
 space-grows : (xs ys : List Attribute) → All GoodAttribute ys → space xs ≤ space (xs ++ ys)
 space-grows [] ys g = product-pos (sizes ys) (positive ys g)
 space-grows (x ∷ xs) ys g = mul-le-mul-left (length (x .values)) (space-grows xs ys g)
 
-attributes-read : (rest : Bytes) (bs attrs : List Attribute) (n m : ℕ) (more : List Bytes) → m ≡ n + length bs → All GoodAttribute bs → Distinct (attributeNames (attrs ++ bs)) → length (attrs ++ bs) ≤ 6 → space (attrs ++ bs) ≤ 4096
-    → readLines lineTests rest n (only attrs) (map attributeText bs ++ more) ≡ readLines lineTests rest m (only (attrs ++ bs)) more
-attributes-read rest [] attrs n m more c g d l s = let e : n ≡ m = omega arith in rw e (ap (λ x. readLines lineTests rest m (only x) more) (sym (append-nil attrs)))
-attributes-read rest (a ∷ bs) attrs n m more c g d l s =
-    let split : (attrs ++ (a ∷ [])) ++ bs ≡ attrs ++ (a ∷ bs) = append-snoc attrs a bs in
-    let new = new-name (a .name) (attributeNames attrs) (distinct-new (attributeNames attrs) (a .name) (attributeNames bs) (subst Distinct (map-append (λ a. a .name) attrs (a ∷ bs)) d)) in
-    let few : length attrs < 6 = omega (arith, l, length-append attrs (a ∷ bs)) in
-    let small : space (attrs ++ (a ∷ [])) ≤ 4096 = omega (arith, s, ap space split, space-grows (attrs ++ (a ∷ [])) bs (g .1)) in
-    let fields : wrongFields (only attrs) (attributeFields a) (attributeLine a) ≡ false = rw (fields-good a (g .0)) in
-    let passes : PassesLine lineTests line-numbered (only attrs) (attributeFields a) (attributeLine a) =
-    (fields, (rw (g .0 .named, g .0 .values-named), (rw (new, g .0 .distinct), (rw (lt-leb 6 (length attrs) few, le-ltb 16 (length (a .values)) (g .0 .few-values), le-ltb 4096 (space (attrs ++ (a ∷ []))) small), (refl, tt))))) in
-    let later = attributes-read rest bs (attrs ++ (a ∷ [])) (suc n) m more (omega arith) (g .1) (subst (λ x. Distinct (attributeNames x)) (sym split) d) (subst (λ x. length x ≤ 6) (sym split) l) (subst (λ x. space x ≤ 4096) (sym split) s) in
-    read-step⁻ lineTests line-numbered rest n (only attrs) (attributeText a) (map attributeText bs ++ more) (subst (λ x. PassesLine lineTests line-numbered (only attrs) x (lineOf x)) (sym (text-cut a (g .0))) (subst (PassesLine lineTests line-numbered (only attrs) (attributeFields a)) (sym (is-attribute a (g .0))) passes))
-    ∙ ap (λ x. readLines lineTests rest (suc n) (extended (only attrs) x) (map attributeText bs ++ more)) (ap lineOf (text-cut a (g .0)) ∙ is-attribute a (g .0))
-    ∙ later ∙ ap (λ x. readLines lineTests rest m (only x) more) split
+-- by the reader and, alone, by the writer
+module _ (tests : Sofar → Line → Tests) (numbered : (s : Sofar) (l : Line) → Numbered (tests s l)) (alike : (s : Sofar) (a : Attribute) → tests s (attributeLine a) ≡ attributeTests s a) where
+  attributes-read : (rest : Bytes) (bs attrs : List Attribute) (n m : ℕ) (more : List Bytes) → m ≡ n + length bs → All GoodAttribute bs → Distinct (attributeNames (attrs ++ bs)) → length (attrs ++ bs) ≤ 6 → space (attrs ++ bs) ≤ 4096
+      → readLines tests rest n (only attrs) (map attributeText bs ++ more) ≡ readLines tests rest m (only (attrs ++ bs)) more
+  attributes-read rest [] attrs n m more c g d l s = let e : n ≡ m = omega arith in rw e (ap (λ x. readLines tests rest m (only x) more) (sym (append-nil attrs)))
+  attributes-read rest (a ∷ bs) attrs n m more c g d l s =
+      let split : (attrs ++ (a ∷ [])) ++ bs ≡ attrs ++ (a ∷ bs) = append-snoc attrs a bs in
+      let new = new-name (a .name) (attributeNames attrs) (distinct-new (attributeNames attrs) (a .name) (attributeNames bs) (subst Distinct (map-append (λ a. a .name) attrs (a ∷ bs)) d)) in
+      let few : length attrs < 6 = omega (arith, l, length-append attrs (a ∷ bs)) in
+      let small : space (attrs ++ (a ∷ [])) ≤ 4096 = omega (arith, s, ap space split, space-grows (attrs ++ (a ∷ [])) bs (g .1)) in
+      let own : Passes (attributeTests (only attrs) a) =
+      (rw (g .0 .named, g .0 .values-named), (rw (new, g .0 .distinct), (rw (lt-leb 6 (length attrs) few, le-ltb 16 (length (a .values)) (g .0 .few-values), le-ltb 4096 (space (attrs ++ (a ∷ []))) small), (refl, tt)))) in
+      let passes : PassesLine tests numbered (only attrs) (attributeFields a) (attributeLine a) = (rw (fields-good a (g .0)), subst Passes (sym (alike (only attrs) a)) own) in
+      let later = attributes-read rest bs (attrs ++ (a ∷ [])) (suc n) m more (omega arith) (g .1) (subst (λ x. Distinct (attributeNames x)) (sym split) d) (subst (λ x. length x ≤ 6) (sym split) l) (subst (λ x. space x ≤ 4096) (sym split) s) in
+      read-step⁻ tests numbered rest n (only attrs) (attributeText a) (map attributeText bs ++ more) (subst (λ x. PassesLine tests numbered (only attrs) x (lineOf x)) (sym (text-cut a (g .0))) (subst (PassesLine tests numbered (only attrs) (attributeFields a)) (sym (is-attribute a (g .0))) passes))
+      ∙ ap (λ x. readLines tests rest (suc n) (extended (only attrs) x) (map attributeText bs ++ more)) (ap lineOf (text-cut a (g .0)) ∙ is-attribute a (g .0))
+      ∙ later ∙ ap (λ x. readLines tests rest m (only x) more) split
 
--- and so are its tree lines
-elements-read : (rest : Bytes) (attrs : List Attribute) (es before : List Element) (n m : ℕ) (more : List Bytes) → m ≡ n + length es → (1 ≤ length es → 1 ≤ length attrs) → Good (record { attributes = attrs; before = before })
-    → All (GoodElement attrs) es → All HasWord es → Each Placed before es → Each NewName before es → length before + length es ≤ 64
+-- Its elements pass, each behind those before it
+abbrev PassEach : Sofar → List Element → Type 0
+PassEach s [] = Unit {0}
+PassEach s (e ∷ es) = Passes (elementTests s (wordText (e .word)) e) × PassEach (withElement s e) es
+
+elements-pass : (attrs : List Attribute) (es before : List Element) → (1 ≤ length es → 1 ≤ length attrs) → All (GoodElement attrs) es → All HasWord es → Each Placed before es → Each NewName before es → length before + length es ≤ 64
+    → PassEach (record { attributes = attrs; before = before }) es
+elements-pass attrs [] before some h w p q l = tt
+elements-pass attrs (e ∷ es) before some h w p q l =
+    let placed = placed-well before (e .kind) (e .depth) (h .0 .shallow) (p .0) in (
+      (h .0 .named, (new-name (nameOf e) (map nameOf before) (q .0), (lt-leb 64 (length before) (omega arith), (rw (not-empty attrs (some (suc-le-suc zero-le)), placed), (w .0, (h .0 .masked, tt)))))),
+      elements-pass attrs es (e ∷ before) (λ x. some (suc-le-suc zero-le)) (h .1) (w .1) (p .1) (q .1) (omega arith),
+    )
+
+-- so their lines are read
+elements-read : (rest : Bytes) (attrs : List Attribute) (es before : List Element) (n m : ℕ) (more : List Bytes) → m ≡ n + length es → Good (record { attributes = attrs; before = before }) → All (GoodElement attrs) es
+    → PassEach (record { attributes = attrs; before = before }) es
     → readLines lineTests rest n (record { attributes = attrs; before = before }) (map (bare attrs) es ++ more) ≡ readLines lineTests rest m (record { attributes = attrs; before = reverseAux es before }) more
-elements-read rest attrs [] before n m more c some g h w p q l = let e : n ≡ m = omega arith in rw e
-elements-read rest attrs (e ∷ es) before n m more c some g h w p q l =
+elements-read rest attrs [] before n m more c g h p = let e : n ≡ m = omega arith in rw e
+elements-read rest attrs (e ∷ es) before n m more c g h p =
     let s : Sofar = record { attributes = attrs; before = before } in
-    let placed : wellPlaced (e .kind) (e .depth) before ≡ true = placed-well before (e .kind) (e .depth) (h .0 .shallow) (p .0) in
-    let passes : Passes (elementTests s (wordText (e .word)) e) =
-    (h .0 .named, (new-name (nameOf e) (map nameOf before) (q .0), (lt-leb 64 (length before) (omega arith), (rw (not-empty attrs (some (suc-le-suc zero-le)), placed), (w .0, (h .0 .masked, tt)))))) in
-    element-line rest s e g (h .0) passes n (map (bare attrs) es ++ more)
-    ∙ elements-read rest attrs es (e ∷ before) (suc n) m more (omega arith) (λ x. some (suc-le-suc zero-le)) (element-good s (wordText (e .word)) e (h .0 .shaped) passes g) (h .1) (w .1) (p .1) (q .1) (omega arith)
+    element-line rest s e g (h .0) (p .0) n (map (bare attrs) es ++ more)
+    ∙ elements-read rest attrs es (e ∷ before) (suc n) m more (omega arith) (element-good s (wordText (e .word)) e (h .0 .shaped) (p .0) g) (h .1) (p .1)
 
--- The lines of the text
-pub rows-lines : (rows : List (List Bytes)) → gathered line rows ≡ unlines (map (join tab) rows)
-rows-lines [] = refl
-rows-lines (r ∷ rows) = ap (λ x. line r ++ x) (rows-lines rows)
+-- and the writer takes them
+all-taken : (attrs : List Attribute) (es before : List Element) (n m : ℕ) (more : List Element) → m ≡ n + length es → PassEach (record { attributes = attrs; before = before }) es
+    → readElements n (record { attributes = attrs; before = before }) (es ++ more) ≡ readElements m (record { attributes = attrs; before = reverseAux es before }) more
+all-taken attrs [] before n m more c p = let e : n ≡ m = omega arith in rw e
+all-taken attrs (e ∷ es) before n m more c p =
+    let s : Sofar = record { attributes = attrs; before = before } in
+    rw (passes-lowest (elementTests s (wordText (e .word)) e) (p .0)) (all-taken attrs es (e ∷ before) (suc n) m more (omega arith) (p .1))
 
 map-map : {A B C : Type 0} (f : B → C) (g : A → B) (xs : List A) → map f (map g xs) ≡ map (λ x. f (g x)) xs
 map-map f g [] = refl
@@ -232,25 +146,39 @@ module _ (rows : List (List Bytes)) (attrs : List Attribute) (es : List Element)
   texts-count = ap length (x .are) ∙ length-append (map attributeFields attrs) (x .tree)
       ∙ ap₂ (λ i j. i + j) (length-map attrs attributeFields) (ap length (of-lines attrs (x .attributes-good) (x .few-attributes) (x .tree) es (x .tree-lines) .fields) ∙ length-map es (elementFields attrs))
 
+  passing : PassEach (only attrs) es
+  passing = let t = of-lines attrs (x .attributes-good) (x .few-attributes) (x .tree) es (x .tree-lines) in elements-pass attrs es [] (x .some-attribute) (t .good) (t .words) (x .placed) (x .new-names) (omega (arith, x .few-elements))
+
   pub good-read : (rest : Bytes) (more : List Bytes) → readLines lineTests rest 1 nothing (map (join tab) rows ++ more) ≡ readLines lineTests rest (suc (length rows)) (record { attributes = attrs; before = reverse es }) more
   good-read rest more =
       let t = of-lines attrs (x .attributes-good) (x .few-attributes) (x .tree) es (x .tree-lines) in
       let start : Good (only attrs) = record { attributes-good = x .attributes-good; some-attribute = λ h. contradiction refl h; few-attributes = x .few-attributes; small-space = x .small-space; elements-good = tt; few-elements = zero-le } in
       ap (λ y. readLines lineTests rest 1 nothing (y ++ more)) rows-texts
       ∙ ap (readLines lineTests rest 1 nothing) (append-assoc (map attributeText attrs) (map (bare attrs) es) more)
-      ∙ attributes-read rest attrs [] 1 (1 + length attrs) (map (bare attrs) es ++ more) refl (x .attributes-good) (x .attributes-distinct) (x .few-attributes) (x .small-space)
-      ∙ elements-read rest attrs es [] (1 + length attrs) (suc (length rows)) more (omega (arith, texts-count)) (x .some-attribute) start (t .good) (t .words) (x .placed) (x .new-names) (omega (arith, x .few-elements))
+      ∙ attributes-read lineTests line-numbered (λ s a. refl) rest attrs [] 1 (1 + length attrs) (map (bare attrs) es ++ more) refl (x .attributes-good) (x .attributes-distinct) (x .few-attributes) (x .small-space)
+      ∙ elements-read rest attrs es [] (1 + length attrs) (suc (length rows)) more (omega (arith, texts-count)) start (t .good) passing
+
+  -- the attribute lines by the writer, and then the elements
+  pub header-read : (rest : Bytes) (more : List Bytes) → readLines headerTests rest 1 nothing (map (join tab) (map attributeFields attrs) ++ more) ≡ readLines headerTests rest (suc (length (map attributeFields attrs))) (only attrs) more
+  header-read rest more =
+      ap (λ y. readLines headerTests rest 1 nothing (y ++ more)) (map-map (join tab) attributeFields attrs)
+      ∙ attributes-read headerTests header-numbered (λ s a. refl) rest attrs [] 1 (suc (length (map attributeFields attrs))) more (omega (arith, length-map attrs attributeFields)) (x .attributes-good) (x .attributes-distinct) (x .few-attributes) (x .small-space)
+
+  pub header-free : Frees newline (map (join tab) (map attributeFields attrs))
+  header-free = rw (map-map (join tab) attributeFields attrs) (attributes-free attrs (x .attributes-good))
+
+  pub good-taken : (more : List Element) → readElements (suc (length attrs)) (only attrs) (es ++ more) ≡ readElements (suc (length rows)) (record { attributes = attrs; before = reverse es }) more
+  good-taken more = all-taken attrs es [] (suc (length attrs)) (suc (length rows)) more (omega (arith, texts-count)) passing
 
 well-accepted : (f : Bytes) (p : Policy) → WellFormed f p → read f ≡ given p
+unfolding read
 well-accepted f p x =
     let attrs = p .attributes in
     let es = p .elements in
-    let ls = map (join tab) (x .rows) in
-    let whole : f ≡ unlines ls = x .text ∙ rows-lines (x .rows) in
+    let s : Sofar = record { attributes = attrs; before = reverse es } in
+    let all-read = rows-read lineTests line-numbered s (x .rows) (good-read (x .rows) attrs es (x .good)) f (x .text) (rows-free (x .rows) attrs es (x .good)) in
     let some-element : empty (reverse es) ≡ false = not-empty (reverse es) (omega (arith, length-reverse es, x .some-element)) in
-    let all-read : readLines lineTests [] 1 nothing ls ≡ given (record { attributes = attrs; before = reverse es }) = ap (readLines lineTests [] 1 nothing) (sym (append-nil ls)) ∙ good-read (x .rows) attrs es (x .good) [] [] in
-    read-lines f ls (record { attributes = attrs; before = reverse es }) (x .size) (ap (cut newline) whole ∙ cut-unlines ls (rows-free (x .rows) attrs es (x .good))) all-read some-element
-    ∙ ap (λ y. given (record { attributes = attrs; elements = y })) (reverse-reverse es)
+    rw (short-text f (x .size), all-read, some-element) (ap (λ y. given (record { attributes = attrs; elements = y })) (reverse-reverse es))
 
 pub well-formed : (f : Bytes) (p : Policy) → read f ≡ given p ↔ WellFormed f p
 well-formed f p = (accepted-well f p, well-accepted f p)
