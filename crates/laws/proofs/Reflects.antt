@@ -7,7 +7,7 @@ use mathlib.Core.Bool.{Bool, true, false, not, _||_, false≢true}
 use mathlib.Core.List.{List, [], _∷_, List·Memᴰ, Memᴰ·cast}
 use lib.ListN.{length}
 use lib.Dec.{eqb, leb, ltb}
-use borrow.Author.Tests.{leb-true, le-leb, ltb-true, lt-ltb, eqb-true, eq-eqb, not-true}
+use borrow.Author.Tests.{leb-true, le-leb, ltb-true, lt-ltb, eqb-true, eq-eqb, not-true, not-false}
 use Rattle.meaning.specs.Text.{Bytes, empty, all, between, same, sameName, amongNames}
 use Rattle.meaning.specs.Reading.{Tests, lowest}
 use Rattle.meaning.specs.Claims.Texts.{All, In}
@@ -29,6 +29,13 @@ reflects b R h n = record { holds = h; tests = λ r. go r (test b) }
     go : R → Test b → b ≡ true
     go r (passed e) = e
     go r (failed e) = absurd (n e r)
+
+-- and it may be said otherwise
+pub restated : (b : Bool) (P Q : Type 0) → (P → Q) → (Q → P) → Reflects b P → Reflects b Q
+restated b P Q to back x = record { holds = λ e. to (x .holds e); tests = λ q. x .tests (back q) }
+
+pub refutes : (b : Bool) (R : Type 0) → Reflects b R → Reflects (not b) (R → ⊥)
+refutes b R x = reflects (not b) (R → ⊥) (λ e r. contradiction (x .tests r) (not-true b e)) (λ e n. n (x .holds (not-false b e)))
 
 pub either : (a b : Bool) (P Q : Type 0) → Reflects a P → Reflects b Q → Reflects (a || b) (P ⊎ Q)
 either true b P Q x y = record { holds = λ e. inl (x .holds refl); tests = λ r. refl }

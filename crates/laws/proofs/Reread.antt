@@ -138,7 +138,7 @@ elements-back m s (e ∷ es) z g shaped h =
     }
 
 -- The attribute lines that the writer read: a file reads them alike
-header-passes : (s : Sofar) (fs : List Bytes) (l : Line) → PassesLine headerTests header-numbered s fs l → PassesLine lineTests line-numbered s fs l
+pub header-passes : (s : Sofar) (fs : List Bytes) (l : Line) → PassesLine headerTests header-numbered s fs l → PassesLine lineTests line-numbered s fs l
 header-passes s fs (attributeLine a) p = p
 header-passes s fs (treeLine k d n w ts) (f2, (f3, (f6, f))) = contradiction refl f6
 header-passes s fs otherLine p = p

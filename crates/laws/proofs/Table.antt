@@ -51,7 +51,7 @@ module _ (A : Attribute → Type 0) (T : Kind → Bytes → Bytes → Bytes → 
       go (inl (e, x)) = r .tests x
       go (inr (k, e, x)) = absurd (not-letter k e)
 
-  on-tree : (k : Kind) (d n w : Bytes) (ts : List Bytes) → Reflects b (T k d n w ts) → Reflects b (On A T (kindText k ∷ d ∷ n ∷ w ∷ ts))
+  pub on-tree : (k : Kind) (d n w : Bytes) (ts : List Bytes) → Reflects b (T k d n w ts) → Reflects b (On A T (kindText k ∷ d ∷ n ∷ w ∷ ts))
   on-tree k d n w ts r = record { holds = λ e. inr (k, refl, r .holds e); tests = go }
     where
       go : On A T (kindText k ∷ d ∷ n ∷ w ∷ ts) → b ≡ true
@@ -59,7 +59,7 @@ module _ (A : Attribute → Type 0) (T : Kind → Bytes → Bytes → Bytes → 
       go (inr (j, e, x)) = r .tests (subst (λ i. T i d n w ts) (sym (kind-same k j e)) x)
 
 -- Rows 3 to 6 of an attribute line
-abbrev noTests : Tests
+abbrev pub noTests : Tests
 noTests = (7, false) ∷ (8, false) ∷ []
 
 module _ (s : Sofar) where
@@ -72,7 +72,7 @@ module _ (s : Sofar) where
   abbrev pub laterRows : List Bytes → List (ℕ × Type 0)
   laterRows fs = drop 1 (tableRows ⊥ attrs before fs)
 
-  attribute-rows : (a : Attribute) → Matches (attributeTests s a ++ noTests) (laterRows (attributeFields a))
+  pub attribute-rows : (a : Attribute) → Matches (attributeTests s a ++ noTests) (laterRows (attributeFields a))
   attribute-rows a = (
     refl,
     on-attribute (λ a. all isName (a .name ∷ a .values) ≡ false) (λ k d n w ts. isName n ≡ false) _ a (opposite (all isName (a .name ∷ a .values))),

@@ -4,6 +4,7 @@ pub mod Texts
 pub mod PolicyFile
 pub mod Refusals
 pub mod Writing
+pub mod WriterRefusals
 pub mod Requests
 pub mod Standard
 pub mod Deciding

@@ -1,4 +1,4 @@
--- The writer: which files it makes, that reading and writing undo each other, and what it refuses.
+-- The writer: which files it makes, and that reading and writing undo each other.
 use mathlib.Core.Path.{_≡_}
 use Prim.Native.Nat.{ℕ, _≤_}
 use mathlib.Core.Bool.{Bool}
