@@ -78,13 +78,13 @@ attribute-line-refused header n m b =
     ∙ ap (refused n) (ap suc (length-map attrs attributeFields) ∙ sym (b .second))
 
 -- Elements behind attribute lines: one is the first bad one, or all are lines of the file
-module _ (header : Bytes) (size : length header ≤ 16384) (whole : List Element) where
-  abbrev Ended : Result Sofar → Type 0
-  Ended (refused n m) = BadElement header whole n m
-  Ended (given z) = FileLines header whole
+abbrev Ended : Bytes → List Element → Result Sofar → Type 0
+Ended header es (refused n m) = BadElement header es n m
+Ended header es (given z) = FileLines header es
 
+module _ (header : Bytes) (size : length header ≤ 16384) (whole : List Element) where
   elements-end : (j : ℕ) (s : Sofar) (rows : List (List Bytes)) (es : List Element) → GoodSofar s rows → header ≡ gathered line (map attributeFields (s .attributes)) → All Shaped es → whole ≡ reverse (s .before) ++ es → j ≡ suc (length rows)
-      → Ended (readElements j s es)
+      → Ended header whole (readElements j s es)
   elements-end j s rows [] g text shaped at count =
       record { attributes = s .attributes; rows = rows; header-size = size; header-text = text; good = subst (GoodLines rows (s .attributes)) (sym (at ∙ append-nil (reverse (s .before)))) (good-lines s rows g) }
   elements-end j s rows (e ∷ es) g text shaped at count =
@@ -101,7 +101,7 @@ module _ (header : Bytes) (size : length header ≤ 16384) (whole : List Element
       later : Result Sofar
       later = readElements (suc j) (withElement s e) es
 
-      go : (c : ℕ) → lowest tests ≡ c → (Passes tests → Ended later) → Ended (unless c j later)
+      go : (c : ℕ) → lowest tests ≡ c → (Passes tests → Ended header whole later) → Ended header whole (unless c j later)
       go zero i more = more (lowest-zero tests (element-numbered s (wordText (e .word)) e) i)
       go (suc c) i more = record {
         before = reverse (s .before);
@@ -193,9 +193,9 @@ module _ (room : ℕ) (header : Bytes) (es : List Element) (n m : ℕ) where
   unfolding writeFile
   refused-so shaped h = go (test (ltb 16384 (length header)))
     where
-      after-elements : (size : length header ≤ 16384) (x : Result Sofar) → Ended header size es x → behind room header x ≡ refused n m → RefusesToWrite room header es n m
-      after-elements size (refused a b) o i = let (c, d) = refused-refused i in inr (inr (inl (subst (λ x. BadElement header es x m) c (subst (λ x. BadElement header es a x) d o))))
-      after-elements size (given z) o i = inr (inr (inr (o, ended-badly room es (gathered line (o .rows)) n m (sym (file-written room header es o) ∙ h))))
+      after-elements : (x : Result Sofar) → Ended header es x → behind room header x ≡ refused n m → RefusesToWrite room header es n m
+      after-elements (refused a b) o i = let (c, d) = refused-refused i in inr (inr (inl (subst (λ x. BadElement header es x m) c (subst (λ x. BadElement header es a x) d o))))
+      after-elements (given z) o i = inr (inr (inr (o, ended-badly room es (gathered line (o .rows)) n m (sym (file-written room header es o) ∙ h))))
 
       after-lines : length header ≤ 16384 → (x : Result Sofar) → readText headerTests header ≡ x → (x then λ s. behind room header (readElements (suc (length (s .attributes))) s es)) ≡ refused n m → RefusesToWrite room header es n m
       after-lines size (refused a b) e i =
@@ -207,7 +207,7 @@ module _ (room : ℕ) (header : Bytes) (es : List Element) (n m : ℕ) where
           let start : es ≡ reverse (s .before) ++ es = ap (λ x. reverse (x .before) ++ es) (sym (held .alone)) in
           let count : suc (length (s .attributes)) ≡ suc (length rows) = omega (arith, ap length are, length-map (s .attributes) attributeFields) in
           let end = elements-end header size es (suc (length (s .attributes))) s rows es (held .sofar) (text ∙ ap (gathered line) are) shaped start count in
-          after-elements size (readElements (suc (length (s .attributes))) s es) end i
+          after-elements (readElements (suc (length (s .attributes))) s es) end i
 
       go : Test (ltb 16384 (length header)) → RefusesToWrite room header es n m
       go (passed e) =
