@@ -1,7 +1,8 @@
 /* Jogimaduve: access policies of robot arms.
  *
  * Every operation takes a policy file as bytes and relies on no earlier call. It keeps nothing, allocates nothing and
- * may be called from several threads at once. Pointers must not be NULL, also where a length is 0.
+ * may be called from several threads at once. Pointers must not be NULL, also where a length is 0. The buffer must not
+ * overlap the file: a text that is written over its own file comes out wrong, with no sign of it.
  *
  * Each answers two numbers. `number` is 0 where the operation did its work; `second` is then its result. Any other
  * `number` is a refusal, so test it first: the `second` of a refusal can be JOGIMADUVE_PERMIT.
