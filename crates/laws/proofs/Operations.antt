@@ -57,6 +57,21 @@ module _ {A : Type 0} (too-short : ℕ) (old : List A) where
         done = λ h. (ys, refl, ltb-false (length old) (length ys) t);
       })
 
+-- What an operation that did its work wrote
+pub record Gave {A : Type 0} (wanted : Result (List A)) (answer : Answer) (before after : List A) : Type 0 where
+  pub result : List A
+  pub is : wanted ≡ given result
+  pub told : answer .second ≡ length result
+  pub taken : take (answer .second) after ≡ result
+  pub behind : drop (answer .second) after ≡ drop (answer .second) before
+
+pub gave : {A : Type 0} {too-short : ℕ} {wanted : Result (List A)} {answer : Answer} {before after : List A} → Writes too-short wanted answer before after → answer .number ≡ 0 → Gave wanted answer before after
+gave w d =
+    let (xs, is, fits) = w .done d in
+    let (answers, start, rest) = w .written-so xs is fits in
+    let told = ap (λ a. a .second) answers in
+    record { result = xs; is = is; told = told; taken = rw told start; behind = rw told rest }
+
 -- reading first
 given-numbered : {A B : Type 0} (r : Result A) (g : A → B) → Numbered r → Numbered (r then λ a. given (g a))
 given-numbered (refused n m) g h = h

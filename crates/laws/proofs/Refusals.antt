@@ -9,7 +9,7 @@ use Rattle.meaning.specs.Text.{Bytes, empty, gathered, cut, tab, front, last, n
 use Rattle.meaning.specs.Model.{Policy, Result, refused, given, _then_, unless, wordText}
 use Rattle.meaning.specs.Reading.{Sofar, Line, Tests, lineOf, lowest, wrongFields, lineTests, elementTests, withElement, extended, readLines, nothing, short, finished, readText, read}
 use Rattle.meaning.specs.Report.{report, fitted, reportFile}
-use Rattle.meaning.specs.Writing.{listFile, headerTests, readElements, elementFields, writeFile}
+use Rattle.meaning.specs.Writing.{headerTests, readElements, elementFields, writeFile}
 use Rattle.laws.proofs.Types.{Element}
 
 abbrev pub Numbered : {A : Type 0} → Result A → Type 0
@@ -51,10 +51,6 @@ read-numbered f =
 pub report-numbered : (room : ℕ) (f : Bytes) → Numbered (reportFile room f)
 unfolding reportFile
 report-numbered room f = then-numbered (read f) (λ p. fitted room (report f p)) (read-numbered f) (λ p. either-numbered (ltb room (length (report f p))) (refused 11 (length (report f p))) (given (report f p)) (omega arith) tt)
-
-pub list-numbered : (room : ℕ) (f : Bytes) → Numbered (listFile room f)
-unfolding listFile
-list-numbered room f = then-numbered (read f) (λ p. cond (ltb room (length (p .elements))) (refused 12 (length (p .elements))) (given (p .elements))) (read-numbered f) (λ p. either-numbered (ltb room (length (p .elements))) (refused 12 (length (p .elements))) (given (p .elements)) (omega arith) tt)
 
 elements-numbered : (n : ℕ) (s : Sofar) (es : List Element) → Numbered (readElements n s es)
 elements-numbered n s [] = tt

@@ -10,6 +10,8 @@ ghost use mathlib.Core.List.{_++_, reverse};
 ghost use Prim.Native.Nat.{_≤_, _<_};
 ghost use lib.ListN.{length, take, drop, getD};
 ghost use Rattle.meaning.specs.Operations.{readAnswer, readLent, writeAnswer, writeLent};
+ghost use Rattle.meaning.specs.Claims.Texts.{All};
+ghost use Rattle.meaning.specs.Claims.Writing.{Shaped};
 ghost use Rattle.layout.specs.Places.{elementsTo};
 ghost use Rattle.elements.specs.Listed.{blank, elementsOf};
 ghost use Rattle.lists.specs.Listed.{Ready, Listed, atMost};
@@ -118,9 +120,9 @@ fn elements_of(list: &[Element]) -> Elements
     all
 }
 
-// Writes the file of some attribute lines and a list into a buffer. A refusal leaves the buffer as it was.
+// Writes the file of some attribute lines and a list into a buffer. A refusal leaves the buffer as it was. The last part is what the elements' type says: 16 name bytes and six masks.
 pub fn write_list(header: &[u8], list: &[Element], out: &mut [u8]) -> Answer
-    ensures { λ r. ⌜ (r ≡ writeAnswer (now (header .entry)) (now (list .entry)) (now (out .entry))) × (now (out .exit) ≡ writeLent (now (header .entry)) (now (list .entry)) (now (out .entry))) ⌝ }
+    ensures { λ r. ⌜ (r ≡ writeAnswer (now (header .entry)) (now (list .entry)) (now (out .entry))) × (now (out .exit) ≡ writeLent (now (header .entry)) (now (list .entry)) (now (out .entry))) × (r .number ≡ 0 → All Shaped (now (list .entry))) ⌝ }
 {
     let all = elements_of(list);
     writing::write(header, all, out)

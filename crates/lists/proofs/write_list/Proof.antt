@@ -1,11 +1,13 @@
 -- `write_list` meets its contract: a walk of its MIR, by hand. Two calls and no branch: the list by value, and the covered writer on it. Of each callee the proof knows only that it meets its contract.
 -- `write` is called at the lines' and the buffer's own lifetimes, shares and ghost names: the borrow of the buffer is given up for good. What the lines and the list own is Copy: a copy of each is kept for the exit.
-use Rattle.fields.proofs.Walk.{_≡_, refl, _∙_, List, [], _∷_, ℕ, _≤_, length, URA, named, Val, SProp, ent, sep, emp, via, fst∗, snd∗, exE, id⊢, Lft, Share, Fml, ftrue, flft, Memory, Routine, Heap, Calls, Loops, WpFn, Tables, Atoms, sem, Lfts, Fun, fact, givenOf, tables, tablesOf, Given, Item, ‵, raw, _⊛_, ⋆, some, later, _$_, _∵_, !, qed, by, move, drop, use1, use2, split, join, pick, fsplit, fjoin, suffices, frame, await, done, agg, whole, sub, look-in, look, init, forget, stop, fld, from, load, and-then, no-more, assigns, land, returns, enter, alloc1, alloc0, params1, pass1, pass0, free1, free0, FmC, fmOf, WpFn-mono, RattleType, owns, Is, shows, u8, RefT, now, plain, sliceVal, ShrSlice, slice-vals, shr-slice-tells, shr-slice-copy, peeks, heard, nothing, Contract, Triple, calls-at, ensured, lasts, Vals, onEntry, Meets, tripleOf, entered, cited, says, Stays, stay-none-slice, walkOf, goes-none-slice, Walks, ends-at, walked, walk-meets, yes}
+use Rattle.fields.proofs.Walk.{_≡_, refl, sym, _∙_, ap, List, [], _∷_, ℕ, _≤_, length, URA, named, Val, SProp, ent, sep, emp, via, fst∗, snd∗, exE, id⊢, Lft, Share, Fml, ftrue, flft, Memory, Routine, Heap, Calls, Loops, WpFn, Tables, Atoms, sem, Lfts, Fun, fact, givenOf, tables, tablesOf, Given, Item, ‵, raw, _⊛_, ⋆, some, later, _$_, _∵_, !, qed, by, move, drop, use1, use2, split, join, pick, fsplit, fjoin, suffices, frame, await, done, agg, whole, sub, look-in, look, init, forget, stop, fld, from, load, and-then, no-more, assigns, land, returns, enter, alloc1, alloc0, params1, pass1, pass0, free1, free0, FmC, fmOf, WpFn-mono, RattleType, owns, Is, shows, u8, RefT, now, plain, sliceVal, ShrSlice, slice-vals, shr-slice-tells, shr-slice-copy, peeks, heard, nothing, Contract, Triple, calls-at, ensured, lasts, Vals, onEntry, Meets, tripleOf, entered, cited, says, Stays, stay-none-slice, walkOf, goes-none-slice, Walks, ends-at, walked, walk-meets, yes}
 use Rattle.lists.proofs.Walk.{take, GName, feqL, hop, addr, MutSlice, Room, mut-slice-tells, finally, gave-slice, goes-gave-slice}
 use denote.Struct.Laws as LL
 use Rattle.meaning.specs.declared.Answer.{Answer}
 use Rattle.meaning.specs.declared.Element.{Element}
 use Rattle.meaning.specs.Operations.{writeAnswer, writeLent}
+use Rattle.meaning.specs.Claims.Texts.{All}
+use Rattle.meaning.specs.Claims.Writing.{Shaped}
 use Rattle.meaning.proofs.Answer as N
 use Rattle.meaning.proofs.Answer.Laws as N′
 use Rattle.meaning.proofs.Element as T
@@ -18,7 +20,8 @@ use Rattle.writing.proofs.write as write
 use Rattle.writing.proofs.write.Symbol as write-def
 use Rattle.writing.proofs.write.Symbol.{name as #writing·write}
 use Rattle.writing.proofs.write.Met as write-thm
-use Rattle.lists.proofs.Writing.{written-answer, written-lent}
+use Rattle.lists.proofs.Shapes.{elements-shaped}
+use Rattle.lists.proofs.Writing.{written-answer, written-lent, written-shaped}
 use Rattle.lists.proofs.elements_of as elements-of
 use Rattle.lists.proofs.elements_of.Symbol as elements-of-def
 use Rattle.lists.proofs.elements_of.Symbol.{name as #lists·elements-of}
@@ -92,7 +95,7 @@ module _ {M : Type 1} (𝓤 : URA M) (H : Heap 𝓤) (A : Atoms 𝓤) (W : Given
   abbrev Toks : Item 𝓤
   Toks = ‵ (flft κ q) ⊛ ‵ (flft κ″ q″) ⊛ ‵ ftrue
 
-  exits : (r : Answer) (w : Val) (zs : List ℕ) → (r ≡ writeAnswer hs ys os) × (zs ≡ writeLent hs ys os) → length zs ≡ length os
+  exits : (r : Answer) (w : Val) (zs : List ℕ) → (r ≡ writeAnswer hs ys os) × (zs ≡ writeLent hs ys os) × (r .number ≡ 0 → All Shaped ys) → length zs ≡ length os
       → ent 𝓤 (⋆ 𝓤 H A (‵ (N.the-row .own r (w ∷ [])) ∷ Toks ∷ ‵ (finally u8 γ zs) ∷ Tok′ ∷ ‵ OwnH ∷ ‵ OwnL ∷ [])) (Post w)
   exits r w zs e l =
       qed W (‵ (N.the-row .own r (w ∷ [])) ∷ Toks ∷ ‵ (finally u8 γ zs) ∷ Tok′ ∷ ‵ OwnH ∷ ‵ OwnL ∷ []) ∵
@@ -130,6 +133,12 @@ module _ {M : Type 1} (𝓤 : URA M) (H : Heap 𝓤) (A : Atoms 𝓤) (W : Given
   abbrev Laid : Elements → List ℕ → Type 0
   Laid t zs = zs ≡ writeLent hs (elementsOf t) os
 
+  answer-is : (t : Elements) (r : Answer) → elementsOf t ≡ take 65 ys → Told t r → r ≡ writeAnswer hs ys os
+  answer-is t r e told = told ∙ written-answer hs os (elementsOf t) ys e
+
+  shaped : (t : Elements) (u : Val) (r : Answer) → elementsOf t ≡ take 65 ys → Told t r → Is R t (u ∷ []) → r .number ≡ 0 → All Shaped ys
+  shaped t u r e told is done = written-shaped hs os (elementsOf t) ys e (elements-shaped t (u ∷ []) is) (ap (λ a. a .number) (sym (answer-is t r e told)) ∙ done)
+
   module _ (C : Calls 𝓤 H) (Λ : Loops 𝓤 H) (fm : FmC 𝓤 H (W .laws) C) (known-take : Triple 𝓤 (C #lists·elements-of) (ElementsOf 𝓤 H A mem run)) (known-write : Triple 𝓤 (C #writing·write) (Write 𝓤 H A mem run)) where
     walk : ent 𝓤 (onEntry 𝓤 H A write-list.signature κs qs (src, (x, (y, tt))) at) (WpFn 𝓤 H C Λ code.function (vh ∷ vl ∷ vo ∷ []) Post)
     walk =
@@ -163,7 +172,7 @@ module _ {M : Type 1} (𝓤 : URA M) (H : Heap 𝓤) (A : Atoms 𝓤) (W : Given
         land ! (from ! (stop !)) (init ! 18 refl (LL.lawful N.the-type N′.the-laws 𝓤 H A W .typed r _ ir .0)) $
         returns ! (look ! 18 refl) $ forget ! 6 refl $ forget ! 8 refl $ forget ! 10 refl $ forget ! 12 refl $ forget ! 14 refl $ forget ! 16 refl $ forget ! 18 refl $
         move ! (18 ∷ 19 ∷ []) $ free1 ! $ move ! (16 ∷ 17 ∷ []) $ free1 ! $ move ! (14 ∷ 15 ∷ []) $ free1 ! $ move ! (12 ∷ 13 ∷ []) $ free1 ! $ move ! (10 ∷ 11 ∷ []) $ free1 ! $ move ! (8 ∷ 9 ∷ []) $ free1 ! $ move ! (6 ∷ 7 ∷ []) $ free1 ! $ free0 ! $
-        by ! (exits r w (ws .1 .1 .0) (told ∙ written-answer hs os (elementsOf t) ys (e .0), laid ∙ written-lent hs os (elementsOf t) ys (e .0)) l)))))))))))))))))
+        by ! (exits r w (ws .1 .1 .0) (answer-is t r (e .0) told, laid ∙ written-lent hs os (elementsOf t) ys (e .0), shaped t u r (e .0) told is) l)))))))))))))))))
 
 module _ {M : Type 1} (𝓤 : URA M) (H : Heap 𝓤) (A : Atoms 𝓤) (W : Given 𝓤 H A) (mem : Memory → SProp 𝓤) (run : Routine → Fun 𝓤) where
   write-list-walks : (C : Calls 𝓤 H) (Λ : Loops 𝓤 H) → FmC 𝓤 H (W .laws) C → Triple 𝓤 (C #lists·elements-of) (ElementsOf 𝓤 H A mem run) → Triple 𝓤 (C #writing·write) (Write 𝓤 H A mem run)
