@@ -1,47 +1,169 @@
--- Demand 3 of what `jogimaduve_trim` gives: its contract alone makes the buffer hold the trimmed text of an accepted file, and
--- that text has all that the claim `TrimsSoundly` says.
-use mathlib.Core.Path.{_≡_, ap, _∙_}
-use mathlib.Core.Bool.{Bool, true, false, cond}
+-- Demand 3 of the operations, from their contracts alone: what `jogimaduve_trim` and `jogimaduve_report` wrote of a file, and what
+-- `jogimaduve_decide` answers on it.
+use mathlib.Core.Path.{_≡_, refl, sym, ap, _∙_, subst}
+use mathlib.Core.Logic.{_≢_}
+use Prim.Native.Nat.{ℕ, _≤_, _<_}
 use native.Mathlib.Omega.{arith}
-use lib.Dec.{ltb}
+use mathlib.Core.Bool.{true}
+use mathlib.Core.List.{List, [], _∷_, _++_, map}
 use lib.ListN.{length, take, drop}
-use lib.Seq.{take-append-seam, drop-append-seam}
 use Rattle.meaning.specs.declared.Answer.{Answer}
-use Rattle.meaning.specs.Text.{Bytes}
-use Rattle.meaning.specs.Model.{Policy, refused, given}
+use Rattle.meaning.specs.Text.{Bytes, keep}
+use Rattle.meaning.specs.Model.{Policy, sizes, space, given, _then_}
 use Rattle.meaning.specs.Reading.{read}
-use Rattle.meaning.specs.Trimming.{trimmed}
-use Rattle.meaning.specs.Report.{report, fitted, trimFile}
-use Rattle.meaning.specs.Operations.{answered, lent, trimAnswer, trimLent}
-use Rattle.meaning.specs.Claims.Trimming.{TrimsSoundly}
+use Rattle.meaning.specs.Deciding.{requestOf, decisionNumber, outcome, decideFile}
+use Rattle.meaning.specs.Trimming.{lines, isRuleLine, nameAt, ruleLines, strike, trimmed}
+use Rattle.meaning.specs.Segments.{segments, conflicts}
+use Rattle.meaning.specs.Report.{report}
+use Rattle.meaning.specs.Operations.{answered, decideAnswer, trimAnswer, trimLent, reportAnswer, reportLent}
+use Rattle.meaning.specs.Claims.PolicyFile.{WellFormed}
+use Rattle.meaning.specs.Claims.Requests.{requestText}
+use Rattle.meaning.specs.Claims.ReportLines.{segmentRow, conflictRow, struckRow, keptRow, fieldLines}
+use Rattle.meaning.specs.Claims.Trimming.{Trims, FirstChange, stays}
+use Rattle.meaning.specs.Claims.Operations.{Writes}
+use Rattle.laws.proofs.Outcomes.{same-number}
+use Rattle.laws.proofs.Reading.{given-given, step-then}
+use Rattle.laws.proofs.Striking.{strike-read}
+use Rattle.laws.proofs.WellFormed.{well-formed}
+use Rattle.laws.proofs.RequestLines.{decides}
 use Rattle.laws.proofs.Demand3.{trims-soundly}
+use Rattle.laws.proofs.Operations.{operations, gave}
 
--- an answer and a buffer afterwards: the trimmed text and its length, the bytes behind it, and the whole claim
-pub record TrimsInto (f : Bytes) (p : Policy) (before after : Bytes) (answer : Answer) : Type 0 where
-  pub length-told : answer .second ≡ length (trimmed f .text)
-  pub text : take (answer .second) after ≡ trimmed f .text
-  pub behind : drop (answer .second) after ≡ drop (answer .second) before
-  pub sound : TrimsSoundly trimmed report f p
+-- The operations by what they are passed: their answers, what a buffer holds afterwards, and their contracts
+pub record Operate : Type 0 where
+  pub decide : (file request : Bytes) → Answer
+  pub trim : (file buffer : Bytes) → Answer
+  pub trim-into : (file buffer : Bytes) → Bytes
+  pub report : (file buffer : Bytes) → Answer
+  pub report-into : (file buffer : Bytes) → Bytes
+  pub decide-is : (f r : Bytes) → decide f r ≡ decideAnswer f r
+  pub trim-is : (f b : Bytes) → trim f b ≡ trimAnswer f b
+  pub trim-lends : (f b : Bytes) → trim-into f b ≡ trimLent f b
+  pub report-is : (f b : Bytes) → report f b ≡ reportAnswer f b
+  pub report-lends : (f b : Bytes) → report-into f b ≡ reportLent f b
 
-module _ (f : Bytes) (p : Policy) (accepted : read f ≡ given p) (before after : Bytes) (answer : Answer) where
+-- what is defined meets them
+pub as-defined : Operate
+as-defined = record {
+  decide = decideAnswer;
+  trim = trimAnswer;
+  trim-into = trimLent;
+  report = reportAnswer;
+  report-into = reportLent;
+  decide-is = λ f r. refl;
+  trim-is = λ f b. refl;
+  trim-lends = λ f b. refl;
+  report-is = λ f b. refl;
+  report-lends = λ f b. refl;
+}
+
+-- the line of the request of a number
+abbrev pub lineOf : Policy → ℕ → Bytes
+lineOf p n = requestText (p .attributes) (requestOf (sizes (p .attributes)) n)
+
+-- Request n is the first that needs line k of a text: without that line it gets another decision, and no earlier one does
+pub record NeededFirst (o : Operate) (p : Policy) (t : Bytes) (k n : ℕ) : Type 0 where
+  pub in-space : n < space (p .attributes)
+  pub decided : (o .decide t (lineOf p n) .number ≡ 0) × (o .decide (strike k t) (lineOf p n) .number ≡ 0)
+  pub differs : o .decide (strike k t) (lineOf p n) ≢ o .decide t (lineOf p n)
+  pub no-earlier : (m : ℕ) → m < n → o .decide (strike k t) (lineOf p m) ≡ o .decide t (lineOf p m)
+
+-- The texts that were written
+module _ (o : Operate) (f buffer : Bytes) where
+  abbrev pub trimText : Bytes
+  trimText = take (o .trim f buffer .second) (o .trim-into f buffer)
+
+  abbrev pub reportText : Bytes
+  reportText = take (o .report f buffer .second) (o .report-into f buffer)
+
+-- A file, a buffer for its trimmed text and one for its report
+module _ (o : Operate) (f buffer sheet : Bytes) where
   abbrev left : Bytes
-  left = trimmed f .text
+  left = trimText o f buffer
 
-  trim-is : trimFile (length before) f ≡ fitted (length before) left
-  unfolding trimFile
-  trim-is = rw accepted
+  pub record Demand3 : Type 0 where
+    -- the file is a policy file, and so is what is left of it
+    pub policy : Policy
+    pub is-file : WellFormed f policy
+    pub policy-left : Policy
+    pub left-file : WellFormed left policy-left
+    -- its own lines in order, less exactly those that the paper's trimming strikes
+    pub struck : List Bytes
+    pub steps : Trims f struck left
+    pub own-lines : lines left ≡ keep (stays struck) (lines f)
+    -- every request line is answered alike
+    pub alike : (r : Bytes) → o .decide left r ≡ o .decide f r
+    -- the report's lines in order, and no others: the struck rules, and each rule left with the first request that needs it
+    pub needed-by : ℕ → ℕ
+    pub reported : fieldLines (reportText o f sheet) ≡ map (segmentRow policy) (segments policy)
+        ++ (map (conflictRow (policy .elements)) (conflicts policy)
+        ++ (map struckRow struck
+        ++ (map (λ k. keptRow (nameAt left k) (needed-by k)) (ruleLines left) ++ (([] ∷ []) ∷ []))))
+    pub needed : (k : ℕ) → isRuleLine left k ≡ true → NeededFirst o policy left k (needed-by k)
+    -- trimmed again it stays as it is
+    pub again-fits : (b : Bytes) → length left ≤ length b → o .trim left b .number ≡ 0
+    pub again-same : (b : Bytes) → o .trim left b .number ≡ 0 → trimText o left b ≡ left
+    -- the answers tell how long the texts are, and behind them the buffers are as they were
+    pub text-size : o .trim f buffer .second ≡ length left
+    pub report-size : o .report f sheet .second ≡ length (reportText o f sheet)
+    pub behind-text : drop (o .trim f buffer .second) (o .trim-into f buffer) ≡ drop (o .trim f buffer .second) buffer
+    pub behind-report : drop (o .report f sheet .second) (o .report-into f sheet) ≡ drop (o .report f sheet .second) sheet
 
-  pub trims-into : answer ≡ trimAnswer f before → after ≡ trimLent f before → answer .number ≡ 0 → TrimsInto f p before after answer
-  trims-into answers lends done =
-      go (ltb (length before) (length left)) (answers ∙ ap (answered length) trim-is) (lends ∙ ap (lent before) trim-is)
-    where
-      go : (short : Bool) → answer ≡ answered length (cond short (refused 11 (length left)) (given left)) → after ≡ lent before (cond short (refused 11 (length left)) (given left)) → TrimsInto f p before after answer
-      go true a l = absurd (omega (arith, ap (λ x. x .number) a, done))
-      go false a l =
-          let told : answer .second ≡ length left = ap (λ x. x .second) a in
-          record {
-            length-told = told;
-            text = rw (told, l) (take-append-seam left (drop (length left) before));
-            behind = rw (told, l) (drop-append-seam left (drop (length left) before));
-            sound = trims-soundly f p accepted;
-          }
+module _ (o : Operate) where
+  trims : (f b : Bytes) → Writes 11 (read f then λ p. given (trimmed f .text)) (o .trim f b) b (o .trim-into f b)
+  trims f b = rw (o .trim-is f b, o .trim-lends f b) (operations .trims f b)
+
+  reports : (f b : Bytes) → Writes 11 (read f then λ p. given (report f p)) (o .report f b) b (o .report-into f b)
+  reports f b = rw (o .report-is f b, o .report-lends f b) (operations .reports f b)
+
+  -- the answer to a request's line, of a file with these attributes
+  line-decided : (f : Bytes) (p q : Policy) → read f ≡ given q → q .attributes ≡ p .attributes → (n : ℕ) → n < space (p .attributes) → o .decide f (lineOf p n) ≡ record { number = 0; second = decisionNumber (outcome q n) }
+  line-decided f p q h e n l =
+      o .decide-is f (lineOf p n) ∙ ap (answered decisionNumber) (subst (λ attrs. decideFile f (requestText attrs (requestOf (sizes attrs) n)) ≡ given (outcome q n)) e (decides f q h .each-number n (rw e l)))
+
+  first-needed : (p q : Policy) (t : Bytes) → read t ≡ given q → q .attributes ≡ p .attributes → (k n : ℕ) → isRuleLine t k ≡ true → (x : Policy) → read (strike k t) ≡ given x → FirstChange q x n → NeededFirst o p t k n
+  first-needed p q t h e k n r x i c =
+      let same : x .attributes ≡ p .attributes = ap (λ y. y .attributes) (given-given (sym i ∙ strike-read t q h k r .others)) ∙ e in
+      let inside : n < space (p .attributes) = subst (λ attrs. n < space attrs) e (c .in-space) in
+      let with-it = line-decided t p q h e in
+      let without-it = line-decided (strike k t) p x i same in
+      record {
+        in-space = inside;
+        decided = (ap (λ a. a .number) (with-it n inside), ap (λ a. a .number) (without-it n inside));
+        differs = λ z. c .differs (same-number (outcome x n) (outcome q n) (ap (λ a. a .second) (sym (without-it n inside) ∙ z ∙ with-it n inside)));
+        no-earlier = λ m l. let low : m < space (p .attributes) = omega arith in
+            without-it m low ∙ ap (λ d. record { number = 0; second = decisionNumber d }) (c .no-earlier m l) ∙ sym (with-it m low);
+      }
+
+pub demand-3 : (o : Operate) (f buffer sheet : Bytes) → o .trim f buffer .number ≡ 0 → o .report f sheet .number ≡ 0 → Demand3 o f buffer sheet
+demand-3 o f buffer sheet trim-done report-done =
+    let x = gave (trims o f buffer) trim-done in
+    let y = gave (reports o f sheet) report-done in
+    let (p, h, is-text) = step-then (read f) (λ p. given (trimmed f .text)) (x .result) (x .is) in
+    let (p′, h′, is-report) = step-then (read f) (λ p. given (report f p)) (y .result) (y .is) in
+    let same : p′ ≡ p = given-given (sym h′ ∙ h) in
+    let t = trimmed f .text in
+    let left-is : trimText o f buffer ≡ t = x .taken ∙ sym (given-given is-text) in
+    let told-is : reportText o f sheet ≡ report f p = y .taken ∙ sym (given-given is-report) ∙ ap (report f) same in
+    let s = trims-soundly f p h in
+    let attrs = s .alike .same-attributes in
+    let again : (read t then λ q. given (trimmed t .text)) ≡ given t = rw (s .is-accepted, s .again) in
+    record {
+      policy = p;
+      is-file = well-formed f p .0 h;
+      policy-left = s .policy;
+      left-file = rw left-is (well-formed t (s .policy) .0 (s .is-accepted));
+      struck = trimmed f .struck;
+      steps = rw left-is (s .steps);
+      own-lines = rw left-is (s .own-lines);
+      alike = λ r. rw left-is (o .decide-is t r ∙ ap (answered decisionNumber) (s .decides r) ∙ sym (o .decide-is f r));
+      needed-by = s .needed-by;
+      reported = rw (told-is, left-is) (s .reported);
+      needed = rw left-is (λ k r. let (q, i, c) = s .needed k r in first-needed o p (s .policy) t (s .is-accepted) attrs k (s .needed-by k) r q i c);
+      again-fits = rw left-is (λ b l. ap (λ a. a .number) (trims o t b .written-so t again l .0));
+      again-same = rw left-is (λ b d. let z = gave (trims o t b) d in z .taken ∙ given-given (sym (z .is) ∙ again));
+      text-size = x .told ∙ ap length (sym (x .taken));
+      report-size = y .told ∙ ap length (sym (y .taken));
+      behind-text = x .behind;
+      behind-report = y .behind;
+    }
