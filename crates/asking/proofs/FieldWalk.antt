@@ -16,9 +16,9 @@ use Rattle.meaning.specs.Model.{Attribute, Result, refused, given, _then_}
 use Rattle.meaning.specs.Deciding.{Request, valueOf, valuesOf, requestLine}
 use Rattle.laws.proofs.Bools.{never}
 use Rattle.laws.proofs.Text.{Some, one-or-more, cut-some}
-use Rattle.text.specs.declared.Found.{Found}
-use Rattle.text.specs.declared.Found.the-variants.{At, Nothing}
-use Rattle.text.specs.Places.{foundOf}
+use Rattle.names.specs.declared.Found.{Found}
+use Rattle.names.specs.declared.Found.the-variants.{At, Nothing}
+use Rattle.names.specs.Places.{foundOf}
 use Rattle.text.proofs.Pieces.{behind, piece-last, piece-more, piece-at}
 use Rattle.layout.specs.declared.Attributes.{Attributes}
 use Rattle.layout.specs.Places.{attributeAt, attributesFrom, attributesOf}

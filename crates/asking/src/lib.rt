@@ -1,7 +1,7 @@
 // A request line, read against the attributes of a file.
 use layout::Attributes;
+use names::Found;
 use requests::Request;
-use text::Found;
 ghost use mathlib.Core.Path.{_≡_};
 ghost use Prim.Native.Nat.{_≤_};
 ghost use lib.ListN.{length};
@@ -45,7 +45,7 @@ fn read_fields(file: &[u8], a: Attributes, line: &[u8]) -> Asked
         let end = text::end_of(line, at, b'\t');
         let first = starts[i];
         let last = ends[i];
-        let Found::At(v) = text::find(&file[first..last], &line[at..end]) else {
+        let Found::At(v) = names::find(&file[first..last], &line[at..end]) else {
             return refuse(i + 1);
         };
         values[i] = v;

@@ -34,7 +34,7 @@ fn bad_name(e: Element) -> bool
     if 16 < len {
         return true;
     }
-    if !text::is_name(&name[0..len]) {
+    if !names::is_name(&name[0..len]) {
         return true;
     }
     let mut i = len;
@@ -55,7 +55,7 @@ fn same_names(a: Element, b: Element) -> bool
     let second = b.name;
     let m = a.len as usize;
     let n = b.len as usize;
-    text::same(&first[0..m], &second[0..n])
+    names::same_name(&first[0..m], &second[0..n])
 }
 
 // 4: whether one of the first n elements has the name of e.

@@ -31,7 +31,7 @@ fn tree_refusal(line: &[u8], attributes: usize, fields: usize) -> usize
     if fields != 4 + attributes {
         return 2;
     }
-    if !text::is_name(fields::field(line, 2)) {
+    if !names::is_name(fields::field(line, 2)) {
         return 3;
     }
     6

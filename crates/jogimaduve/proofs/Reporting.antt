@@ -11,7 +11,7 @@ use Rattle.meaning.specs.Reading.{read}
 use Rattle.meaning.specs.Report.{report, fitted, reportFile}
 use Rattle.meaning.specs.Operations.{answered, lent, reportAnswer, reportLent}
 use Rattle.laws.proofs.Bools.{Test, passed, failed, test}
-use Rattle.flags.specs.declared.Shape.{Shape}
+use Rattle.outcomes.specs.declared.Shape.{Shape}
 use Rattle.lines.specs.Fitted.{Fitted}
 use Rattle.reporting.specs.Reported.{Reported}
 use Rattle.reader.specs.declared.Reading.{Reading}

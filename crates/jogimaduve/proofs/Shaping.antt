@@ -13,13 +13,13 @@ use Rattle.laws.proofs.Requests.{product-pos}
 use Rattle.laws.proofs.Answers.{positive}
 use Rattle.decisions.specs.Table.{Leaves}
 use Rattle.decisions.proofs.Leaves.{none-struck}
-use Rattle.flags.specs.declared.Shape.{Shape}
-use Rattle.flags.specs.Ready.{countsOf, Ready}
+use Rattle.outcomes.specs.declared.Shape.{Shape}
+use Rattle.outcomes.specs.Ready.{countsOf, Ready}
 use Rattle.layout.specs.Places.{lineStart}
 use Rattle.layout.proofs.Laws.{attributes-length}
 use Rattle.layout.proofs.Counts.{counts-are}
-use Rattle.trimming.specs.Copied.{Copies}
-use Rattle.trimming.proofs.Tabled.{root-word, leaves as rules-are-leaves}
+use Rattle.trimmed_text.specs.Copied.{Copies}
+use Rattle.trimmed_text.proofs.Tabled.{root-word, leaves as rules-are-leaves}
 use Rattle.reader.specs.declared.Reading.{Reading}
 use Rattle.reader.specs.Steps.{Holds}
 use Rattle.reader.proofs.FileRead.{elements-are, few}

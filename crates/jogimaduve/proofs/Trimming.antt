@@ -12,14 +12,14 @@ use Rattle.meaning.specs.Trimming.{trimmed}
 use Rattle.meaning.specs.Report.{fitted, trimFile}
 use Rattle.meaning.specs.Operations.{answered, trimAnswer, trimLent}
 use Rattle.laws.proofs.Reading.{accepted}
-use Rattle.flags.specs.declared.Shape.{Shape}
-use Rattle.flags.specs.Decided as table-level
-use Rattle.flags.specs.Ready.{countsOf}
-use Rattle.trimming.specs.Flags.{textLeft}
-use Rattle.trimming.specs.Copied.{copied}
-use Rattle.trimming.proofs.Trimmed.{trimmed-flags}
-use Rattle.trimming.proofs.Tabled.{trimming-is}
-use Rattle.trimming.proofs.Placed.{text-copied}
+use Rattle.outcomes.specs.declared.Shape.{Shape}
+use Rattle.trimming.specs.Decided as table-level
+use Rattle.outcomes.specs.Ready.{countsOf}
+use Rattle.trimmed_text.specs.Flags.{textLeft}
+use Rattle.trimmed_text.specs.Copied.{copied}
+use Rattle.trimmed_text.proofs.Trimmed.{trimmed-flags}
+use Rattle.trimmed_text.proofs.Tabled.{trimming-is}
+use Rattle.trimmed_text.proofs.Placed.{text-copied}
 use Rattle.reader.specs.declared.Reading.{Reading}
 use Rattle.reader.specs.Steps.{Holds, ReadAs}
 use Rattle.reader.proofs.FileRead.{file-refused, elements-are, few}

@@ -1,12 +1,12 @@
 // The operations for C callers.
-use flags::Shape;
 use meaning::Answer;
+use outcomes::Shape;
 use reader::Reading;
 ghost use mathlib.Core.Path.{_≡_};
 ghost use Prim.Native.Nat.{_<_};
 ghost use Rattle.meaning.specs.Operations.{decideAnswer, trimAnswer, trimLent, reportAnswer, reportLent};
-ghost use Rattle.flags.specs.Decided.{trimmingAt};
-ghost use Rattle.flags.specs.Ready.{countsOf, Ready};
+ghost use Rattle.trimming.specs.Decided.{trimmingAt};
+ghost use Rattle.outcomes.specs.Ready.{countsOf, Ready};
 ghost use Rattle.jogimaduve.specs.Told.{textTold, shapeOf};
 
 // The shape of the policy that was read.
@@ -74,12 +74,12 @@ fn strike(table: &[u16], struck: &mut [u8], shape: Shape)
     ensures { λ _. ⌜ now (struck .exit) ≡ trimmingAt (now (table .entry)) (shape .n) (countsOf shape) (shape .n) (now (struck .entry)) .flags ⌝ }
 {
     let mut hits = [0u64; 4096];
-    flags::match_elements(table, shape, &mut hits);
+    outcomes::match_elements(table, shape, &mut hits);
     let mut told = [0u64; 128];
-    flags::decide_all(table, struck, &hits, shape, &mut told);
+    outcomes::decide_all(table, struck, &hits, shape, &mut told);
     let mut hints = [0u16; 64];
     let mut order = [0u8; 64];
-    flags::trim_flags(table, struck, &hits, shape, &told, &mut hints, &mut order);
+    trimming::trim_flags(table, struck, &hits, shape, &told, &mut hints, &mut order);
 }
 
 // The trimmed text of a policy file, in a lent buffer.
@@ -98,11 +98,11 @@ pub extern "C" fn jogimaduve_trim(file: &[u8], out: &mut [u8]) -> Answer
     let mut struck = [0u8; 64];
     strike(&table, &mut struck, shape_of(reading));
     let room = out.len();
-    let length = trimming::text_length(file, &places, &struck, n);
+    let length = trimmed_text::text_length(file, &places, &struck, n);
     if room < length {
         return text_answer(length, room);
     }
-    trimming::copy_text(file, &places, &struck, n, out);
+    trimmed_text::copy_text(file, &places, &struck, n, out);
     text_answer(length, room)
 }
 

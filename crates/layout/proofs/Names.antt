@@ -1,13 +1,11 @@
 -- The search for a name, place by place.
 use Prim.Native.Nat.{ℕ, zero, suc, _+_, _-_, _≤_, _<_}
-use mathlib.Core.Path.{_≡_, refl, sym, ap, _∙_}
+use mathlib.Core.Path.{_≡_, refl, ap, _∙_}
 use mathlib.Core.Bool.{true, false}
 use mathlib.Core.List.{List, [], _∷_, map}
 use native.Mathlib.Omega.{arith}
-use lib.ListN.{length, drop, getD, length-drop}
-use lib.Seq.{getD-take, getD-drop, length-take-le}
-use Rattle.meaning.specs.Text.{Bytes, same, amongNames}
-use Rattle.text.proofs.Equal.{same-apart}
+use lib.ListN.{getD}
+use Rattle.meaning.specs.Text.{Bytes, sameName, amongNames}
 use Rattle.layout.specs.declared.Attributes.{Attributes}
 use Rattle.layout.specs.Places.{part, attributesFrom, nameIn, namesTo}
 
@@ -28,11 +26,11 @@ module _ (f name : Bytes) (names values : List ℕ) (n i : ℕ) where
   attributes-end l = let none : n - i ≡ 0 = omega arith in rw none
 
   module _ (l : i < n) where
-    pub attribute-hit : same name (part f (getD names i 0) (getD values i 0 - 1)) ≡ true → amongNames name (namesFrom f names values i (n - i)) ≡ true
+    pub attribute-hit : sameName name (part f (getD names i 0) (getD values i 0 - 1)) ≡ true → amongNames name (namesFrom f names values i (n - i)) ≡ true
     unfolding namesFrom
     attribute-hit e = let more : n - i ≡ suc (n - (i + 1)) = omega arith in rw (more, e)
 
-    pub attribute-miss : same name (part f (getD names i 0) (getD values i 0 - 1)) ≡ false → amongNames name (namesFrom f names values i (n - i)) ≡ amongNames name (namesFrom f names values (i + 1) (n - (i + 1)))
+    pub attribute-miss : sameName name (part f (getD names i 0) (getD values i 0 - 1)) ≡ false → amongNames name (namesFrom f names values i (n - i)) ≡ amongNames name (namesFrom f names values (i + 1) (n - (i + 1)))
     unfolding namesFrom
     attribute-miss e = let more : n - i ≡ suc (n - (i + 1)) = omega arith in rw (more, e)
 
@@ -43,21 +41,10 @@ module _ (f name : Bytes) (places : List ℕ) (i : ℕ) where
   elements-end none = rw none
 
   module _ (l : 0 < i) where
-    pub element-hit : same name (nameIn f places (i - 1)) ≡ true → amongNames name (namesTo f places i) ≡ true
+    pub element-hit : sameName name (nameIn f places (i - 1)) ≡ true → amongNames name (namesTo f places i) ≡ true
     unfolding namesTo
     element-hit e = let more : i ≡ suc (i - 1) = omega arith in rw (more, e)
 
-    pub element-miss : same name (nameIn f places (i - 1)) ≡ false → amongNames name (namesTo f places i) ≡ amongNames name (namesTo f places (i - 1))
+    pub element-miss : sameName name (nameIn f places (i - 1)) ≡ false → amongNames name (namesTo f places i) ≡ amongNames name (namesTo f places (i - 1))
     unfolding namesTo
     element-miss e = let more : i ≡ suc (i - 1) = omega arith in ap (λ m. amongNames name (namesTo f places m)) more ∙ rw e
-
--- A text that ends otherwise than a name
-pub other-end : (f name : Bytes) (start end : ℕ) → 1 ≤ length name → start ≤ end → end ≤ length f → (getD f (end - 1) 0 ≡ getD name (length name - 1) 0 → ⊥) → same name (part f start end) ≡ false
-other-end f name start end some before inside other = same-apart name (part f start end) (λ e. other (sym (last-byte e)))
-  where
-    last-byte : name ≡ part f start end → getD name (length name - 1) 0 ≡ getD f (end - 1) 0
-    last-byte e =
-        let size : length name ≡ end - start = ap length e ∙ length-take-le (end - start) (drop start f) (omega (arith, length-drop start f)) in
-        let place : start + (length name - 1) ≡ end - 1 = omega arith in
-        let here : length name - 1 < end - start = omega arith in
-        ap (λ x. getD x (length name - 1) 0) e ∙ rw (getD-take, getD-drop, place)

@@ -1,15 +1,14 @@
 // How a file's attributes and elements lie: places in the file, the table of the elements, and what placing the next needs.
 use meaning::Kind;
 ghost use mathlib.Core.Path.{_≡_};
-ghost use mathlib.Core.Bool.{true, false};
 ghost use mathlib.Core.List.{List, [], _∷_, map};
 ghost use Prim.Native.Nat.{ℕ, _+_, _*_, _≤_, _<_};
 ghost use lib.ListN.{length};
 ghost use lib.Seq.{sets};
 ghost use Rattle.meaning.specs.declared.Element.{Element};
-ghost use Rattle.meaning.specs.Text.{same, amongNames};
+ghost use Rattle.meaning.specs.Text.{amongNames};
 ghost use Rattle.meaning.specs.Reading.{wellPlaced};
-ghost use Rattle.layout.specs.Places.{part, attributesOf, AllStanding, Added, namesTo, Named};
+ghost use Rattle.layout.specs.Places.{attributesOf, AllStanding, Added, namesTo, Named};
 ghost use Rattle.layout.specs.Nearest.{kindNumber, parentNumber, Stands};
 
 // Where each attribute stands: the start of its name, of its first value, the end of its line; and its value count.
@@ -47,7 +46,7 @@ pub fn known_attribute(file: &[u8], a: Attributes, name: &[u8]) -> bool
     while i < len {
         let start = names[i];
         let end = values[i] - 1;
-        if text::same(name, &file[start..end]) {
+        if names::same_name(name, &file[start..end]) {
             return true;
         }
         i += 1;
@@ -84,21 +83,6 @@ pub fn with_attribute(
     }
 }
 
-// Whether the texts that end at this place end otherwise than the name: a quick test that tells most names apart.
-fn ends_otherwise(file: &[u8], end: usize, name: &[u8]) -> bool
-    requires { ⌜ (1 ≤ end) × (end ≤ length (now file)) ⌝ }
-    ensures { λ r. ⌜ (r ≡ true → (start : ℕ) → start ≤ end → same (now (name .entry)) (part (now (file .entry)) start end) ≡ false) ⌝ }
-{
-    if name.len() == 0 {
-        return false;
-    }
-    let last = name.len() - 1;
-    if file[end - 1] == name[last] {
-        return false;
-    }
-    true
-}
-
 // Whether an element has this name.
 pub fn known_element(file: &[u8], places: &[usize], n: usize, name: &[u8]) -> bool
     requires { ⌜ Named (now file) (now places) n ⌝ }
@@ -108,11 +92,11 @@ pub fn known_element(file: &[u8], places: &[usize], n: usize, name: &[u8]) -> bo
     while 0 < i {
         i -= 1;
         let end = places[2 * i + 1];
-        if ends_otherwise(file, end, name) {
+        if names::ends_otherwise(file, end, name) {
             continue;
         }
         let start = places[2 * i] + 4;
-        if text::same(name, &file[start..end]) {
+        if names::same_name(name, &file[start..end]) {
             return true;
         }
     }

@@ -67,7 +67,7 @@ fn put_later_names(
     let mut i = from;
     let mut end = at;
     while i < n {
-        if !segments::has(word, i) {
+        if !rows::has(word, i) {
             i += 1;
             continue;
         }
@@ -92,7 +92,7 @@ pub(crate) fn put_names(
 {
     let mut i = 0;
     while i < n {
-        if segments::has(word, i) {
+        if rows::has(word, i) {
             let first = put_name(file, places, i, out, at);
             let end = put_later_names(file, places, n, word, i + 1, out, first);
             return printing::put(out, end, 10);

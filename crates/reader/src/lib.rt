@@ -62,13 +62,13 @@ fn attribute_refusal(
     requires { ⌜ Tested (now file) a space (cut tab (now line)) fields ⌝ }
     ensures { λ r. ⌜ AttributeRefusal (now (file .entry)) a space elements (cut tab (now (line .entry))) fields r ⌝ }
 {
-    if !text::all_names(text::from_field(line, 1)) {
+    if !names::all_names(text::from_field(line, 1)) {
         return 3;
     }
     if layout::known_attribute(file, a, fields::field(line, 1)) {
         return 4;
     }
-    if !text::all_distinct(text::from_field(line, 2)) {
+    if !names::all_distinct(text::from_field(line, 2)) {
         return 4;
     }
     if 6 <= a.len {

@@ -45,7 +45,7 @@ fn element_refusal(
         → r ≡ lowest (earlierTests s (getD (cut tab (now (line .entry))) 3 []) (elementFrom (s .attributes) kind (cut tab (now (line .entry)))))) ⌝ }
 {
     let name = heads::name_field(line, e);
-    if !text::is_name(name) {
+    if !names::is_name(name) {
         return 3;
     }
     if layout::known_element(file, places, tree.len, name) {

@@ -15,8 +15,8 @@ use Rattle.laws.proofs.Bools.{Test, passed, failed, test}
 use Rattle.decisions.specs.Table.{elementAt}
 use Rattle.layout.specs.Places.{elementIn, elementsTo}
 use Rattle.layout.proofs.Laws.{bare, elements-bare}
-use Rattle.segments.specs.Words.{marks, wordFrom, appliesAt, applyingAt}
-use Rattle.segments.proofs.Marks.{test-at}
+use Rattle.rows.specs.Words.{marks, wordFrom, appliesAt, applyingAt}
+use Rattle.rows.proofs.Marks.{test-at}
 
 -- one number more
 pub counting-more : (i k : ℕ) → counting i (suc k) ≡ counting i k ++ ((i + k) ∷ [])

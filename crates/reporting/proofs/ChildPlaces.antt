@@ -15,8 +15,8 @@ use Rattle.laws.proofs.Search.{counting-only}
 use Rattle.decisions.specs.Table.{depthOf, elementAt, parentOf as parentIn, placeOr}
 use Rattle.layout.specs.Places.{elementIn, elementsTo}
 use Rattle.layout.proofs.Laws.{elements-length}
-use Rattle.trimming.proofs.Table.{element-at}
-use Rattle.trimming.proofs.Tabled.{last-alike}
+use Rattle.trimmed_text.proofs.Table.{element-at}
+use Rattle.trimmed_text.proofs.Tabled.{last-alike}
 use Rattle.laws.proofs.Lists.{keep-alike}
 
 -- a test of two numbers, either way round

@@ -17,11 +17,11 @@ use Rattle.meaning.specs.Report.{nameIn as nameOfPlace, conflictFields}
 use Rattle.laws.proofs.Bools.{Test, passed, failed, test}
 use Rattle.laws.proofs.Search.{counting-only, counting-rising, keep-only, keep-rising}
 use Rattle.decisions.specs.Table.{parentOf, placeOr}
-use Rattle.flags.proofs.Trying.{first-alike}
+use Rattle.outcomes.proofs.Searching.{first-alike}
 use Rattle.layout.specs.Places.{nameIn, elementsTo}
-use Rattle.segments.specs.Words.{givesAt}
-use Rattle.segments.specs.Pairs.{showsAt}
-use Rattle.trimming.proofs.Table.{name-at}
+use Rattle.rows.specs.Words.{givesAt}
+use Rattle.conflicts.specs.Pairs.{showsAt}
+use Rattle.trimmed_text.proofs.Table.{name-at}
 use Rattle.lines.specs.Lines.{conflictLine, isChild, laterLine, laterLines, pairLines, conflictText}
 use Rattle.reporting.proofs.Applying.{applies-at}
 use Rattle.laws.proofs.Lists.{gathered-alike, gathered-keep, gathered-twice, gathered-one, pairs-first, pairs-alike}

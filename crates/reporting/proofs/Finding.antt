@@ -11,16 +11,18 @@ use Rattle.meaning.specs.Text.{Bytes, counting}
 use Rattle.meaning.specs.Model.{product}
 use Rattle.meaning.specs.Deciding.{decisionNumber}
 use Rattle.decisions.specs.Table.{parentOf, placeOr}
-use Rattle.flags.specs.declared.Shape.{Shape}
-use Rattle.flags.specs.Decided.{onward, toldAt, shownAt, nextAt, trimmingAt}
-use Rattle.flags.specs.Ready.{countsOf, Ready, Matched, Holds}
-use Rattle.flags.specs.Trims.{Trims}
+use Rattle.outcomes.specs.declared.Shape.{Shape}
+use Rattle.trimming.specs.Decided.{onward, shownAt, nextAt, trimmingAt}
+use Rattle.outcomes.specs.Decided.{toldAt}
+use Rattle.outcomes.specs.Ready.{countsOf, Ready, Matched, Holds}
+use Rattle.trimming.specs.Trims.{Trims}
 use Rattle.layout.specs.Places.{Naming}
-use Rattle.segments.specs.Words.{sizeAt}
-use Rattle.segments.specs.Rows.{Applied, Given, wordAcross, Marked}
-use Rattle.segments.specs.Pairs.{shownBy, Pairs}
+use Rattle.segments.specs.Sizes.{sizeAt}
+use Rattle.rows.specs.Rows.{Applied, Given, Marked}
+use Rattle.segments.specs.Across.{wordAcross}
+use Rattle.conflicts.specs.Pairs.{shownBy, Pairs}
 use Rattle.segments.proofs.Columns.{across-applying}
-use Rattle.segments.proofs.Showing.{pairs-by-table}
+use Rattle.conflicts.proofs.Showing.{pairs-by-table}
 use Rattle.lines.specs.Ready.{Ordered}
 use Rattle.reporting.specs.Found.{none-struck, trimmedAt, SegmentsFound, ConflictsFound, RulesFound}
 use Rattle.reporting.proofs.Searched.{laid-at}

@@ -15,8 +15,8 @@ use Rattle.decisions.specs.Table.{left}
 use Rattle.decisions.proofs.Children.{first-left}
 use Rattle.layout.specs.Places.{elementsTo}
 use Rattle.layout.proofs.Laws.{bare, decision-bare}
-use Rattle.segments.specs.Words.{givesAt}
-use Rattle.trimming.proofs.Table.{whole-left}
+use Rattle.rows.specs.Words.{givesAt}
+use Rattle.trimmed_text.proofs.Table.{whole-left}
 
 -- what is behind so many of a mapped list
 drop-map : {A B : Type 0} (F : A → B) (j : ℕ) (xs : List A) → drop j (map F xs) ≡ map F (drop j xs)

@@ -7,10 +7,10 @@ use Rattle.meaning.specs.Text.{Bytes}
 use Rattle.meaning.specs.Model.{Policy, sizes, product, given}
 use Rattle.meaning.specs.Reading.{read}
 use Rattle.meaning.specs.Report.{report}
-use Rattle.flags.specs.declared.Shape.{Shape}
-use Rattle.flags.specs.Ready.{countsOf, Ready}
+use Rattle.outcomes.specs.declared.Shape.{Shape}
+use Rattle.outcomes.specs.Ready.{countsOf, Ready}
 use Rattle.layout.specs.Places.{elementsTo}
-use Rattle.segments.specs.Pairs.{shownFor}
+use Rattle.conflicts.specs.Pairs.{shownFor}
 use Rattle.lines.specs.Lines.{struckText, reportText}
 use Rattle.lines.specs.Fitted.{Fitted}
 use Rattle.reporting.specs.Reported.{Reported}

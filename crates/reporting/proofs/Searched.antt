@@ -12,7 +12,7 @@ use borrow.Author.Tests.{lt-ltb, le-ltb}
 use Rattle.meaning.specs.Text.{ifSome, counting, firstFrom}
 use Rattle.laws.proofs.Search.{first-some}
 use Rattle.decisions.specs.Table.{placeOr}
-use Rattle.flags.proofs.Laying.{length-counted, counted-at}
+use Rattle.outcomes.proofs.Laying.{length-counted, counted-at}
 
 pub first-or : {B : Type 0} (t : ℕ → Bool) (s : ℕ) (F : ℕ → List B) → cond (ltb (placeOr s (firstFrom t 0 s)) s) (F (placeOr s (firstFrom t 0 s))) [] ≡ ifSome (firstFrom t 0 s) F
 first-or t s F = go (firstFrom t 0 s) refl

@@ -18,12 +18,13 @@ use Rattle.meaning.specs.Report.{marked, segmentFields}
 use Rattle.laws.proofs.Bools.{Test, passed, failed, test, contradiction}
 use Rattle.laws.proofs.Search.{counting-has, counting-only, keep-has}
 use Rattle.laws.proofs.Segments.{together-same, same-together}
-use Rattle.flags.specs.Decided.{decidedAt}
+use Rattle.outcomes.specs.Decided.{decidedAt}
 use Rattle.layout.specs.Places.{nameIn, elementsTo}
 use Rattle.layout.proofs.Laws as layout-laws
-use Rattle.trimming.proofs.Table.{name-at}
-use Rattle.segments.specs.Words.{marks, applyingAt, alike, opensAt, sizeAt}
-use Rattle.segments.proofs.Marks.{bit-mark, same-marks}
+use Rattle.trimmed_text.proofs.Table.{name-at}
+use Rattle.rows.specs.Words.{marks, applyingAt}
+use Rattle.segments.specs.Sizes.{alike, opensAt, sizeAt}
+use Rattle.rows.proofs.Marks.{bit-mark, same-marks}
 use Rattle.lines.specs.Lines.{decisionFrom, namesOf, segmentLine, segmentText}
 use Rattle.reporting.proofs.Applying.{word-is}
 use Rattle.reporting.proofs.ChildPlaces.{count-is}

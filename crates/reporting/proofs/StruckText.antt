@@ -19,12 +19,12 @@ use Rattle.laws.proofs.Search.{last-some, counting-only}
 use Rattle.laws.proofs.Bounds.{bounded}
 use Rattle.laws.proofs.Rewritten.{gathered-map}
 use Rattle.decisions.specs.Table.{placeOr}
-use Rattle.flags.specs.Decided as table-level
+use Rattle.trimming.specs.Decided as table-level
 use Rattle.layout.specs.Places.{nameIn, elementsTo}
-use Rattle.trimming.specs.Flags.{Clear, keptAt, trimmingAt, keptPlaces, keptLineAt}
-use Rattle.trimming.proofs.Trimmed.{trimmed-flags, kept-flags}
-use Rattle.trimming.proofs.Table.{name-at}
-use Rattle.trimming.proofs.Tabled.{first-change-is, rule-is, trimming-is}
+use Rattle.trimmed_text.specs.Flags.{Clear, keptAt, trimmingAt, keptPlaces, keptLineAt}
+use Rattle.trimmed_text.proofs.Trimmed.{trimmed-flags, kept-flags}
+use Rattle.trimmed_text.proofs.Table.{name-at}
+use Rattle.trimmed_text.proofs.Tabled.{first-change-is, rule-is, trimming-is}
 use Rattle.lines.specs.Lines.{struckLine, struckText, keptLine, keptText}
 use Rattle.reporting.specs.Found.{none-struck, trimmedAt}
 use Rattle.laws.proofs.Lists.{has-at, gathered-alike, gathered-keep}

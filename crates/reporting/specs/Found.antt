@@ -6,9 +6,11 @@ use lib.ListN.{length, take, getD, replicate}
 use Rattle.meaning.specs.Model.{product}
 use Rattle.meaning.specs.Deciding.{decisionNumber}
 use Rattle.decisions.specs.Table.{parentOf, placeOr}
-use Rattle.flags.specs.Decided.{Struck, decidedAt, shownAt, trimmingAt}
-use Rattle.segments.specs.Words.{applyingAt, sizeAt}
-use Rattle.segments.specs.Pairs.{showsAt, Pairs}
+use Rattle.trimming.specs.Decided.{Struck, shownAt, trimmingAt}
+use Rattle.outcomes.specs.Decided.{decidedAt}
+use Rattle.rows.specs.Words.{applyingAt}
+use Rattle.segments.specs.Sizes.{sizeAt}
+use Rattle.conflicts.specs.Pairs.{showsAt, Pairs}
 
 -- no element is struck
 abbrev pub none-struck : List ℕ

@@ -6,8 +6,8 @@ use Rattle.meaning.specs.Text.{Bytes}
 use Rattle.meaning.specs.Model.{Policy, sizes, given}
 use Rattle.meaning.specs.Reading.{read}
 use Rattle.meaning.specs.Report.{report}
-use Rattle.flags.specs.declared.Shape.{Shape}
-use Rattle.flags.specs.Ready.{countsOf}
+use Rattle.outcomes.specs.declared.Shape.{Shape}
+use Rattle.outcomes.specs.Ready.{countsOf}
 use Rattle.layout.specs.Places.{elementsTo}
 use Rattle.lines.specs.Fitted.{Fitted}
 

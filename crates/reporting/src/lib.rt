@@ -1,10 +1,10 @@
 // The report of a policy that was read: everything is found once, then the same code counts the text and writes it.
-use flags::Shape;
+use outcomes::Shape;
 ghost use mathlib.Core.Path.{_≡_};
 ghost use mathlib.Core.List.{_++_};
 ghost use Prim.Native.Nat.{_≤_};
 ghost use lib.ListN.{length, drop};
-ghost use Rattle.flags.specs.Ready.{countsOf, Ready, Matched, Holds};
+ghost use Rattle.outcomes.specs.Ready.{countsOf, Ready, Matched, Holds};
 ghost use Rattle.layout.specs.Places.{Naming};
 ghost use Rattle.reporting.specs.Found.{none-struck, SegmentsFound, ConflictsFound, RulesFound};
 ghost use Rattle.reporting.specs.Reported.{Reported};
@@ -15,8 +15,8 @@ fn find_decisions(table: &[u16], shape: Shape, hits: &mut [u64], told: &mut [u64
     ensures { λ _. ⌜ Matched (now (table .entry)) (now (hits .exit)) shape × Holds (now (table .entry)) none-struck (now (told .exit)) shape ⌝ }
 {
     let struck = [0u8; 64];
-    flags::match_elements(table, shape, hits);
-    flags::decide_all(table, &struck, hits, shape, told);
+    outcomes::match_elements(table, shape, hits);
+    outcomes::decide_all(table, &struck, hits, shape, told);
 }
 
 // Lays down each element's parent, and the conflicts of siblings. The rows of the elements that apply lie in `rows`.
@@ -36,10 +36,10 @@ fn find_conflicts(
     let struck = [0u8; 64];
     let mut permits = [0u64; 4096];
     let mut denies = [0u64; 4096];
-    segments::apply_all(table, hits, shape, rows);
-    segments::give_all(table, &struck, hits, shape, &mut permits, &mut denies);
-    segments::parent_all(table, n, parents);
-    segments::pair_all(parents, rows, &permits, &denies, n, space, pairs);
+    rows::apply_all(table, hits, shape, rows);
+    rows::give_all(table, &struck, hits, shape, &mut permits, &mut denies);
+    rows::parent_all(table, n, parents);
+    conflicts::pair_all(parents, rows, &permits, &denies, n, space, pairs);
 }
 
 // Lays down the number of each request's decision, and the segments.
@@ -57,9 +57,9 @@ fn find_segments(
 {
     let n = shape.n;
     let space = shape.space;
-    flags::number_all(told, space, decided);
+    outcomes::number_all(told, space, decided);
     let mut applied = [0u64; 4096];
-    segments::apply_all(table, hits, shape, &mut applied);
+    rows::apply_all(table, hits, shape, &mut applied);
     segments::words_all(&applied, n, space, words);
     segments::size_all(words, space, sizes);
 }
@@ -78,8 +78,8 @@ fn find_rules(
 {
     let mut struck = [0u8; 64];
     let mut hints = [0u16; 64];
-    let count = flags::trim_flags(table, &mut struck, hits, shape, told, &mut hints, order);
-    flags::needed_all(table, &mut struck, hits, shape, told, shown);
+    let count = trimming::trim_flags(table, &mut struck, hits, shape, told, &mut hints, order);
+    trimming::needed_all(table, &mut struck, hits, shape, told, shown);
     count
 }
 

@@ -13,11 +13,12 @@ use Rattle.meaning.specs.Model.{product}
 use Rattle.meaning.specs.Deciding.{bit}
 use Rattle.laws.proofs.Bits.{bit-zero, bit-above}
 use Rattle.laws.proofs.Bools.{Test, passed, failed, test}
-use Rattle.segments.specs.Words.{wordFrom, applyingAt}
-use Rattle.segments.specs.Rows.{bitOf, Applied, wordAcross, Column}
+use Rattle.rows.specs.Words.{wordFrom, applyingAt}
+use Rattle.rows.specs.Rows.{bitOf, Applied}
+use Rattle.segments.specs.Across.{wordAcross, Column}
 use Rattle.segments.specs.Turning.{Turned}
-use Rattle.segments.proofs.Marks.{bit-lowest, bit-higher, bit-word}
-use Rattle.segments.proofs.Making.{word-small}
+use Rattle.rows.proofs.Marks.{bit-lowest, bit-higher, bit-word}
+use Rattle.rows.proofs.Making.{word-small}
 
 -- words of tests that agree
 pub word-alike : (f g : ℕ → Bool) (i k : ℕ) → ((j : ℕ) → i ≤ j → j < i + k → f j ≡ g j) → wordFrom f i k ≡ wordFrom g i k

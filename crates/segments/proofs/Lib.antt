@@ -1,10 +1,5 @@
 -- The laws that the functions' proofs cite, and those of the words that callers cite.
-pub mod Marks
-pub mod Making
-pub mod Rows
 pub mod Columns
 pub mod Turning
 pub mod Sizing
 mod Chains
-mod PairSteps
-pub mod Showing

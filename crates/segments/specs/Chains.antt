@@ -4,7 +4,7 @@ use mathlib.Core.Path.{_≡_}
 use mathlib.Core.Bool.{true}
 use mathlib.Core.List.{List}
 use lib.ListN.{length, getD}
-use Rattle.segments.specs.Words.{opensAt}
+use Rattle.segments.specs.Sizes.{opensAt}
 
 -- the bucket of a word, and of request k's word
 abbrev pub bucketOf : ℕ → ℕ

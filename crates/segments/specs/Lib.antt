@@ -1,6 +1,5 @@
 -- What the contracts of segments cite.
-pub mod Words
-pub mod Rows
+pub mod Across
+pub mod Sizes
 pub mod Turning
 pub mod Chains
-pub mod Pairs

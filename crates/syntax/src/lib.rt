@@ -17,16 +17,16 @@ pub enum LineKind {
 pub fn line_kind(first: &[u8]) -> LineKind
     ensures { λ r. ⌜ r ≡ lineKind (now (first .entry)) ⌝ }
 {
-    if text::same(first, b"A") {
+    if comparing::same(first, b"A") {
         return LineKind::Attribute;
     }
-    if text::same(b"S", first) {
+    if comparing::same(b"S", first) {
         return LineKind::Tree(Kind::Set);
     }
-    if text::same(b"P", first) {
+    if comparing::same(b"P", first) {
         return LineKind::Tree(Kind::Policy);
     }
-    if text::same(b"R", first) {
+    if comparing::same(b"R", first) {
         return LineKind::Tree(Kind::Rule);
     }
     LineKind::Other
@@ -55,10 +55,10 @@ fn effect_number(w: &[u8]) -> usize
     ensures { λ r. ⌜ r ≡ numberOfWord (wordOf Kind.Rule (now (w .entry))) ⌝ }
     ensures within { λ r. ⌜ r ≤ 6 ⌝ }
 {
-    if text::same(b"permit", w) {
+    if comparing::same(b"permit", w) {
         return 0;
     }
-    if text::same(b"deny", w) {
+    if comparing::same(b"deny", w) {
         return 1;
     }
     6
@@ -69,16 +69,16 @@ fn algorithm_number(w: &[u8]) -> usize
     ensures { λ r. ⌜ r ≡ numberOfWord (wordOf Kind.Set (now (w .entry))) ⌝ }
     ensures within { λ r. ⌜ r ≤ 6 ⌝ }
 {
-    if text::same(b"deny-overrides", w) {
+    if comparing::same(b"deny-overrides", w) {
         return 2;
     }
-    if text::same(b"permit-overrides", w) {
+    if comparing::same(b"permit-overrides", w) {
         return 3;
     }
-    if text::same(b"first-applicable", w) {
+    if comparing::same(b"first-applicable", w) {
         return 4;
     }
-    if text::same(b"only-one-applicable", w) {
+    if comparing::same(b"only-one-applicable", w) {
         return 5;
     }
     6
@@ -127,7 +127,7 @@ fn names_mask(values: &[u8], field: &[u8]) -> u16
     let mut taken: u32 = 0;
     loop {
         let e = text::end_of(values, at, b'\t');
-        if text::same(&values[at..e], &field[name..end]) {
+        if comparing::same(&values[at..e], &field[name..end]) {
             taken += bit(k);
             if end == field.len() {
                 return taken as u16;
@@ -155,7 +155,7 @@ pub fn target_mask(values: &[u8], n: usize, field: &[u8]) -> u16
     ensures { λ r. ⌜ r ≡ orEmpty (targetOf (cut tab (now (values .entry))) (now (field .entry))) ⌝ }
 {
     let full = (bit(n) - 1) as u16;
-    if text::same(field, b"*") {
+    if comparing::same(field, b"*") {
         return full;
     }
     let mask = names_mask(values, field);

@@ -1,15 +1,12 @@
-// Bytes of a text: pieces, names and fields.
+// Bytes of a text: where pieces, lines and fields end, and how many there are.
 mod runs;
-mod words;
 
 ghost use mathlib.Core.Path.{_≡_};
-ghost use mathlib.Core.Bool.{not, cond};
+ghost use mathlib.Core.Bool.{cond};
 ghost use mathlib.Core.List.{[]};
-ghost use Prim.Native.Nat.{ℕ, _+_, _≤_, _<_};
+ghost use Prim.Native.Nat.{_+_, _≤_, _<_};
 ghost use lib.ListN.{length, drop, getD};
-ghost use Rattle.meaning.specs.Text.{all, same, amongNames, repeated, cut, newline, tab, isField, nameByte, isName};
-ghost use Rattle.meaning.specs.Deciding.{valueOf};
-ghost use Rattle.text.specs.Places.{foundOf};
+ghost use Rattle.meaning.specs.Text.{all, cut, newline, tab, isField};
 ghost use Rattle.text.specs.Runs.{FirstLine};
 
 // Where the piece that starts at `at` ends: the place of the next `sep`, or the length.
@@ -51,54 +48,6 @@ pub fn count_pieces(s: &[u8], sep: u8) -> usize
         i += 1;
     }
     pieces
-}
-
-// Whether two texts are equal byte for byte. Short ones are compared here, where it is inlined; long ones by words.
-pub fn same(a: &[u8], b: &[u8]) -> bool
-    ensures { λ r. ⌜ r ≡ same (now (a .entry)) (now (b .entry)) ⌝ }
-{
-    if a.len() != b.len() {
-        return false;
-    }
-    if a.len() < 8 {
-        return words::same_bytes(a, b);
-    }
-    words::same_long(a, b)
-}
-
-fn name_byte(b: u8) -> bool
-    ensures { λ r. ⌜ r ≡ nameByte b ⌝ }
-{
-    if 97 <= b {
-        return b <= 122;
-    }
-    if 48 <= b {
-        return b <= 57;
-    }
-    b == 45
-}
-
-// Whether a text is a name: its length and first byte first, then every byte.
-pub fn is_name(s: &[u8]) -> bool
-    ensures { λ r. ⌜ r ≡ isName (now (s .entry)) ⌝ }
-{
-    if s.len() < 1 {
-        return false;
-    }
-    if 16 < s.len() {
-        return false;
-    }
-    if s[0] == b'-' {
-        return false;
-    }
-    let mut i = 0;
-    while i < s.len() {
-        if !name_byte(s[i]) {
-            return false;
-        }
-        i += 1;
-    }
-    true
 }
 
 // How many fields a line has, or 0 where one of them is empty or has another byte. One pass over the bytes.
@@ -178,73 +127,4 @@ pub fn from_field(line: &[u8], k: usize) -> &[u8]
         n += 1;
     }
     &line[at..]
-}
-
-// Whether every field is a name.
-pub fn all_names(fields: &[u8]) -> bool
-    ensures { λ r. ⌜ r ≡ all isName (cut tab (now (fields .entry))) ⌝ }
-{
-    let mut at = 0;
-    loop {
-        let e = end_of(fields, at, b'\t');
-        if !is_name(&fields[at..e]) {
-            return false;
-        }
-        if e == fields.len() {
-            return true;
-        }
-        at = e + 1;
-    }
-}
-
-pub enum Found {
-    At(usize),
-    Nothing,
-}
-
-// The place, from 0, of the first field that has this name.
-pub fn find(fields: &[u8], name: &[u8]) -> Found
-    ensures { λ r. ⌜ r ≡ foundOf (valueOf 0 (now (name .entry)) (cut tab (now (fields .entry)))) ⌝ }
-    ensures within { λ r. ⌜ ((v : ℕ) → r ≡ Found.At v → v < length (cut tab (now (fields .entry)))) ⌝ }
-{
-    let mut at = 0;
-    let mut n = 0;
-    loop {
-        let e = end_of(fields, at, b'\t');
-        if same(name, &fields[at..e]) {
-            return Found::At(n);
-        }
-        if e == fields.len() {
-            return Found::Nothing;
-        }
-        at = e + 1;
-        n += 1;
-    }
-}
-
-fn has(fields: &[u8], name: &[u8]) -> bool
-    ensures { λ r. ⌜ r ≡ amongNames (now (name .entry)) (cut tab (now (fields .entry))) ⌝ }
-{
-    match find(fields, name) {
-        Found::At(_) => true,
-        Found::Nothing => false,
-    }
-}
-
-// Whether no field stands twice.
-pub fn all_distinct(fields: &[u8]) -> bool
-    ensures { λ r. ⌜ r ≡ not (repeated (cut tab (now (fields .entry)))) ⌝ }
-{
-    let mut at = 0;
-    loop {
-        let e = end_of(fields, at, b'\t');
-        if e == fields.len() {
-            return true;
-        }
-        let next = e + 1;
-        if has(&fields[next..], &fields[at..e]) {
-            return false;
-        }
-        at = next;
-    }
 }

@@ -1,11 +1,5 @@
--- The laws that tie trimming on flags to trimming on bytes, and what the functions need to lay the text left.
-pub mod Left
-pub mod Steps
-pub mod Next
-pub mod Kept
-pub mod Trimmed
-pub mod Table
-pub mod Placed
-pub mod Laying
-pub mod Copying
-pub mod Tabled
+-- The laws that the functions' proofs cite.
+pub mod Searching
+pub mod Blocks
+pub mod Trying
+pub mod Strikes

@@ -1,3 +1,4 @@
 -- What the contracts of trimming cite.
-pub mod Flags
-pub mod Copied
+pub mod Decided
+pub mod Trial
+pub mod Trims

@@ -1,64 +1,247 @@
-// The text of the lines left, by the places of the elements and their flags; specs/ and proofs/ say what trimming on flags is.
+// Which rules trimming strikes, over a lent table of elements and a flag for each: one that is not 0 strikes its element.
+use outcomes::Shape;
 ghost use mathlib.Core.Path.{_≡_};
-ghost use mathlib.Core.List.{_++_};
-ghost use Prim.Native.Nat.{_+_, _≤_, _<_};
-ghost use lib.ListN.{length, take, drop};
-ghost use Rattle.trimming.specs.Copied.{copied, Copies, Piece};
+ghost use mathlib.Core.Bool.{true};
+ghost use mathlib.Core.List.{_++_, map};
+ghost use Prim.Native.Nat.{_*_, _≤_, _<_};
+ghost use lib.ListN.{length, drop};
+ghost use Rattle.meaning.specs.Text.{isNone, counting, firstFrom};
+ghost use Rattle.decisions.specs.Table.{placeOr, Over};
+ghost use Rattle.outcomes.specs.Decided.{differsAt};
+ghost use Rattle.outcomes.specs.Ready.{countsOf, Ready, Matched, Holds};
+ghost use Rattle.trimming.specs.Decided.{ruleLeft, firstChangeAt, shownAt, needlessAt, nextAt};
+ghost use Rattle.trimming.specs.Trial.{Trial};
+ghost use Rattle.trimming.specs.Trims.{Trims};
 
-// Where what is left of element i's line ends: behind its newline, or where it starts if it is struck.
-fn piece_end(file: &[u8], places: &[usize], struck: &[u8], n: usize, i: usize) -> usize
-    requires { ⌜ Copies (now file) (now places) (now struck) n × (i < n) ⌝ }
-    ensures { λ r. ⌜ Piece (now (file .entry)) (now (places .entry)) (now (struck .entry)) n i r ⌝ }
-{
-    if struck[i] != 0 {
-        return places[2 * i];
-    }
-    if i + 1 < n {
-        return places[2 * (i + 1)];
-    }
-    file.len()
+// Whether a rule is needless, and a request to try first the next time.
+pub struct Tried {
+    pub needless: bool,
+    pub shown: usize,
 }
 
-// How long the text of the lines left is.
-pub fn text_length(file: &[u8], places: &[usize], struck: &[u8], n: usize) -> usize
-    requires { ⌜ Copies (now file) (now places) (now struck) n ⌝ }
-    ensures { λ r. ⌜ r ≡ length (copied (now (file .entry)) (now (places .entry)) (now (struck .entry)) n) ⌝ }
-    ensures within { λ r. ⌜ r ≤ length (now (file .entry)) ⌝ }
+// The nearest earlier element that is less deep, or the element itself where there is none.
+fn over(table: &[u16], n: usize, i: usize) -> usize
+    requires { ⌜ (8 * n ≤ length (now table)) × (i < n) ⌝ }
+    ensures { λ r. ⌜ Over (now (table .entry)) r i ⌝ }
 {
-    let mut len = places[0];
+    let depth = decisions::depth_at(table, i);
+    let mut j = i;
+    while 0 < j {
+        j -= 1;
+        if decisions::depth_at(table, j) < depth {
+            return j;
+        }
+    }
+    i
+}
+
+// The first request that gets another decision than the one laid down, or the number of requests. Only requests that match the rule and the element over it can.
+pub fn first_change(
+    table: &[u16],
+    struck: &[u8],
+    hits: &[u64],
+    shape: Shape,
+    told: &[u64],
+    rule: usize,
+) -> usize
+    requires { ⌜ Trial (now table) (now struck) (now hits) (now told) shape rule ⌝ }
+    ensures { λ r. ⌜ r ≡ placeOr (shape .space) (firstFrom (differsAt (now (table .entry)) (shape .n) (countsOf shape) (now (told .entry)) (now (struck .entry))) 0 (shape .space)) ⌝ }
+{
+    let space = shape.space;
+    let up = over(table, shape.n, rule);
+    let mut block = 0;
+    while 64 * block < space {
+        if hits[64 * rule + block] & hits[64 * up + block] == 0 {
+            block += 1;
+            continue;
+        }
+        let first = outcomes::change_in(table, struck, hits, shape, told, block);
+        if first < space {
+            return first;
+        }
+        block += 1;
+    }
+    space
+}
+
+// Whether element i is a rule that is not struck.
+fn is_left(table: &[u16], struck: &[u8], i: usize) -> bool
+    requires { ⌜ (8 * i < length (now table)) × (i < length (now struck)) ⌝ }
+    ensures { λ r. ⌜ r ≡ ruleLeft (now (table .entry)) (now (struck .entry)) i ⌝ }
+{
+    if struck[i] == 0 {
+        table[8 * i] < 2
+    } else {
+        false
+    }
+}
+
+// Whether every request gets the decision laid down without the rule, the hint's block tried first.
+fn alike(
+    table: &[u16],
+    struck: &[u8],
+    hits: &[u64],
+    shape: Shape,
+    told: &[u64],
+    rule: usize,
+    hint: usize,
+) -> Tried
+    requires { ⌜ Trial (now table) (now struck) (now hits) (now told) shape rule ⌝ }
+    ensures { λ r. ⌜ (r .needless ≡ isNone (firstFrom (differsAt (now (table .entry)) (shape .n) (countsOf shape) (now (told .entry)) (now (struck .entry))) 0 (shape .space))) × (r .shown < shape .space) ⌝ }
+{
+    let space = shape.space;
+    if hint < space {
+        let near = outcomes::change_in(table, struck, hits, shape, told, hint / 64);
+        if near < space {
+            return Tried {
+                needless: false,
+                shown: near,
+            };
+        }
+    }
+    let first = first_change(table, struck, hits, shape, told, rule);
+    if first == space {
+        Tried {
+            needless: true,
+            shown: 0,
+        }
+    } else {
+        Tried {
+            needless: false,
+            shown: first,
+        }
+    }
+}
+
+// Whether element i is a rule without which every request gets the same decision; those with it are laid down.
+pub fn needless(
+    table: &[u16],
+    struck: &mut [u8],
+    hits: &[u64],
+    shape: Shape,
+    told: &[u64],
+    i: usize,
+    hint: usize,
+) -> Tried
+    requires { ⌜ Ready (now table) (now struck) shape × Matched (now table) (now hits) shape × Holds (now table) (now struck) (now told) shape × (i < shape .n) ⌝ }
+    ensures { λ r. ⌜ (r .needless ≡ needlessAt (now (table .entry)) (shape .n) (countsOf shape) (now (struck .entry)) i) × (r .shown < shape .space) × (now (struck .exit) ≡ now (struck .entry)) ⌝ }
+{
+    if !is_left(table, struck, i) {
+        return Tried {
+            needless: false,
+            shown: 0,
+        };
+    }
+    struck[i] = 1;
+    let tried = alike(table, struck, hits, shape, told, i, hint);
+    struck[i] = 0;
+    tried
+}
+
+// The last needless rule, or n. A rule's hint is a request whose decision changed without it when it was tried last.
+pub fn next_rule(
+    table: &[u16],
+    struck: &mut [u8],
+    hits: &[u64],
+    shape: Shape,
+    told: &[u64],
+    hints: &mut [u16],
+) -> usize
+    requires { ⌜ Ready (now table) (now struck) shape × Matched (now table) (now hits) shape × Holds (now table) (now struck) (now told) shape × (shape .n ≤ length (now hints)) ⌝ }
+    ensures { λ r. ⌜ (r ≡ placeOr (shape .n) (nextAt (now (table .entry)) (shape .n) (countsOf shape) (now (struck .entry)))) × (now (struck .exit) ≡ now (struck .entry)) ⌝ }
+{
+    let n = shape.n;
+    let mut i = n;
+    while 0 < i {
+        i -= 1;
+        let tried = needless(table, struck, hits, shape, told, i, hints[i] as usize);
+        if tried.needless {
+            return i;
+        }
+        hints[i] = tried.shown as u16;
+    }
+    n
+}
+
+// Strikes the last needless rule while there is one. The places struck are laid down in order; how many, is the result.
+pub fn trim_flags(
+    table: &[u16],
+    struck: &mut [u8],
+    hits: &[u64],
+    shape: Shape,
+    told: &[u64],
+    hints: &mut [u16],
+    order: &mut [u8],
+) -> usize
+    requires { ⌜ Ready (now table) (now struck) shape × Matched (now table) (now hits) shape × Holds (now table) (now struck) (now told) shape × (shape .n ≤ length (now hints)) × (shape .n ≤ length (now order)) ⌝ }
+    ensures { λ r. ⌜ Trims (now (table .entry)) (now (told .entry)) shape (now (struck .entry)) (now (struck .exit)) (now (order .entry)) (now (order .exit)) r ⌝ }
+{
+    let n = shape.n;
+    let mut count = 0;
+    while count < n {
+        let next = next_rule(table, struck, hits, shape, told, hints);
+        if next == n {
+            return count;
+        }
+        struck[next] = 1;
+        order[count] = next as u8;
+        count += 1;
+    }
+    count
+}
+
+// The first request whose decision changes without the rule, or the number of requests.
+fn needed_by(
+    table: &[u16],
+    struck: &mut [u8],
+    hits: &[u64],
+    shape: Shape,
+    told: &[u64],
+    rule: usize,
+) -> usize
+    requires { ⌜ Ready (now table) (now struck) shape × Matched (now table) (now hits) shape × Holds (now table) (now struck) (now told) shape × (rule < shape .n) × (ruleLeft (now table) (now struck) rule ≡ true) ⌝ }
+    ensures { λ r. ⌜ (r ≡ placeOr (shape .space) (firstChangeAt (now (table .entry)) (shape .n) (countsOf shape) (now (struck .entry)) rule)) × (now (struck .exit) ≡ now (struck .entry)) ⌝ }
+{
+    struck[rule] = 1;
+    let shown = first_change(table, struck, hits, shape, told, rule);
+    struck[rule] = 0;
+    shown
+}
+
+// The same for every element, the number of requests for one that is no rule left.
+fn shown_by(
+    table: &[u16],
+    struck: &mut [u8],
+    hits: &[u64],
+    shape: Shape,
+    told: &[u64],
+    i: usize,
+) -> usize
+    requires { ⌜ Ready (now table) (now struck) shape × Matched (now table) (now hits) shape × Holds (now table) (now struck) (now told) shape × (i < shape .n) ⌝ }
+    ensures { λ r. ⌜ (r ≡ shownAt (now (table .entry)) (shape .n) (countsOf shape) (now (struck .entry)) i) × (now (struck .exit) ≡ now (struck .entry)) ⌝ }
+{
+    if !is_left(table, struck, i) {
+        return shape.space;
+    }
+    needed_by(table, struck, hits, shape, told, i)
+}
+
+// Lays down for each rule left the first request whose decision changes without it, the number of requests where there is none and for every other element. What lies behind them stays.
+pub fn needed_all(
+    table: &[u16],
+    struck: &mut [u8],
+    hits: &[u64],
+    shape: Shape,
+    told: &[u64],
+    shown: &mut [usize],
+)
+    requires { ⌜ Ready (now table) (now struck) shape × Matched (now table) (now hits) shape × Holds (now table) (now struck) (now told) shape × (shape .n ≤ length (now shown)) ⌝ }
+    ensures { λ _. ⌜ (now (shown .exit) ≡ map (shownAt (now (table .entry)) (shape .n) (countsOf shape) (now (struck .entry))) (counting 0 (shape .n)) ++ drop (shape .n) (now (shown .entry))) × (now (struck .exit) ≡ now (struck .entry)) ⌝ }
+{
+    let n = shape.n;
     let mut i = 0;
     while i < n {
-        len += piece_end(file, places, struck, n, i) - places[2 * i];
-        i += 1;
-    }
-    len
-}
-
-// Lays bytes into `out` from `at` on.
-fn put(bytes: &[u8], out: &mut [u8], at: usize)
-    requires { ⌜ at + length (now bytes) ≤ length (now out) ⌝ }
-    ensures { λ _. ⌜ now (out .exit) ≡ take at (now (out .entry)) ++ now (bytes .entry) ++ drop (at + length (now (bytes .entry))) (now (out .entry)) ⌝ }
-{
-    let mut j = 0;
-    while j < bytes.len() {
-        out[at + j] = bytes[j];
-        j += 1;
-    }
-}
-
-// Lays the text of the lines left into `out`; what lies behind it stays.
-pub fn copy_text(file: &[u8], places: &[usize], struck: &[u8], n: usize, out: &mut [u8])
-    requires { ⌜ Copies (now file) (now places) (now struck) n × (length (copied (now file) (now places) (now struck) n) ≤ length (now out)) ⌝ }
-    ensures { λ _. ⌜ now (out .exit) ≡ copied (now (file .entry)) (now (places .entry)) (now (struck .entry)) n ++ drop (length (copied (now (file .entry)) (now (places .entry)) (now (struck .entry)) n)) (now (out .entry)) ⌝ }
-{
-    let mut at = places[0];
-    put(&file[0..at], out, 0);
-    let mut i = 0;
-    while i < n {
-        let start = places[2 * i];
-        let end = piece_end(file, places, struck, n, i);
-        put(&file[start..end], out, at);
-        at += end - start;
+        shown[i] = shown_by(table, struck, hits, shape, told, i);
         i += 1;
     }
 }

@@ -56,7 +56,7 @@ fn written_again(file: &[u8]) -> bool {
     if 16384 < length {
         return false;
     }
-    text::same(file, &out[0..length])
+    comparing::same(file, &out[0..length])
 }
 
 // One file's name and its text.

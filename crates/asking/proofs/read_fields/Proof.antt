@@ -47,24 +47,6 @@ part-find-start c = let here = standing (c .before) in search needs
 part-find-end : tie.Need-part-find-end Inv-loop μ-loop
 part-find-end c = let here = standing (c .before) in search needs
 
-sub-find-2 : tie.Need-sub-find-2 Inv-loop μ-loop
-sub-find-2 c = search needs
-
-part-find-start-2 : tie.Need-part-find-start-2 Inv-loop μ-loop
-part-find-start-2 c = search needs
-
-part-find-end-2 : tie.Need-part-find-end-2 Inv-loop μ-loop
-part-find-end-2 c = search needs
-
-find-requires : tie.Need-find-requires Inv-loop μ-loop
-find-requires c κs = search needs
-
-enum-known-v : tie.Need-enum-known-v Inv-loop μ-loop
-enum-known-v c = search needs
-
-enum-told : tie.Need-enum-told Inv-loop μ-loop
-enum-told c = search needs
-
 add-refuse : tie.Need-add-refuse Inv-loop μ-loop
 add-refuse c = let small = below-six (c .before .before .before .before .before .before) in search needs
 
@@ -90,12 +72,6 @@ returns-2 c =
     let end = c .before .before .before .before .before .before .before .before .end-of .ensures in
     walk-ends (c .before .before .before .before .before .before .before .before .before .loop .inv) (end .0) (end .1 .1) (c .before .before .before .before .before .find .ensures .0) (c .before .before .before .v .given .1) (c .if1 .taken)
 
-add-at : tie.Need-add-at Inv-loop μ-loop
-add-at c = search needs
-
-loop-less : tie.Need-loop-less Inv-loop μ-loop
-loop-less c = search needs
-
 loop-again : tie.Need-loop-again Inv-loop μ-loop
 loop-again c =
     let end = c .before .before .before .before .before .before .before .before .end-of .ensures in
@@ -116,12 +92,12 @@ read-fields-spec =
     sub-find
     part-find-start
     part-find-end
-    sub-find-2
-    part-find-start-2
-    part-find-end-2
-    find-requires
-    enum-known-v
-    enum-told
+    (λ c. search needs)
+    (λ c. search needs)
+    (λ c. search needs)
+    (λ c κs. search needs)
+    (λ c. search needs)
+    (λ c. search needs)
     add-refuse
     refuse-requires
     returns
@@ -129,6 +105,6 @@ read-fields-spec =
     array-write-values
     add-i
     returns-2
-    add-at
-    loop-less
+    (λ c. search needs)
+    (λ c. search needs)
     loop-again)

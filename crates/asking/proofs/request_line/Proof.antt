@@ -6,20 +6,11 @@ use Rattle.asking.proofs.FieldWalk.{wrong-count, right-count}
 use Rattle.asking.proofs.request_line.Statement.{statement}
 use Rattle.asking.proofs.request_line.Tie as tie
 
-count-pieces-requires : tie.Need-count-pieces-requires
-count-pieces-requires c κs = search needs
-
-refuse-requires : tie.Need-refuse-requires
-refuse-requires c κs = search needs
-
 returns : tie.Need-returns
 returns c =
     let args = c .before .before .before .before .before .before .args in
     let wrong = wrong-count (args .file .now) (args .a) (args .line .now) (c .before .before .before .count-pieces .ensures) (c .before .if1 .taken) in
     subst (AskedAs (c .refuse .result)) wrong (c .refuse .ensures)
-
-read-fields-requires : tie.Need-read-fields-requires
-read-fields-requires c κs = search needs
 
 returns-2 : tie.Need-returns-2
 returns-2 c =
@@ -30,4 +21,4 @@ returns-2 c =
 pub request-line-spec : {M : Type 1} → statement M
 request-line-spec =
     tie.close
-    (tie.spec count-pieces-requires refuse-requires returns read-fields-requires returns-2)
+    (tie.spec (λ c κs. search needs) (λ c κs. search needs) returns (λ c κs. search needs) returns-2)

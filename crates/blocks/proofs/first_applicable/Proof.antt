@@ -4,16 +4,10 @@ use borrow.Author.Needs.{needs}
 use Rattle.blocks.proofs.first_applicable.Statement.{statement}
 use Rattle.blocks.proofs.first_applicable.Tie as tie
 
-without-requires : tie.Need-without-requires
-without-requires c κs = search needs
-
-without-requires-2 : tie.Need-without-requires-2
-without-requires-2 c κs = search needs
-
 returns : tie.Need-returns
 returns c v =
     let args = c .before .before .before .before .before .args in
     first-words (args .so-far .permits) (args .so-far .denies) (args .child .permits) (args .child .denies) v _ _ (c .before .before .before .without .ensures v) (c .before .without2 .ensures v)
 
 pub first-applicable-spec : {M : Type 1} → statement M
-first-applicable-spec = tie.close (tie.spec without-requires without-requires-2 returns)
+first-applicable-spec = tie.close (tie.spec (λ c κs. search needs) (λ c κs. search needs) returns)

@@ -4,12 +4,6 @@ use borrow.Author.Needs.{needs}
 use Rattle.blocks.proofs.number.Statement.{statement}
 use Rattle.blocks.proofs.number.Tie as tie
 
-shr-permitted : tie.Need-shr-permitted
-shr-permitted c = search needs
-
-shr-denied : tie.Need-shr-denied
-shr-denied c = search needs
-
 returns : tie.Need-returns
 returns c = (rw (c .before .if1 .taken, c .if2 .taken), omega arith)
 
@@ -23,4 +17,4 @@ returns-4 : tie.Need-returns-4
 returns-4 c = (rw (c .before .if1 .left, c .if3 .left), omega arith)
 
 pub number-spec : {M : Type 1} → statement M
-number-spec = tie.close (tie.spec shr-permitted shr-denied returns returns-2 returns-3 returns-4)
+number-spec = tie.close (tie.spec (λ c. search needs) (λ c. search needs) returns returns-2 returns-3 returns-4)

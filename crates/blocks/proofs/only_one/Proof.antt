@@ -4,12 +4,6 @@ use borrow.Author.Needs.{needs}
 use Rattle.blocks.proofs.only_one.Statement.{statement}
 use Rattle.blocks.proofs.only_one.Tie as tie
 
-without-requires : tie.Need-without-requires
-without-requires c κs = search needs
-
-without-requires-2 : tie.Need-without-requires-2
-without-requires-2 c κs = search needs
-
 returns : tie.Need-returns
 returns c v =
     let args = c .before .before .before .before .before .before .before .before .before .before .args in
@@ -18,4 +12,4 @@ returns c v =
     only-one-words (so .given .permits) (so .given .denies) (child .given .permits) (child .given .denies) v (so .matched) (child .matched) _ _ (c .before .before .before .before .before .before .before .without .ensures v) (c .before .before .before .before .before .before .without2 .ensures v)
 
 pub only-one-spec : {M : Type 1} → statement M
-only-one-spec = tie.close (tie.spec without-requires without-requires-2 returns)
+only-one-spec = tie.close (tie.spec (λ c κs. search needs) (λ c κs. search needs) returns)

@@ -4,28 +4,10 @@ use borrow.Author.Needs.{needs}
 use Rattle.blocks.proofs.permit_overrides.Statement.{statement}
 use Rattle.blocks.proofs.permit_overrides.Tie as tie
 
-without-requires : tie.Need-without-requires
-without-requires c κs = search needs
-
-without-requires-2 : tie.Need-without-requires-2
-without-requires-2 c κs = search needs
-
-without-requires-3 : tie.Need-without-requires-3
-without-requires-3 c κs = search needs
-
-without-requires-4 : tie.Need-without-requires-4
-without-requires-4 c κs = search needs
-
-without-requires-5 : tie.Need-without-requires-5
-without-requires-5 c κs = search needs
-
-without-requires-6 : tie.Need-without-requires-6
-without-requires-6 c κs = search needs
-
 returns : tie.Need-returns
 returns c v =
     let args = c .before .before .before .before .before .before .before .before .before .before .args in
     permit-words (args .so-far .permits) (args .so-far .denies) (args .child .permits) (args .child .denies) v _ _ _ _ _ _ (c .before .before .before .before .before .before .before .before .before .without .ensures v) (c .before .before .before .before .before .before .before .before .without2 .ensures v) (c .before .before .before .before .before .before .before .without3 .ensures v) (c .before .before .before .before .before .before .without4 .ensures v) (c .before .before .before .without5 .ensures v) (c .without6 .ensures v)
 
 pub permit-overrides-spec : {M : Type 1} → statement M
-permit-overrides-spec = tie.close (tie.spec without-requires without-requires-2 without-requires-3 without-requires-4 without-requires-5 without-requires-6 returns)
+permit-overrides-spec = tie.close (tie.spec (λ c κs. search needs) (λ c κs. search needs) (λ c κs. search needs) (λ c κs. search needs) (λ c κs. search needs) (λ c κs. search needs) returns)

@@ -43,24 +43,12 @@ answer c r gives attrs sizes-are = sym (masks-by-counts attrs (c .args .t3) ∙ 
 loop-holds : tie.Need-loop-holds Inv-loop μ-loop Inv-loop2 μ-loop2
 loop-holds c = (search needs, refl)
 
-mul-mask : tie.Need-mul-mask Inv-loop μ-loop Inv-loop2 μ-loop2
-mul-mask c = search needs
-
-array-read-mask : tie.Need-array-read-mask Inv-loop μ-loop Inv-loop2 μ-loop2
-array-read-mask c = search needs
-
 returns : tie.Need-returns Inv-loop μ-loop Inv-loop2 μ-loop2
 returns c =
     let turn = c .before .before in
     let start = turn .before in
     let (long, six) = sized start in
     answer start true (sym (turn .loop .inv .1) ∙ mask-empty (counted start) (start .args .t3) (turn .loop .i) (omega arith) (omega arith) (c .if1 .taken))
-
-mul-full-mask : tie.Need-mul-full-mask Inv-loop μ-loop Inv-loop2 μ-loop2
-mul-full-mask c = search needs
-
-array-read-full-mask : tie.Need-array-read-full-mask Inv-loop μ-loop Inv-loop2 μ-loop2
-array-read-full-mask c = search needs
 
 -- the highest mask of the attribute at hand
 value-count : (c : tie.In-loop Inv-loop μ-loop Inv-loop2 μ-loop2) → getD (counted (c .before .before)) (c .before .loop .i) 0 ≡ getD (c .before .before .args .t1) (c .before .loop .i) 0
@@ -78,12 +66,6 @@ returns-2 c =
     let start = turn .before in
     let (long, six) = sized start in
     answer start true (sym (turn .loop .inv .1) ∙ mask-high (counted start) (start .args .t3) (turn .loop .i) (omega arith) (omega arith) (omega (arith, highest (c .before))))
-
-add-i : tie.Need-add-i Inv-loop μ-loop Inv-loop2 μ-loop2
-add-i c = search needs
-
-loop-less : tie.Need-loop-less Inv-loop μ-loop Inv-loop2 μ-loop2
-loop-less c = search needs
 
 loop-again : tie.Need-loop-again Inv-loop μ-loop Inv-loop2 μ-loop2
 loop-again c =
@@ -103,24 +85,12 @@ behind c =
 loop2-holds : tie.Need-loop2-holds Inv-loop μ-loop Inv-loop2 μ-loop2
 loop2-holds c = (omega arith, refl)
 
-mul-if3 : tie.Need-mul-if3 Inv-loop μ-loop Inv-loop2 μ-loop2
-mul-if3 c = search needs
-
-array-read-if3 : tie.Need-array-read-if3 Inv-loop μ-loop Inv-loop2 μ-loop2
-array-read-if3 c = search needs
-
 returns-3 : tie.Need-returns-3 Inv-loop μ-loop Inv-loop2 μ-loop2
 returns-3 c =
     let turn = c .before .before in
     let start = turn .before .before .before in
     let (long, six) = sized start in
     answer start true (behind turn ∙ zeros-stop (start .args .t3) (turn .loop2 .i) (omega arith) (c .if3 .taken))
-
-add-i-2 : tie.Need-add-i-2 Inv-loop μ-loop Inv-loop2 μ-loop2
-add-i-2 c = search needs
-
-loop2-less : tie.Need-loop2-less Inv-loop μ-loop Inv-loop2 μ-loop2
-loop2-less c = search needs
 
 loop2-again : tie.Need-loop2-again Inv-loop μ-loop Inv-loop2 μ-loop2
 loop2-again c =
@@ -145,21 +115,21 @@ bad-masks-spec =
     Inv-loop2
     μ-loop2
     loop-holds
-    mul-mask
-    array-read-mask
+    (λ c. search needs)
+    (λ c. search needs)
     returns
-    mul-full-mask
-    array-read-full-mask
+    (λ c. search needs)
+    (λ c. search needs)
     full-mask-requires
     returns-2
-    add-i
-    loop-less
+    (λ c. search needs)
+    (λ c. search needs)
     loop-again
     loop2-holds
-    mul-if3
-    array-read-if3
+    (λ c. search needs)
+    (λ c. search needs)
     returns-3
-    add-i-2
-    loop2-less
+    (λ c. search needs)
+    (λ c. search needs)
     loop2-again
     returns-4)

@@ -30,28 +30,16 @@ behind c =
     let e = c .before .before .before .before .before .before .before .before .before .args .e in
     name-right e (omega arith) (omega arith) (found (c .before .before) ∙ not-false (c .before .before .is-name .result) (c .before .if3 .left)) ∙ sym (c .loop .inv .1)
 
-cast-len : tie.Need-cast-len Inv-loop μ-loop
-cast-len c = search needs
-
 returns : tie.Need-returns Inv-loop μ-loop
 returns c = sym (name-empty (c .before .before .before .args .e) (c .if1 .taken))
 
 returns-2 : tie.Need-returns-2 Inv-loop μ-loop
 returns-2 c = sym (name-long (c .before .before .before .before .args .e) (c .if2 .taken))
 
-sub-is-name : tie.Need-sub-is-name Inv-loop μ-loop
-sub-is-name c = search needs
-
-part-is-name-start : tie.Need-part-is-name-start Inv-loop μ-loop
-part-is-name-start c = search needs
-
 part-is-name-end : tie.Need-part-is-name-end Inv-loop μ-loop
 part-is-name-end c =
     let size : length (c .before .before .before .before .before .args .e .name) ≡ 16 = search needs in
     omega arith
-
-is-name-requires : tie.Need-is-name-requires Inv-loop μ-loop
-is-name-requires c κs = search needs
 
 returns-3 : tie.Need-returns-3 Inv-loop μ-loop
 returns-3 c = sym (name-wrong (c .before .before .before .before .before .before .before .before .args .e) (found (c .before) ∙ not-true (c .before .is-name .result) (c .if3 .taken)))
@@ -59,21 +47,12 @@ returns-3 c = sym (name-wrong (c .before .before .before .before .before .before
 loop-holds : tie.Need-loop-holds Inv-loop μ-loop
 loop-holds c = (omega arith, refl)
 
-array-read-if4 : tie.Need-array-read-if4 Inv-loop μ-loop
-array-read-if4 c = search needs
-
 returns-4 : tie.Need-returns-4 Inv-loop μ-loop
 returns-4 c =
     let turn = c .before .before in
     let name = turn .before .before .before .before .before .before .before .before .before .args .e .name in
     let size : length name ≡ 16 = search needs in
     sym (behind turn ∙ zeros-stop name (turn .loop .i) (omega arith) (c .if4 .taken))
-
-add-i : tie.Need-add-i Inv-loop μ-loop
-add-i c = search needs
-
-loop-less : tie.Need-loop-less Inv-loop μ-loop
-loop-less c = search needs
 
 loop-again : tie.Need-loop-again Inv-loop μ-loop
 loop-again c =
@@ -95,18 +74,18 @@ bad-name-spec =
     (tie.spec
     Inv-loop
     μ-loop
-    cast-len
+    (λ c. search needs)
     returns
     returns-2
-    sub-is-name
-    part-is-name-start
+    (λ c. search needs)
+    (λ c. search needs)
     part-is-name-end
-    is-name-requires
+    (λ c κs. search needs)
     returns-3
     loop-holds
-    array-read-if4
+    (λ c. search needs)
     returns-4
-    add-i
-    loop-less
+    (λ c. search needs)
+    (λ c. search needs)
     loop-again
     returns-5)

@@ -79,9 +79,6 @@ returns-2 c attrs are =
     let other : (refusalAt attrs (a .list .all) i ≡ 0 → ⊥) = λ z. c .if2 .taken (tests ∙ z) in
     refusal-told (a .attributes) attrs (a .list .all) i _ _ (turn .loop .inv .2 attrs are ∙ element-refused (a .attributes) attrs (a .list .all) (a .list .len) (room start) i (omega arith) other) other (start .pre .0 .few) (turn .loop .inv .1 .few) tests refl
 
-cast-depth : tie.Need-cast-depth Inv-loop μ-loop
-cast-depth c = search needs
-
 with-element-requires : tie.Need-with-element-requires Inv-loop μ-loop
 with-element-requires c κs = let s = passed-here (c .before) in (s .shallow, s .few)
 
@@ -118,7 +115,7 @@ check-elements-spec =
     add-t19
     add-t20
     returns-2
-    cast-depth
+    (λ c. search needs)
     with-element-requires
     loop-less
     loop-again)

@@ -84,9 +84,6 @@ past-6 c attrs are =
     let fits = not-true (isNone (wordOf (e .kind) (wordText (e .word)))) (sym (c .before .word-fits .ensures) ∙ not-false (c .before .word-fits .result) (c .if6 .left)) in
     past-5 (c .before .before) attrs are ∙ rw fits
 
-bad-name-requires : tie.Need-bad-name-requires
-bad-name-requires c κs = search needs
-
 returns : tie.Need-returns
 returns c attrs are = sym (rw (sym (c .before .bad-name .ensures) ∙ c .if1 .taken))
 
@@ -106,19 +103,10 @@ returns-3 c attrs are =
 returns-4 : tie.Need-returns-4
 returns-4 c attrs are = sym (past-3 (c .before) attrs ∙ rw (attributes-found (c .before) attrs are ∙ eq-eqb (start-3 (c .before) .args .attributes) 0 (c .if4 .taken)))
 
-cast-depth : tie.Need-cast-depth
-cast-depth c = search needs
-
-well-placed-requires : tie.Need-well-placed-requires
-well-placed-requires c κs = search needs
-
 returns-5 : tie.Need-returns-5
 returns-5 c attrs are =
     let place = c .before .before .before in
     sym (past-3 (place .before) attrs ∙ rw (attribute-there place attrs are, place-found (c .before) ∙ not-true (c .before .well-placed .result) (c .if5 .taken)))
-
-word-fits-requires : tie.Need-word-fits-requires
-word-fits-requires c κs = search needs
 
 returns-6 : tie.Need-returns-6
 returns-6 c attrs are =
@@ -126,9 +114,6 @@ returns-6 c attrs are =
     let e = start-5 place .args .e in
     let other = not-false (isNone (wordOf (e .kind) (wordText (e .word)))) (sym (c .before .word-fits .ensures) ∙ not-true (c .before .word-fits .result) (c .if6 .taken)) in
     sym (past-5 place attrs are ∙ rw other)
-
-bad-masks-requires : tie.Need-bad-masks-requires
-bad-masks-requires c κs = search needs
 
 returns-7 : tie.Need-returns-7
 returns-7 c attrs are = sym (past-6 (c .before .before .before) attrs are ∙ rw (sym (c .before .bad-masks .ensures attrs are) ∙ c .if7 .taken))
@@ -140,17 +125,17 @@ pub element-refusal-spec : {M : Type 1} → statement M
 element-refusal-spec =
     tie.close
     (tie.spec
-    bad-name-requires
+    (λ c κs. search needs)
     returns
     known-requires
     returns-2
     returns-3
     returns-4
-    cast-depth
-    well-placed-requires
+    (λ c. search needs)
+    (λ c κs. search needs)
     returns-5
-    word-fits-requires
+    (λ c κs. search needs)
     returns-6
-    bad-masks-requires
+    (λ c κs. search needs)
     returns-7
     returns-8)

@@ -20,9 +20,6 @@ abbrev μ-loop : tie.MeasureT-loop
 loop-holds : tie.Need-loop-holds Inv-loop μ-loop
 loop-holds c = (search needs, refl)
 
-sub-i : tie.Need-sub-i Inv-loop μ-loop
-sub-i c = search needs
-
 mul-other : tie.Need-mul-other Inv-loop μ-loop
 mul-other c = omega (arith, c .before .before .pre .0)
 
@@ -37,9 +34,6 @@ returns c =
     let turn = c .before .before .before .before in
     let a = turn .before .args in
     sym (sym (turn .loop .inv .1) ∙ name-hit (a .t1) (nameOf (a .e)) (turn .loop .i) (omega arith) (sym (c .before .same-names .ensures) ∙ c .if1 .taken))
-
-loop-less : tie.Need-loop-less Inv-loop μ-loop
-loop-less c = search needs
 
 loop-again : tie.Need-loop-again Inv-loop μ-loop
 loop-again c =
@@ -60,11 +54,11 @@ known-spec =
     Inv-loop
     μ-loop
     loop-holds
-    sub-i
+    (λ c. search needs)
     mul-other
     array-copy-out-other
     same-names-requires
     returns
-    loop-less
+    (λ c. search needs)
     loop-again
     returns-2)

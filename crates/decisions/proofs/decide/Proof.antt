@@ -8,9 +8,6 @@ use Rattle.decisions.proofs.Children.{first-left}
 use Rattle.decisions.proofs.decide.Statement.{statement}
 use Rattle.decisions.proofs.decide.Tie as tie
 
-decide-at-requires : tie.Need-decide-at-requires
-decide-at-requires c κs = search needs
-
 returns : tie.Need-returns
 returns c =
     let start = c .before .before .before in
@@ -18,4 +15,4 @@ returns c =
     ∙ sym (rw sub-zero at (first-left (matches (valuesOf (start .args .q))) (start .args .table .now) (start .args .struck .now) (start .args .n) 0 (start .pre .0 .place) (start .pre .1)))
 
 pub decide-spec : {M : Type 1} → statement M
-decide-spec = tie.close (tie.spec decide-at-requires returns)
+decide-spec = tie.close (tie.spec (λ c κs. search needs) returns)

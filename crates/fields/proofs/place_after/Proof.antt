@@ -7,14 +7,8 @@ use Rattle.fields.proofs.place_after.Tie as tie
 returns : tie.Need-returns
 returns c = simp (lt-ltb _ _ (c .if1 .taken))
 
-end-of-requires : tie.Need-end-of-requires
-end-of-requires c κs = search needs
-
-add-result : tie.Need-add-result
-add-result c = search needs
-
 returns-2 : tie.Need-returns-2
 returns-2 c = simp (le-ltb _ _ (c .before .if1 .left), c .end-of .ensures .0)
 
 pub place-after-spec : {M : Type 1} → statement M
-place-after-spec = tie.close (tie.spec returns end-of-requires add-result returns-2)
+place-after-spec = tie.close (tie.spec returns (λ c κs. search needs) (λ c. search needs) returns-2)

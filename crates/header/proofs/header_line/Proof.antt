@@ -6,34 +6,10 @@ use borrow.Author.Needs.{needs}
 use Rattle.header.proofs.header_line.Statement.{statement}
 use Rattle.header.proofs.header_line.Tie as tie
 
-sub-line : tie.Need-sub-line
-sub-line c = search needs
-
-part-line-start : tie.Need-part-line-start
-part-line-start c = search needs
-
-part-line-end : tie.Need-part-line-end
-part-line-end c = search needs
-
-line-shape-requires : tie.Need-line-shape-requires
-line-shape-requires c κs = search needs
-
-enum-told : tie.Need-enum-told
-enum-told c = search needs
-
 attribute-line-requires : tie.Need-attribute-line-requires
 attribute-line-requires c κs =
     let start = c .before .before .before .before .before in
     (start .pre .0 .ready .begun, start .pre .1, of-kind _ _ (c .before .before .line-shape .ensures) (c .enum-told .given .1))
-
-enum-told-2 : tie.Need-enum-told-2
-enum-told-2 c = search needs
-
-tree-refusal-requires : tie.Need-tree-refusal-requires
-tree-refusal-requires c κs = search needs
-
-enum-told-3 : tie.Need-enum-told-3
-enum-told-3 c = search needs
 
 returns : tie.Need-returns
 returns c = past-attribute _ _ _ _ (of-kind _ _ (c .before .before .before .line-shape .ensures) (c .before .enum-told .given .1)) (c .attribute-line .ensures _ _ (c .before .before .before .before .before .before .pre .0 .ready))
@@ -48,15 +24,15 @@ pub header-line-spec : {M : Type 1} → statement M
 header-line-spec =
     tie.close
     (tie.spec
-    sub-line
-    part-line-start
-    part-line-end
-    line-shape-requires
-    enum-told
+    (λ c. search needs)
+    (λ c. search needs)
+    (λ c. search needs)
+    (λ c κs. search needs)
+    (λ c. search needs)
     attribute-line-requires
-    enum-told-2
-    tree-refusal-requires
-    enum-told-3
+    (λ c. search needs)
+    (λ c κs. search needs)
+    (λ c. search needs)
     returns
     returns-2
     returns-3)

@@ -14,9 +14,6 @@ Inv-loop header st₀ st = Keeps header st
 abbrev μ-loop : tie.MeasureT-loop
 μ-loop header st₀ st = length header - st .at
 
-start-requires : tie.Need-start-requires Inv-loop μ-loop
-start-requires c κs = search needs
-
 returns : tie.Need-returns Inv-loop μ-loop
 returns c = too-long (c .before .before .before .before .args .header .now) (c .before .before .start .result .attributes) (c .before .if1 .taken)
 
@@ -59,7 +56,7 @@ read-header-spec =
     (tie.spec
     Inv-loop
     μ-loop
-    start-requires
+    (λ c κs. search needs)
     returns
     loop-holds
     end-of-requires

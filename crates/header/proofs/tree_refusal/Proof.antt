@@ -9,17 +9,8 @@ use borrow.Author.Needs.{needs}
 use Rattle.header.proofs.tree_refusal.Statement.{statement}
 use Rattle.header.proofs.tree_refusal.Tie as tie
 
-add-if1 : tie.Need-add-if1
-add-if1 c = search needs
-
 returns : tie.Need-returns
 returns c = (λ s k count line. sym (count-refused s _ k _ line (λ e. c .if1 .taken (e ∙ ap (λ m. 4 + m) count))), lit≤ tt)
-
-field-requires : tie.Need-field-requires
-field-requires c κs = search needs
-
-is-name-requires : tie.Need-is-name-requires
-is-name-requires c κs = search needs
 
 returns-2 : tie.Need-returns-2
 returns-2 c = (λ s k count line. sym (name-refused s _ k _ line (c .before .before .before .if1 .left ∙ ap (λ m. 4 + m) (sym count)) (ap isName (sym (c .before .before .field .ensures)) ∙ sym (c .before .is-name .ensures) ∙ not-true _ (c .if2 .taken))), lit≤ tt)
@@ -29,4 +20,4 @@ returns-3 c = (λ s k count line. sym (place-refused s _ k _ line (c .before .be
 
 pub tree-refusal-spec : {M : Type 1} → statement M
 tree-refusal-spec =
-    tie.close (tie.spec add-if1 returns field-requires is-name-requires returns-2 returns-3)
+    tie.close (tie.spec (λ c. search needs) returns (λ c κs. search needs) (λ c κs. search needs) returns-2 returns-3)

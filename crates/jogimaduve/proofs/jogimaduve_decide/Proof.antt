@@ -17,15 +17,6 @@ use Rattle.decisions.proofs.number.Reads as number-reads
 use Rattle.reader.proofs.read.Reads as read-reads
 use Rattle.reader.proofs.refusal.Reads as refusal-reads
 
-slice-aggregate-read : tie.Need-slice-aggregate-read
-slice-aggregate-read c = search needs
-
-slice-aggregate-read-2 : tie.Need-slice-aggregate-read-2
-slice-aggregate-read-2 c = search needs
-
-read-requires : tie.Need-read-requires
-read-requires c κs = search needs
-
 refusal-requires : tie.Need-refusal-requires
 refusal-requires c κs = small-numbers _ _ _ _ (c .before .before .before .before .read .ensures) (c .if1 .taken)
 
@@ -46,12 +37,6 @@ returns-2 c =
     let asked = c .before .before .before .request-line in
     request-refused _ _ _ _ (c .before .before .before .before .before .before .before .before .before .read .ensures) (c .before .before .before .before .before .if1 .left) _ (asked .result) (asked .ensures) (not-true _ (c .before .if2 .taken))
 
-slice-aggregate-decide : tie.Need-slice-aggregate-decide
-slice-aggregate-decide c = search needs
-
-slice-aggregate-decide-2 : tie.Need-slice-aggregate-decide-2
-slice-aggregate-decide-2 c = search needs
-
 decide-requires : tie.Need-decide-requires
 decide-requires c κs =
     let reading = c .before .before .before .before .before .before .before .before .before .before .before .read in
@@ -61,12 +46,6 @@ decide-requires c κs =
     let few = request-few _ _ _ _ (reading .ensures) read-well (c .before .before .before .before .before .before .before .before .before .before .before .before .before .before .before .before .args .request .now) (asked .result) (asked .ensures) (not-false _ (c .before .before .before .if2 .left)) in
     let elements : reading .result .elements ≤ 64 = omega (arith, holds .rooms .named .room) in
     (record { rows = omega (arith, holds .rooms .rows, elements); flags = elements; place = holds .some; few = few }, refl)
-
-number-requires : tie.Need-number-requires
-number-requires c κs = search needs
-
-cast-t22 : tie.Need-cast-t22
-cast-t22 c = search needs
 
 returns-3 : tie.Need-returns-3
 returns-3 c =
@@ -80,17 +59,17 @@ pub jogimaduve-decide-spec : {M : Type 1} → statement M
 jogimaduve-decide-spec =
     tie.close
     (tie.spec
-    slice-aggregate-read
-    slice-aggregate-read-2
-    read-requires
+    (λ c. search needs)
+    (λ c. search needs)
+    (λ c κs. search needs)
     refusal-requires
     returns
     request-line-requires
     cast-t16
     returns-2
-    slice-aggregate-decide
-    slice-aggregate-decide-2
+    (λ c. search needs)
+    (λ c. search needs)
     decide-requires
-    number-requires
-    cast-t22
+    (λ c κs. search needs)
+    (λ c. search needs)
     returns-3)

@@ -16,15 +16,6 @@ use Rattle.reader.proofs.read.Reads as read-reads
 use Rattle.reader.proofs.refusal.Reads as refusal-reads
 use Rattle.reporting.proofs.report.Reads as report-reads
 
-slice-aggregate-read : tie.Need-slice-aggregate-read
-slice-aggregate-read c = search needs
-
-slice-aggregate-read-2 : tie.Need-slice-aggregate-read-2
-slice-aggregate-read-2 c = search needs
-
-read-requires : tie.Need-read-requires
-read-requires c κs = search needs
-
 refusal-requires : tie.Need-refusal-requires
 refusal-requires c κs = small-numbers _ _ _ _ (c .before .before .before .before .read .ensures) (c .if1 .taken)
 
@@ -34,25 +25,10 @@ returns c =
     let out = c .before .before .before .before .before .before .before .before .before .before .args .out .now in
     (c .refusal .ensures ∙ refusal-answered _ _ _ _ is-read out (c .before .if1 .taken), refusal-lent _ _ _ _ is-read out (c .before .if1 .taken))
 
-slice-aggregate-report : tie.Need-slice-aggregate-report
-slice-aggregate-report c = search needs
-
-slice-aggregate-report-2 : tie.Need-slice-aggregate-report-2
-slice-aggregate-report-2 c = search needs
-
-shape-of-requires : tie.Need-shape-of-requires
-shape-of-requires c κs = search needs
-
 report-requires : tie.Need-report-requires
 report-requires c κs =
     let read-well = file-read _ _ _ _ (c .before .before .before .before .before .before .before .before .read .ensures) (c .before .before .before .before .if1 .left) in
     (ready _ _ _ _ (read-well .0) (read-well .1) (read-well .2) _ (c .before .shape-of .ensures) _ (omega arith) refl, subst (Naming _ _) (sym (ap (λ s. s .n) (c .before .shape-of .ensures))) (naming _ _ _ _ (read-well .0) (read-well .1) (read-well .2)))
-
-text-answer-requires : tie.Need-text-answer-requires
-text-answer-requires c κs = search needs
-
-same-length : tie.Need-same-length
-same-length c = search needs
 
 returns-2 : tie.Need-returns-2
 returns-2 c =
@@ -65,15 +41,15 @@ pub jogimaduve-report-spec : {M : Type 1} → statement M
 jogimaduve-report-spec =
     tie.close
     (tie.spec
-    slice-aggregate-read
-    slice-aggregate-read-2
-    read-requires
+    (λ c. search needs)
+    (λ c. search needs)
+    (λ c κs. search needs)
     refusal-requires
     returns
-    slice-aggregate-report
-    slice-aggregate-report-2
-    shape-of-requires
+    (λ c. search needs)
+    (λ c. search needs)
+    (λ c κs. search needs)
     report-requires
-    text-answer-requires
-    same-length
+    (λ c κs. search needs)
+    (λ c. search needs)
     returns-2)

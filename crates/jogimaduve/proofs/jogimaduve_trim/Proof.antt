@@ -14,17 +14,8 @@ use Rattle.jogimaduve.proofs.strike.Reads as strike-reads
 use Rattle.jogimaduve.proofs.text_answer.Reads as text-answer-reads
 use Rattle.reader.proofs.read.Reads as read-reads
 use Rattle.reader.proofs.refusal.Reads as refusal-reads
-use Rattle.trimming.proofs.copy_text.Reads as copy-text-reads
-use Rattle.trimming.proofs.text_length.Reads as text-length-reads
-
-slice-aggregate-read : tie.Need-slice-aggregate-read
-slice-aggregate-read c = search needs
-
-slice-aggregate-read-2 : tie.Need-slice-aggregate-read-2
-slice-aggregate-read-2 c = search needs
-
-read-requires : tie.Need-read-requires
-read-requires c κs = search needs
+use Rattle.trimmed_text.proofs.copy_text.Reads as copy-text-reads
+use Rattle.trimmed_text.proofs.text_length.Reads as text-length-reads
 
 refusal-requires : tie.Need-refusal-requires
 refusal-requires c κs = small-numbers _ _ _ _ (c .before .before .before .before .read .ensures) (c .if1 .taken)
@@ -35,25 +26,10 @@ returns c =
     let out = c .before .before .before .before .before .before .before .before .before .before .args .out .now in
     (c .refusal .ensures ∙ refusal-answered _ _ _ _ is-read out (c .before .if1 .taken), refusal-lent _ _ _ _ is-read out (c .before .if1 .taken))
 
-slice-aggregate-strike : tie.Need-slice-aggregate-strike
-slice-aggregate-strike c = search needs
-
-slice-aggregate-strike-2 : tie.Need-slice-aggregate-strike-2
-slice-aggregate-strike-2 c = search needs
-
-shape-of-requires : tie.Need-shape-of-requires
-shape-of-requires c κs = search needs
-
 strike-requires : tie.Need-strike-requires
 strike-requires c κs =
     let read-well = file-read _ _ _ _ (c .before .before .before .before .before .before .before .read .ensures) (c .before .before .before .if1 .left) in
     ready _ _ _ _ (read-well .0) (read-well .1) (read-well .2) _ (c .shape-of .ensures) _ (omega arith) refl
-
-slice-aggregate-text-length : tie.Need-slice-aggregate-text-length
-slice-aggregate-text-length c = search needs
-
-slice-aggregate-text-length-2 : tie.Need-slice-aggregate-text-length-2
-slice-aggregate-text-length-2 c = search needs
 
 text-length-requires : tie.Need-text-length-requires
 text-length-requires c κs =
@@ -74,12 +50,6 @@ returns-2 c =
     let out = c .before .before .before .before .before .before .before .before .before .before .before .before .before .before .before .before .before .before .before .args .out .now in
     (c .text-answer .ensures ∙ trim-answered _ _ _ _ (read-well .0) (read-well .1) (read-well .2) _ shaped _ flags out _ needed, short-lent _ _ _ _ (read-well .0) (read-well .1) (read-well .2) _ shaped _ flags out _ needed (c .before .if2 .taken))
 
-slice-aggregate-copy-text : tie.Need-slice-aggregate-copy-text
-slice-aggregate-copy-text c = search needs
-
-slice-aggregate-copy-text-2 : tie.Need-slice-aggregate-copy-text-2
-slice-aggregate-copy-text-2 c = search needs
-
 copy-text-requires : tie.Need-copy-text-requires
 copy-text-requires c κs =
     let read-well = file-read _ _ _ _ (c .before .before .before .before .before .before .before .before .before .before .before .before .before .before .before .before .read .ensures) (c .before .before .before .before .before .before .before .before .before .before .before .before .if1 .left) in
@@ -89,9 +59,6 @@ text-answer-requires-2 : tie.Need-text-answer-requires-2
 text-answer-requires-2 c κs =
     let read-well = file-read _ _ _ _ (c .before .before .before .before .before .before .before .before .before .before .before .before .before .before .before .before .before .before .before .read .ensures) (c .before .before .before .before .before .before .before .before .before .before .before .before .before .before .before .if1 .left) in
     small-text _ _ _ _ (read-well .0) (read-well .1) (read-well .2) _ (c .before .before .before .before .before .before .before .before .before .before .before .before .shape-of .ensures) _ (c .before .before .before .before .before .before .before .before .before .before .before .strike .ensures) _ (c .before .before .before .before .before .before .before .text-length .ensures .1)
-
-same-length : tie.Need-same-length
-same-length c = search needs
 
 returns-3 : tie.Need-returns-3
 returns-3 c =
@@ -106,23 +73,23 @@ pub jogimaduve-trim-spec : {M : Type 1} → statement M
 jogimaduve-trim-spec =
     tie.close
     (tie.spec
-    slice-aggregate-read
-    slice-aggregate-read-2
-    read-requires
+    (λ c. search needs)
+    (λ c. search needs)
+    (λ c κs. search needs)
     refusal-requires
     returns
-    slice-aggregate-strike
-    slice-aggregate-strike-2
-    shape-of-requires
+    (λ c. search needs)
+    (λ c. search needs)
+    (λ c κs. search needs)
     strike-requires
-    slice-aggregate-text-length
-    slice-aggregate-text-length-2
+    (λ c. search needs)
+    (λ c. search needs)
     text-length-requires
     text-answer-requires
     returns-2
-    slice-aggregate-copy-text
-    slice-aggregate-copy-text-2
+    (λ c. search needs)
+    (λ c. search needs)
     copy-text-requires
     text-answer-requires-2
-    same-length
+    (λ c. search needs)
     returns-3)

@@ -5,17 +5,11 @@ use Rattle.jogimaduve.proofs.text_answer.Tie as tie
 use Rattle.jogimaduve.proofs.text_answer.Reads as reads
 use Rattle.jogimaduve.proofs.text_answer.Lts as lts
 
-cast-t4 : tie.Need-cast-t4
-cast-t4 c = search needs
-
 returns : tie.Need-returns
 returns c = rw (lt-ltb _ _ (c .if1 .taken))
-
-cast-t5 : tie.Need-cast-t5
-cast-t5 c = search needs
 
 returns-2 : tie.Need-returns-2
 returns-2 c = rw (le-ltb _ _ (c .if1 .left))
 
 pub text-answer-spec : {M : Type 1} → statement M
-text-answer-spec = tie.close (tie.spec cast-t4 returns cast-t5 returns-2)
+text-answer-spec = tie.close (tie.spec (λ c. search needs) returns (λ c. search needs) returns-2)

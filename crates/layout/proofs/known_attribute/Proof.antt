@@ -38,36 +38,27 @@ array-read-end c = let few = c .before .before .before .before .before .before .
 sub-end : tie.Need-sub-end Inv-loop μ-loop
 sub-end c = let here = standing c in search needs
 
-sub-same : tie.Need-sub-same Inv-loop μ-loop
-sub-same c = let here = standing c in search needs
+sub-same-name : tie.Need-sub-same-name Inv-loop μ-loop
+sub-same-name c = let here = standing c in search needs
 
-part-same-start : tie.Need-part-same-start Inv-loop μ-loop
-part-same-start c = let here = standing c in search needs
+part-same-name-start : tie.Need-part-same-name-start Inv-loop μ-loop
+part-same-name-start c = let here = standing c in search needs
 
-part-same-end : tie.Need-part-same-end Inv-loop μ-loop
-part-same-end c = let here = standing c in search needs
-
-same-requires : tie.Need-same-requires Inv-loop μ-loop
-same-requires c κs = search needs
+part-same-name-end : tie.Need-part-same-name-end Inv-loop μ-loop
+part-same-name-end c = let here = standing c in search needs
 
 returns : tie.Need-returns Inv-loop μ-loop
 returns c =
     let turn = c .before .before .before .before in
     let a = turn .before .before .before .before .before .args in
-    let hit = attribute-hit (a .file .now) (a .name .now) (a .a .names) (a .a .values) (a .a .len) (turn .loop .i) (omega arith) (sym (c .before .same .ensures) ∙ c .if1 .taken) in
+    let hit = attribute-hit (a .file .now) (a .name .now) (a .a .names) (a .a .values) (a .a .len) (turn .loop .i) (omega arith) (sym (c .before .same-name .ensures) ∙ c .if1 .taken) in
     sym (ap (amongNames (a .name .now)) (attribute-names (a .file .now) (a .a) 0 (a .a .len)) ∙ sym (turn .loop .inv .1) ∙ hit)
-
-add-i : tie.Need-add-i Inv-loop μ-loop
-add-i c = search needs
-
-loop-less : tie.Need-loop-less Inv-loop μ-loop
-loop-less c = search needs
 
 loop-again : tie.Need-loop-again Inv-loop μ-loop
 loop-again c =
     let turn = c .before .before .before .before in
     let a = turn .before .before .before .before .before .args in
-    let miss = attribute-miss (a .file .now) (a .name .now) (a .a .names) (a .a .values) (a .a .len) (turn .loop .i) (omega arith) (sym (c .before .same .ensures) ∙ c .if1 .left) in
+    let miss = attribute-miss (a .file .now) (a .name .now) (a .a .names) (a .a .values) (a .a .len) (turn .loop .i) (omega arith) (sym (c .before .same-name .ensures) ∙ c .if1 .left) in
     (omega arith, sym miss ∙ turn .loop .inv .1)
 
 returns-2 : tie.Need-returns-2 Inv-loop μ-loop
@@ -89,12 +80,12 @@ known-attribute-spec =
     mul-end
     array-read-end
     sub-end
-    sub-same
-    part-same-start
-    part-same-end
-    same-requires
+    sub-same-name
+    part-same-name-start
+    part-same-name-end
+    (λ c κs. search needs)
     returns
-    add-i
-    loop-less
+    (λ c. search needs)
+    (λ c. search needs)
     loop-again
     returns-2)

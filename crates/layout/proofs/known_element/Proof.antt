@@ -26,9 +26,6 @@ placed c =
 loop-holds : tie.Need-loop-holds Inv-loop μ-loop
 loop-holds c = (search needs, refl)
 
-sub-i : tie.Need-sub-i Inv-loop μ-loop
-sub-i c = search needs
-
 mul-end : tie.Need-mul-end Inv-loop μ-loop
 mul-end c = let (room, start, end) = placed (c) in search needs
 
@@ -43,9 +40,6 @@ shared-slice-read-end c = let (room, start, end) = placed (c .before) in search 
 
 ends-otherwise-requires : tie.Need-ends-otherwise-requires Inv-loop μ-loop
 ends-otherwise-requires c κs = let (room, start, end) = placed (c .before) in (omega arith, end)
-
-loop-less : tie.Need-loop-less Inv-loop μ-loop
-loop-less c = search needs
 
 loop-again : tie.Need-loop-again Inv-loop μ-loop
 loop-again c =
@@ -67,32 +61,26 @@ shared-slice-read-start c = let (room, start, end) = placed (c .before .before .
 add-start : tie.Need-add-start Inv-loop μ-loop
 add-start c = let (room, start, end) = placed (c .before .before .before .before) in search needs
 
-sub-same : tie.Need-sub-same Inv-loop μ-loop
-sub-same c = let (room, start, end) = placed (c .before .before .before .before) in search needs
+sub-same-name : tie.Need-sub-same-name Inv-loop μ-loop
+sub-same-name c = let (room, start, end) = placed (c .before .before .before .before) in search needs
 
-part-same-start : tie.Need-part-same-start Inv-loop μ-loop
-part-same-start c = let (room, start, end) = placed (c .before .before .before .before) in search needs
+part-same-name-start : tie.Need-part-same-name-start Inv-loop μ-loop
+part-same-name-start c = let (room, start, end) = placed (c .before .before .before .before) in search needs
 
-part-same-end : tie.Need-part-same-end Inv-loop μ-loop
-part-same-end c = let (room, start, end) = placed (c .before .before .before .before) in search needs
-
-same-requires : tie.Need-same-requires Inv-loop μ-loop
-same-requires c κs = search needs
+part-same-name-end : tie.Need-part-same-name-end Inv-loop μ-loop
+part-same-name-end c = let (room, start, end) = placed (c .before .before .before .before) in search needs
 
 returns : tie.Need-returns Inv-loop μ-loop
 returns c =
     let turn = c .before .before .before .before .before .before .before .before in
     let a = turn .before .before .before .before .args in
-    sym (sym (turn .loop .inv .1) ∙ element-hit (a .file .now) (a .name .now) (a .places .now) (turn .loop .i) (omega arith) (sym (c .before .same .ensures) ∙ c .if2 .taken))
-
-loop-less-2 : tie.Need-loop-less-2 Inv-loop μ-loop
-loop-less-2 c = search needs
+    sym (sym (turn .loop .inv .1) ∙ element-hit (a .file .now) (a .name .now) (a .places .now) (turn .loop .i) (omega arith) (sym (c .before .same-name .ensures) ∙ c .if2 .taken))
 
 loop-again-2 : tie.Need-loop-again-2 Inv-loop μ-loop
 loop-again-2 c =
     let turn = c .before .before .before .before .before .before .before .before in
     let a = turn .before .before .before .before .args in
-    (omega arith, sym (element-miss (a .file .now) (a .name .now) (a .places .now) (turn .loop .i) (omega arith) (sym (c .before .same .ensures) ∙ c .if2 .left)) ∙ turn .loop .inv .1)
+    (omega arith, sym (element-miss (a .file .now) (a .name .now) (a .places .now) (turn .loop .i) (omega arith) (sym (c .before .same-name .ensures) ∙ c .if2 .left)) ∙ turn .loop .inv .1)
 
 returns-2 : tie.Need-returns-2 Inv-loop μ-loop
 returns-2 c =
@@ -107,23 +95,23 @@ known-element-spec =
     Inv-loop
     μ-loop
     loop-holds
-    sub-i
+    (λ c. search needs)
     mul-end
     add-end
     mul-end-2
     shared-slice-read-end
     ends-otherwise-requires
-    loop-less
+    (λ c. search needs)
     loop-again
     mul-start
     mul-start-2
     shared-slice-read-start
     add-start
-    sub-same
-    part-same-start
-    part-same-end
-    same-requires
+    sub-same-name
+    part-same-name-start
+    part-same-name-end
+    (λ c κs. search needs)
     returns
-    loop-less-2
+    (λ c. search needs)
     loop-again-2
     returns-2)

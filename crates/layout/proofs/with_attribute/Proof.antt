@@ -6,33 +6,6 @@ use borrow.Author.Needs.{needs}
 use Rattle.layout.proofs.with_attribute.Statement.{statement}
 use Rattle.layout.proofs.with_attribute.Tie as tie
 
-mul-names : tie.Need-mul-names
-mul-names c = search needs
-
-array-write-names : tie.Need-array-write-names
-array-write-names c = search needs
-
-mul-values : tie.Need-mul-values
-mul-values c = search needs
-
-array-write-values : tie.Need-array-write-values
-array-write-values c = search needs
-
-mul-ends : tie.Need-mul-ends
-mul-ends c = search needs
-
-array-write-ends : tie.Need-array-write-ends
-array-write-ends c = search needs
-
-mul-counts : tie.Need-mul-counts
-mul-counts c = search needs
-
-array-write-counts : tie.Need-array-write-counts
-array-write-counts c = search needs
-
-add-t11 : tie.Need-add-t11
-add-t11 c = search needs
-
 returns : tie.Need-returns
 returns c =
     let start = c .before .before .before .before in
@@ -47,13 +20,13 @@ pub with-attribute-spec : {M : Type 1} → statement M
 with-attribute-spec =
     tie.close
     (tie.spec
-    mul-names
-    array-write-names
-    mul-values
-    array-write-values
-    mul-ends
-    array-write-ends
-    mul-counts
-    array-write-counts
-    add-t11
+    (λ c. search needs)
+    (λ c. search needs)
+    (λ c. search needs)
+    (λ c. search needs)
+    (λ c. search needs)
+    (λ c. search needs)
+    (λ c. search needs)
+    (λ c. search needs)
+    (λ c. search needs)
     returns)

@@ -11,22 +11,10 @@ use Rattle.lines.proofs.rule_lines.put_kept.Reads as put-kept-reads
 use Rattle.lines.proofs.segment_lines.put_segments.Reads as put-segments-reads
 use Rattle.lines.proofs.rule_lines.put_struck.Reads as put-struck-reads
 
-put-segments-requires : tie.Need-put-segments-requires
-put-segments-requires c κs = search needs
-
-put-conflicts-requires : tie.Need-put-conflicts-requires
-put-conflicts-requires c κs = search needs
-
-put-struck-requires : tie.Need-put-struck-requires
-put-struck-requires c κs = search needs
-
 put-kept-requires : tie.Need-put-kept-requires
 put-kept-requires c κs =
     let pre = c .before .before .before .before .before .before .before .before .before .before .before .before .before .before .before .before .before .before .before .before .before .before .before .pre in
     (pre .0, pre .1 .shown-room, pre .2 .small, omega (arith, c .before .before .before .before .before .before .before .before .before .before .before .put-segments .ensures .1, c .before .before .before .before .before .before .before .put-conflicts .ensures .1, c .before .before .before .put-struck .ensures .1))
-
-same-length : tie.Need-same-length
-same-length c = search needs
 
 returns : tie.Need-returns
 unfolding reportText
@@ -41,9 +29,9 @@ pub put-report-spec : {M : Type 1} → statement M
 put-report-spec =
     tie.close
     (tie.spec
-    put-segments-requires
-    put-conflicts-requires
-    put-struck-requires
+    (λ c κs. search needs)
+    (λ c κs. search needs)
+    (λ c κs. search needs)
     put-kept-requires
-    same-length
+    (λ c. search needs)
     returns)

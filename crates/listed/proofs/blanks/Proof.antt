@@ -6,14 +6,8 @@ use Rattle.listed.proofs.blanks.Reads as reads
 use Rattle.listed.proofs.blanks.Lts as lts
 use Rattle.elements.proofs.none.Reads as none-reads
 
-none-requires : tie.Need-none-requires
-none-requires c κs = search needs
-
-array-copy-out-blank : tie.Need-array-copy-out-blank
-array-copy-out-blank c = search needs
-
 returns : tie.Need-returns
 returns c = rw (c .before .before .none .ensures)
 
 pub blanks-spec : {M : Type 1} → statement M
-blanks-spec = tie.close (tie.spec none-requires array-copy-out-blank returns)
+blanks-spec = tie.close (tie.spec (λ c κs. search needs) (λ c. search needs) returns)

@@ -17,9 +17,6 @@ Inv-loop file table places n all₀ i₀ all i = (i ≤ n) × Upto file table pl
 abbrev μ-loop : tie.MeasureT-loop
 μ-loop file table places n all₀ i₀ all i = n - i
 
-none-requires : tie.Need-none-requires Inv-loop μ-loop
-none-requires c κs = search needs
-
 loop-holds : tie.Need-loop-holds Inv-loop μ-loop
 loop-holds c = (search needs, upto-none _ _ _ _ (c .none .ensures))
 
@@ -31,12 +28,6 @@ element-at-requires c κs =
 
 with-element-requires : tie.Need-with-element-requires Inv-loop μ-loop
 with-element-requires c κs = omega (arith, c .before .before .loop .inv .1 .count, c .before .before .before .before .before .before .before .pre .naming .few)
-
-add-i : tie.Need-add-i Inv-loop μ-loop
-add-i c = search needs
-
-loop-less : tie.Need-loop-less Inv-loop μ-loop
-loop-less c = search needs
 
 loop-again : tie.Need-loop-again Inv-loop μ-loop
 loop-again c =
@@ -52,11 +43,11 @@ all-elements-spec =
     (tie.spec
     Inv-loop
     μ-loop
-    none-requires
+    (λ c κs. search needs)
     loop-holds
     element-at-requires
     with-element-requires
-    add-i
-    loop-less
+    (λ c. search needs)
+    (λ c. search needs)
     loop-again
     returns)

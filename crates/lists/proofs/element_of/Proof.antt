@@ -11,12 +11,6 @@ use Rattle.lists.proofs.element_of.Tie as tie
 use Rattle.lists.proofs.element_of.Reads as reads
 use Rattle.lists.proofs.element_of.Lts as lts
 
-mul-result : tie.Need-mul-result
-mul-result c = search needs
-
-array-copy-out-result : tie.Need-array-copy-out-result
-array-copy-out-result c = search needs
-
 returns : tie.Need-returns
 returns c =
     let start = c .before .before in
@@ -25,4 +19,4 @@ returns c =
     (inside (start .args .list .all) (start .args .i) _ blank within, within)
 
 pub element-of-spec : {M : Type 1} → statement M
-element-of-spec = tie.close (tie.spec mul-result array-copy-out-result returns)
+element-of-spec = tie.close (tie.spec (λ c. search needs) (λ c. search needs) returns)

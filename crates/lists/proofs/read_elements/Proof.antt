@@ -12,20 +12,8 @@ use Rattle.lists.proofs.all_elements.Reads as all-elements-reads
 use Rattle.reader.proofs.read.Reads as read-reads
 use Rattle.reader.proofs.refusal.Reads as refusal-reads
 
-slice-aggregate-read : tie.Need-slice-aggregate-read
-slice-aggregate-read c = search needs
-
-slice-aggregate-read-2 : tie.Need-slice-aggregate-read-2
-slice-aggregate-read-2 c = search needs
-
-read-requires : tie.Need-read-requires
-read-requires c κs = search needs
-
 refusal-requires : tie.Need-refusal-requires
 refusal-requires c κs = small-numbers _ _ _ _ (c .before .before .before .before .read .ensures) (c .if1 .taken)
-
-none-requires : tie.Need-none-requires
-none-requires c κs = search needs
 
 returns : tie.Need-returns
 returns c = refusal-listed _ _ _ _ (c .before .before .before .before .before .before .read .ensures) (c .before .before .if1 .taken) _ _ (c .before .refusal .ensures) _ (c .none .ensures)
@@ -34,9 +22,6 @@ cast-t18 : tie.Need-cast-t18
 cast-t18 c =
     let read-well = file-read _ _ _ _ (c .before .before .before .before .before .read .ensures) (c .before .if1 .left) in
     omega (arith, few _ _ _ _ (read-well .0) (read-well .1) (read-well .2))
-
-none-requires-2 : tie.Need-none-requires-2
-none-requires-2 c κs = search needs
 
 returns-2 : tie.Need-returns-2
 returns-2 c =
@@ -47,12 +32,6 @@ cast-t19 : tie.Need-cast-t19
 cast-t19 c =
     let read-well = file-read _ _ _ _ (c .before .before .before .before .before .read .ensures) (c .before .if1 .left) in
     omega (arith, few _ _ _ _ (read-well .0) (read-well .1) (read-well .2))
-
-slice-aggregate-all-elements : tie.Need-slice-aggregate-all-elements
-slice-aggregate-all-elements c = search needs
-
-slice-aggregate-all-elements-2 : tie.Need-slice-aggregate-all-elements-2
-slice-aggregate-all-elements-2 c = search needs
 
 all-elements-requires : tie.Need-all-elements-requires
 all-elements-requires c κs =
@@ -68,17 +47,17 @@ pub read-elements-spec : {M : Type 1} → statement M
 read-elements-spec =
     tie.close
     (tie.spec
-    slice-aggregate-read
-    slice-aggregate-read-2
-    read-requires
+    (λ c. search needs)
+    (λ c. search needs)
+    (λ c κs. search needs)
     refusal-requires
-    none-requires
+    (λ c κs. search needs)
     returns
     cast-t18
-    none-requires-2
+    (λ c κs. search needs)
     returns-2
     cast-t19
-    slice-aggregate-all-elements
-    slice-aggregate-all-elements-2
+    (λ c. search needs)
+    (λ c. search needs)
     all-elements-requires
     returns-3)

@@ -15,32 +15,8 @@ Inv-loop table n counts len space hits₀ words i₀ hits i = (i ≤ n) × (leng
 abbrev μ-loop : tie.MeasureT-loop
 μ-loop table n counts len space hits₀ words i₀ hits i = n - i
 
-add-words : tie.Need-add-words Inv-loop μ-loop
-add-words c = search needs
-
 loop-holds : tie.Need-loop-holds Inv-loop μ-loop
 loop-holds c = let args = c .before .before .args in (search needs, refl, hits-none (args .table .now) (take (args .len) (args .counts)) (args .hits .now))
-
-mul-match-masks : tie.Need-mul-match-masks Inv-loop μ-loop
-mul-match-masks c = search needs
-
-add-match-masks : tie.Need-add-match-masks Inv-loop μ-loop
-add-match-masks c = search needs
-
-match-masks-requires : tie.Need-match-masks-requires Inv-loop μ-loop
-match-masks-requires c κs = search needs
-
-mul-put : tie.Need-mul-put Inv-loop μ-loop
-mul-put c = search needs
-
-put-requires : tie.Need-put-requires Inv-loop μ-loop
-put-requires c κs = search needs
-
-add-i : tie.Need-add-i Inv-loop μ-loop
-add-i c = search needs
-
-loop-less : tie.Need-loop-less Inv-loop μ-loop
-loop-less c = search needs
 
 loop-again : tie.Need-loop-again Inv-loop μ-loop
 loop-again c =
@@ -54,9 +30,6 @@ loop-again c =
       hits-next t counts {old = turn .hits} (omega arith) (omega arith) (turn .inv .2) (c .before .before .before .before .before .match-masks .ensures) (put .ensures),
     )
 
-same-length : tie.Need-same-length Inv-loop μ-loop
-same-length c = search needs
-
 returns : tie.Need-returns Inv-loop μ-loop
 returns c =
     let turn = c .before .loop in
@@ -69,15 +42,15 @@ match-all-spec =
     (tie.spec
     Inv-loop
     μ-loop
-    add-words
+    (λ c. search needs)
     loop-holds
-    mul-match-masks
-    add-match-masks
-    match-masks-requires
-    mul-put
-    put-requires
-    add-i
-    loop-less
+    (λ c. search needs)
+    (λ c. search needs)
+    (λ c κs. search needs)
+    (λ c. search needs)
+    (λ c κs. search needs)
+    (λ c. search needs)
+    (λ c. search needs)
     loop-again
-    same-length
+    (λ c. search needs)
     returns)

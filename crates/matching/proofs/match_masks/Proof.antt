@@ -13,29 +13,8 @@ Inv-loop masks at len counts plane₀ size₀ a₀ plane size a = Looks masks at
 abbrev μ-loop : tie.MeasureT-loop
 μ-loop masks at len counts plane₀ size₀ a₀ plane size a = a
 
-array-write-plane : tie.Need-array-write-plane Inv-loop μ-loop
-array-write-plane c = search needs
-
 loop-holds : tie.Need-loop-holds Inv-loop μ-loop
 loop-holds c = let start = c .before in looks-none _ _ _ _ (start .pre .0) (start .pre .1) (search needs)
-
-sub-a : tie.Need-sub-a Inv-loop μ-loop
-sub-a c = search needs
-
-mul-count : tie.Need-mul-count Inv-loop μ-loop
-mul-count c = search needs
-
-array-read-count : tie.Need-array-read-count Inv-loop μ-loop
-array-read-count c = search needs
-
-add-spread : tie.Need-add-spread Inv-loop μ-loop
-add-spread c = search needs
-
-mul-spread : tie.Need-mul-spread Inv-loop μ-loop
-mul-spread c = search needs
-
-shared-slice-read-spread : tie.Need-shared-slice-read-spread Inv-loop μ-loop
-shared-slice-read-spread c = search needs
 
 spread-requires : tie.Need-spread-requires Inv-loop μ-loop
 spread-requires c κs =
@@ -57,9 +36,6 @@ mul-size c =
     let pre = start .pre in
     let six : length (start .args .t3) ≡ 6 = search needs in
     omega (arith, next-small _ _ _ _ (pre .0) (pre .1) six (pre .2) (pre .3) _ _ _ (turn .inv) more)
-
-loop-less : tie.Need-loop-less Inv-loop μ-loop
-loop-less c = search needs
 
 loop-again : tie.Need-loop-again Inv-loop μ-loop
 loop-again c =
@@ -83,16 +59,16 @@ match-masks-spec =
     (tie.spec
     Inv-loop
     μ-loop
-    array-write-plane
+    (λ c. search needs)
     loop-holds
-    sub-a
-    mul-count
-    array-read-count
-    add-spread
-    mul-spread
-    shared-slice-read-spread
+    (λ c. search needs)
+    (λ c. search needs)
+    (λ c. search needs)
+    (λ c. search needs)
+    (λ c. search needs)
+    (λ c. search needs)
     spread-requires
     mul-size
-    loop-less
+    (λ c. search needs)
     loop-again
     returns)

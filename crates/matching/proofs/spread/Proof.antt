@@ -17,9 +17,6 @@ abbrev μ-loop : tie.MeasureT-loop
 loop-holds : tie.Need-loop-holds Inv-loop μ-loop
 loop-holds c = (search needs, spreads-none _ _ _)
 
-slice-aggregate-lay : tie.Need-slice-aggregate-lay Inv-loop μ-loop
-slice-aggregate-lay c = search needs
-
 lay-requires : tie.Need-lay-requires Inv-loop μ-loop
 lay-requires c κs =
     let start = c .before .before .before .before in
@@ -31,12 +28,6 @@ add-at c =
     let start = c .before .before .before in
     let turn = c .before .before .loop in
     omega (arith, next-room _ _ _ _ _ _ _ _ (turn .inv .1) (c .before .loop-test .taken) (start .pre .1))
-
-add-v : tie.Need-add-v Inv-loop μ-loop
-add-v c = search needs
-
-loop-less : tie.Need-loop-less Inv-loop μ-loop
-loop-less c = search needs
 
 loop-again : tie.Need-loop-again Inv-loop μ-loop
 loop-again c =
@@ -62,10 +53,10 @@ spread-spec =
     Inv-loop
     μ-loop
     loop-holds
-    slice-aggregate-lay
+    (λ c. search needs)
     lay-requires
     add-at
-    add-v
-    loop-less
+    (λ c. search needs)
+    (λ c. search needs)
     loop-again
     returns)

@@ -19,9 +19,6 @@ abbrev μ-loop : tie.MeasureT-loop
 μ-loop out₀ at bytes n₀ i₀ out n i = length bytes - i
 
 -- src/lib.rt:27:16
-add-result : tie.Need-add-result Inv-loop μ-loop
-add-result c = search needs
-
 -- src/lib.rt:27:9
 returns : tie.Need-returns Inv-loop μ-loop
 returns c =
@@ -29,25 +26,10 @@ returns c =
     record { moved = search needs; laid = sym (sets-out (args .out .now) (args .at) (args .bytes .now) (c .if1 .taken)) }
 
 -- src/lib.rt:31:5
-loop-holds : tie.Need-loop-holds Inv-loop μ-loop
-loop-holds c = search needs
-
 -- src/lib.rt:32:25
-shared-slice-read-put : tie.Need-shared-slice-read-put Inv-loop μ-loop
-shared-slice-read-put c = search needs
-
 -- src/lib.rt:32:9
-put-requires : tie.Need-put-requires Inv-loop μ-loop
-put-requires c κs = search needs
-
 -- src/lib.rt:33:9
-add-i : tie.Need-add-i Inv-loop μ-loop
-add-i c = search needs
-
 -- src/lib.rt:31:5
-loop-less : tie.Need-loop-less Inv-loop μ-loop
-loop-less c = search needs
-
 -- src/lib.rt:31:5
 loop-again : tie.Need-loop-again Inv-loop μ-loop
 loop-again c =
@@ -62,9 +44,6 @@ loop-again c =
     )
 
 -- src/lib.rt:22:1
-same-length : tie.Need-same-length Inv-loop μ-loop
-same-length c = search needs
-
 -- src/lib.rt:22:1
 returns-2 : tie.Need-returns-2 Inv-loop μ-loop
 returns-2 c =
@@ -79,13 +58,13 @@ put-bytes-spec =
     (tie.spec
     Inv-loop
     μ-loop
-    add-result
+    (λ c. search needs)
     returns
-    loop-holds
-    shared-slice-read-put
-    put-requires
-    add-i
-    loop-less
+    (λ c. search needs)
+    (λ c. search needs)
+    (λ c κs. search needs)
+    (λ c. search needs)
+    (λ c. search needs)
     loop-again
-    same-length
+    (λ c. search needs)
     returns-2)

@@ -9,17 +9,8 @@ use Rattle.printing.proofs.put.Reads as put-reads
 use Rattle.printing.proofs.put_decimal.Reads as put-decimal-reads
 
 -- src/lib.rt:64:9
-put-decimal-requires : tie.Need-put-decimal-requires
-put-decimal-requires c κs = search needs
-
 -- src/lib.rt:65:5
-put-requires : tie.Need-put-requires
-put-requires c κs = search needs
-
 -- src/lib.rt:60:1
-same-length : tie.Need-same-length
-same-length c = search needs
-
 -- src/lib.rt:60:1
 returns : tie.Need-returns
 returns c =
@@ -28,4 +19,4 @@ returns c =
     (then w v, omega (arith, l, v .moved))
 
 pub put-number-spec : {M : Type 1} → statement M
-put-number-spec = tie.close (tie.spec put-decimal-requires put-requires same-length returns)
+put-number-spec = tie.close (tie.spec (λ c κs. search needs) (λ c κs. search needs) (λ c. search needs) returns)

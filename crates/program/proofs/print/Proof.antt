@@ -9,37 +9,10 @@ use Rattle.jogimaduve.proofs.jogimaduve_report.Reads as jogimaduve-report-reads
 use Rattle.printing.proofs.put_field.Reads as put-field-reads
 use Rattle.printing.proofs.put_number.Reads as put-number-reads
 
-jogimaduve-report-requires : tie.Need-jogimaduve-report-requires
-jogimaduve-report-requires c κs = search needs
-
-cast-second : tie.Need-cast-second
-cast-second c = search needs
-
-same-length : tie.Need-same-length
-same-length c = search needs
-
 returns : tie.Need-returns
 returns c =
     let answer = c .before .before .before .before .jogimaduve-report in
     report-printed _ (c .before .before .before .before .before .before .before .before .args .out .now) (c .before .before .before .before .before .before .before .before .pre) _ (answer .result) (answer .ensures .0) (answer .ensures .1) (c .if1 .taken)
-
-slice-aggregate-put-field : tie.Need-slice-aggregate-put-field
-slice-aggregate-put-field c = search needs
-
-put-field-requires : tie.Need-put-field-requires
-put-field-requires c κs = search needs
-
-cast-put-number : tie.Need-cast-put-number
-cast-put-number c = search needs
-
-put-number-requires : tie.Need-put-number-requires
-put-number-requires c κs = search needs
-
-put-number-requires-2 : tie.Need-put-number-requires-2
-put-number-requires-2 c κs = search needs
-
-same-length-2 : tie.Need-same-length-2
-same-length-2 c = search needs
 
 returns-2 : tie.Need-returns-2
 returns-2 c =
@@ -56,14 +29,14 @@ pub print-spec : {M : Type 1} → statement M
 print-spec =
     tie.close
     (tie.spec
-    jogimaduve-report-requires
-    cast-second
-    same-length
+    (λ c κs. search needs)
+    (λ c. search needs)
+    (λ c. search needs)
     returns
-    slice-aggregate-put-field
-    put-field-requires
-    cast-put-number
-    put-number-requires
-    put-number-requires-2
-    same-length-2
+    (λ c. search needs)
+    (λ c κs. search needs)
+    (λ c. search needs)
+    (λ c κs. search needs)
+    (λ c κs. search needs)
+    (λ c. search needs)
     returns-2)

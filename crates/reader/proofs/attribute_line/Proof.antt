@@ -12,18 +12,6 @@ parts c =
     let a = start .args in
     attribute-parts (a .file .now) (a .st .at) (a .end) (c .field .result .now) (omega (arith, start .pre .1 .ends)) (start .pre .2) (c .field .ensures)
 
-sub-line : tie.Need-sub-line
-sub-line c = search needs
-
-part-line-start : tie.Need-part-line-start
-part-line-start c = search needs
-
-part-line-end : tie.Need-part-line-end
-part-line-end c = search needs
-
-attribute-refusal-requires : tie.Need-attribute-refusal-requires
-attribute-refusal-requires c κs = search needs
-
 returns : tie.Need-returns
 returns c =
     let start = c .before .before .before .before .before .before in
@@ -32,29 +20,11 @@ returns c =
       next = λ none. absurd (c .if1 .taken none);
     }
 
-field-requires : tie.Need-field-requires
-field-requires c κs = search needs
-
-add-first : tie.Need-add-first
-add-first c = search needs
-
 add-first-2 : tie.Need-add-first-2
 add-first-2 c = let here = parts c in omega arith
 
-sub-values : tie.Need-sub-values
-sub-values c = search needs
-
-add-with-attribute : tie.Need-add-with-attribute
-add-with-attribute c = search needs
-
 with-attribute-requires : tie.Need-with-attribute-requires
 with-attribute-requires c κs = c .before .before .attribute-refusal .ensures .few (c .before .if1 .left)
-
-add-t20 : tie.Need-add-t20
-add-t20 c = search needs
-
-add-t17 : tie.Need-add-t17
-add-t17 c = search needs
 
 mul-t21 : tie.Need-mul-t21
 mul-t21 c = let small = c .before .before .before .before .attribute-refusal .ensures .small-space (c .before .before .before .if1 .left) in omega arith
@@ -74,18 +44,18 @@ pub attribute-line-spec : {M : Type 1} → statement M
 attribute-line-spec =
     tie.close
     (tie.spec
-    sub-line
-    part-line-start
-    part-line-end
-    attribute-refusal-requires
+    (λ c. search needs)
+    (λ c. search needs)
+    (λ c. search needs)
+    (λ c κs. search needs)
     returns
-    field-requires
-    add-first
+    (λ c κs. search needs)
+    (λ c. search needs)
     add-first-2
-    sub-values
-    add-with-attribute
+    (λ c. search needs)
+    (λ c. search needs)
     with-attribute-requires
-    add-t20
-    add-t17
+    (λ c. search needs)
+    (λ c. search needs)
     mul-t21
     returns-2)

@@ -40,33 +40,15 @@ good c =
       once = not-true (repeated (drop 2 fs)) (sym (distinct-are (c .before)) ∙ not-false (c .before .all-distinct .result) (c .if3 .left));
     }
 
-from-field-requires : tie.Need-from-field-requires
-from-field-requires c κs = search needs
-
-all-names-requires : tie.Need-all-names-requires
-all-names-requires c κs = search needs
-
 returns : tie.Need-returns
 returns c =
     let start = c .before .before .before .before .before in
     bad-name (start .args .elements) (start .pre) (sym (names-are (c .before)) ∙ not-true (c .before .all-names .result) (c .if1 .taken))
 
-field-requires : tie.Need-field-requires
-field-requires c κs = search needs
-
-known-attribute-requires : tie.Need-known-attribute-requires
-known-attribute-requires c κs = search needs
-
 returns-2 : tie.Need-returns-2
 returns-2 c =
     let start = c .before .before .before .before .before .before .before .before in
     known-name (start .args .elements) (start .pre) (named (c .before .before .before)) (sym (known-is (c .before)) ∙ c .if2 .taken)
-
-from-field-requires-2 : tie.Need-from-field-requires-2
-from-field-requires-2 c κs = search needs
-
-all-distinct-requires : tie.Need-all-distinct-requires
-all-distinct-requires c κs = search needs
 
 returns-3 : tie.Need-returns-3
 returns-3 c =
@@ -79,9 +61,6 @@ returns-4 : tie.Need-returns-4
 returns-4 c =
     let start = c .before .before .before .before .before .before .before .before .before .before .before .before .before in
     many-attributes (start .args .elements) (start .pre) (good (c .before .before)) (c .if4 .taken)
-
-sub-values : tie.Need-sub-values
-sub-values c = search needs
 
 returns-5 : tie.Need-returns-5
 returns-5 c =
@@ -112,17 +91,17 @@ pub attribute-refusal-spec : {M : Type 1} → statement M
 attribute-refusal-spec =
     tie.close
     (tie.spec
-    from-field-requires
-    all-names-requires
+    (λ c κs. search needs)
+    (λ c κs. search needs)
     returns
-    field-requires
-    known-attribute-requires
+    (λ c κs. search needs)
+    (λ c κs. search needs)
     returns-2
-    from-field-requires-2
-    all-distinct-requires
+    (λ c κs. search needs)
+    (λ c κs. search needs)
     returns-3
     returns-4
-    sub-values
+    (λ c. search needs)
     returns-5
     mul-if6
     returns-6

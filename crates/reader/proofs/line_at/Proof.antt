@@ -22,18 +22,6 @@ line-there f at n fields inside first =
       count = λ l. rw size (first .count (omega (arith, length-drop at f)));
     }
 
-sub-first-line : tie.Need-sub-first-line
-sub-first-line c = search needs
-
-part-first-line-start : tie.Need-part-first-line-start
-part-first-line-start c = search needs
-
-part-first-line-end : tie.Need-part-first-line-end
-part-first-line-end c = search needs
-
-first-line-requires : tie.Need-first-line-requires
-first-line-requires c κs = search needs
-
 -- what was found is of the rest of the file
 found : (c : tie.After-first-line) → let a = c .before .before .before .args in FirstLine (drop (a .at) (a .file .now)) (c .first-line .result .end) (c .first-line .result .fields)
 found c =
@@ -54,9 +42,9 @@ pub line-at-spec : {M : Type 1} → statement M
 line-at-spec =
     tie.close
     (tie.spec
-    sub-first-line
-    part-first-line-start
-    part-first-line-end
-    first-line-requires
+    (λ c. search needs)
+    (λ c. search needs)
+    (λ c. search needs)
+    (λ c κs. search needs)
     add-end
     returns)

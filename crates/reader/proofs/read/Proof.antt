@@ -22,9 +22,6 @@ abbrev μ-loop : tie.MeasureT-loop
 μ-loop file table₀ places₀ st₀ table places st = length file - st .at
 
 -- src/lib.rt:121:9
-start-requires : tie.Need-start-requires Inv-loop μ-loop
-start-requires c κs = search needs
-
 -- src/lib.rt:124:9
 returns : tie.Need-returns Inv-loop μ-loop
 returns c = refusal-told _ _ _ _ 1 0 (too-long _ (c .before .if1 .taken)) refl refl (lit≤ tt) (lit≤ tt) zero-le
@@ -42,17 +39,8 @@ line-at-requires : tie.Need-line-at-requires Inv-loop μ-loop
 line-at-requires c κs = c .loop .inv .2 .begun .inside
 
 -- src/lib.rt:135:13
-finish-requires : tie.Need-finish-requires Inv-loop μ-loop
-finish-requires c κs = search needs
-
 -- src/lib.rt:135:13
-same-length : tie.Need-same-length Inv-loop μ-loop
-same-length c = search needs
-
 -- src/lib.rt:135:13
-same-length-2 : tie.Need-same-length-2 Inv-loop μ-loop
-same-length-2 c = search needs
-
 -- src/lib.rt:135:13
 returns-2 : tie.Need-returns-2 Inv-loop μ-loop
 returns-2 c =
@@ -69,13 +57,7 @@ read-line-requires c κs =
     (inv .2, record { starts = here .ensures .starts; ends = ends; all-of-it = here .ensures .all-of-it }, here .ensures .count ends)
 
 -- src/lib.rt:141:13
-same-length-3 : tie.Need-same-length-3 Inv-loop μ-loop
-same-length-3 c = search needs
-
 -- src/lib.rt:141:13
-same-length-4 : tie.Need-same-length-4 Inv-loop μ-loop
-same-length-4 c = search needs
-
 -- src/lib.rt:141:13
 returns-3 : tie.Need-returns-3 Inv-loop μ-loop
 returns-3 c =
@@ -103,17 +85,17 @@ read-spec =
     (tie.spec
     Inv-loop
     μ-loop
-    start-requires
+    (λ c κs. search needs)
     returns
     loop-holds
     line-at-requires
-    finish-requires
-    same-length
-    same-length-2
+    (λ c κs. search needs)
+    (λ c. search needs)
+    (λ c. search needs)
     returns-2
     read-line-requires
-    same-length-3
-    same-length-4
+    (λ c. search needs)
+    (λ c. search needs)
     returns-3
     loop-less
     loop-again)

@@ -11,15 +11,9 @@ use Rattle.reader.proofs.shape_of.Tie as tie
 returns : tie.Need-returns
 returns c = few-fields (cut tab (c .before .before .args .line .now)) _ (c .before .before .pre) (c .if1 .taken)
 
-field-requires : tie.Need-field-requires
-field-requires c κs = search needs
-
-line-kind-requires : tie.Need-line-kind-requires
-line-kind-requires c κs = search needs
-
 returns-2 : tie.Need-returns-2
 returns-2 c = by-kind _ _ (c .before .before .before .before .pre) (omega arith) _ (c .line-kind .ensures ∙ ap lineKind (c .before .field .ensures))
 
 pub shape-of-spec : {M : Type 1} → statement M
 shape-of-spec =
-    tie.close (tie.spec returns field-requires line-kind-requires returns-2)
+    tie.close (tie.spec returns (λ c κs. search needs) (λ c κs. search needs) returns-2)

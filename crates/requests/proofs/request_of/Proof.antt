@@ -32,35 +32,11 @@ loop-holds c =
     let six : length (c .args .t2) ≡ 6 = search needs in
     (search needs, search needs, weighed-all (c .args .len) (c .args .len) (c .args .number) (c .args .t2) _ (omega arith) refl, λ k a b. absurd (none k a b))
 
-sub-i : tie.Need-sub-i Inv-loop μ-loop
-sub-i c = search needs
-
-mul-values : tie.Need-mul-values Inv-loop μ-loop
-mul-values c = search needs
-
-array-read-values : tie.Need-array-read-values Inv-loop μ-loop
-array-read-values c = search needs
-
 rem-values : tie.Need-rem-values Inv-loop μ-loop
 rem-values c = omega (arith, count-positive c)
 
-mul-values-2 : tie.Need-mul-values-2 Inv-loop μ-loop
-mul-values-2 c = search needs
-
-array-write-values : tie.Need-array-write-values Inv-loop μ-loop
-array-write-values c = search needs
-
-mul-rest : tie.Need-mul-rest Inv-loop μ-loop
-mul-rest c = search needs
-
-array-read-rest : tie.Need-array-read-rest Inv-loop μ-loop
-array-read-rest c = search needs
-
 div-rest : tie.Need-div-rest Inv-loop μ-loop
 div-rest c = omega (arith, count-positive c)
-
-loop-less : tie.Need-loop-less Inv-loop μ-loop
-loop-less c = search needs
 
 loop-again : tie.Need-loop-again Inv-loop μ-loop
 loop-again c =
@@ -100,15 +76,15 @@ request-of-spec =
     Inv-loop
     μ-loop
     loop-holds
-    sub-i
-    mul-values
-    array-read-values
+    (λ c. search needs)
+    (λ c. search needs)
+    (λ c. search needs)
     rem-values
-    mul-values-2
-    array-write-values
-    mul-rest
-    array-read-rest
+    (λ c. search needs)
+    (λ c. search needs)
+    (λ c. search needs)
+    (λ c. search needs)
     div-rest
-    loop-less
+    (λ c. search needs)
     loop-again
     returns)

@@ -5,15 +5,6 @@ use borrow.Author.Needs.{needs}
 use Rattle.segments.proofs.exchange.Statement.{statement}
 use Rattle.segments.proofs.exchange.Tie as tie
 
-mul-word : tie.Need-mul-word
-mul-word c = search needs
-
-element-copy-out-word : tie.Need-element-copy-out-word
-element-copy-out-word c = search needs
-
-shr-if1 : tie.Need-shr-if1
-shr-if1 c = search needs
-
 add-result : tie.Need-add-result
 add-result c = let start = c .before .before in let room = up-inside (start .args .s) (start .args .k) (start .args .j) (start .pre .1) (start .pre .0) (start .pre .2) (c .if1 .taken) in omega arith
 
@@ -28,12 +19,6 @@ shl-result c = let start = c .before .before .before in shift-inside _ _ (start 
 
 sub-result : tie.Need-sub-result
 sub-result c = let start = c .before .before in down-inside _ _ _ (start .pre .1) (start .pre .2) (c .if1 .left)
-
-mul-result-2 : tie.Need-mul-result-2
-mul-result-2 c = search needs
-
-element-copy-out-result-2 : tie.Need-element-copy-out-result-2
-element-copy-out-result-2 c = search needs
 
 shr-result : tie.Need-shr-result
 shr-result c = let start = c .before .before .before in shift-inside _ _ (start .pre .1) (start .pre .2)
@@ -52,16 +37,16 @@ pub exchange-spec : {M : Type 1} → statement M
 exchange-spec =
     tie.close
     (tie.spec
-    mul-word
-    element-copy-out-word
-    shr-if1
+    (λ c. search needs)
+    (λ c. search needs)
+    (λ c. search needs)
     add-result
     mul-result
     element-copy-out-result
     shl-result
     sub-result
-    mul-result-2
-    element-copy-out-result-2
+    (λ c. search needs)
+    (λ c. search needs)
     shr-result
     returns
     returns-2)

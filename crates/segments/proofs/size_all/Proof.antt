@@ -21,15 +21,6 @@ loop-holds c = (omega arith, sized-none _ _, chained-none _)
 enter-requires : tie.Need-enter-requires Inv-loop μ-loop
 enter-requires c κs = (c .before .before .before .loop .inv .2, omega arith, omega arith)
 
-mul-sizes : tie.Need-mul-sizes Inv-loop μ-loop
-mul-sizes c = search needs
-
-slice-write-sizes : tie.Need-slice-write-sizes Inv-loop μ-loop
-slice-write-sizes c = search needs
-
-mul-sizes-2 : tie.Need-mul-sizes-2 Inv-loop μ-loop
-mul-sizes-2 c = search needs
-
 slice-read-sizes : tie.Need-slice-read-sizes Inv-loop μ-loop
 slice-read-sizes c = rw length-set (omega arith)
 
@@ -42,20 +33,11 @@ add-sizes c =
 slice-write-sizes-2 : tie.Need-slice-write-sizes-2 Inv-loop μ-loop
 slice-write-sizes-2 c = rw length-set (omega arith)
 
-add-m : tie.Need-add-m Inv-loop μ-loop
-add-m c = search needs
-
-loop-less : tie.Need-loop-less Inv-loop μ-loop
-loop-less c = search needs
-
 loop-again : tie.Need-loop-again Inv-loop μ-loop
 loop-again c =
     let turn = c .before .before .before .before .before .loop in
     let first = first-of (c .before .before .before .before .before .before .before .before .args .words .now) (turn .m) _ (c .before .enter .ensures .0) in
     (omega arith, sized-next (turn .inv .1) (omega arith) _ first, c .before .enter .ensures .2)
-
-same-length : tie.Need-same-length Inv-loop μ-loop
-same-length c = search needs
 
 returns : tie.Need-returns Inv-loop μ-loop
 returns c = sized-all _ (c .before .before .before .before .pre .1) (omega arith) (c .before .loop .inv .1)
@@ -68,14 +50,14 @@ size-all-spec =
     μ-loop
     loop-holds
     enter-requires
-    mul-sizes
-    slice-write-sizes
-    mul-sizes-2
+    (λ c. search needs)
+    (λ c. search needs)
+    (λ c. search needs)
     slice-read-sizes
     add-sizes
     slice-write-sizes-2
-    add-m
-    loop-less
+    (λ c. search needs)
+    (λ c. search needs)
     loop-again
-    same-length
+    (λ c. search needs)
     returns)

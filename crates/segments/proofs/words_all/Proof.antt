@@ -3,8 +3,8 @@ use Prim.Native.Nat.{_-_, _/_, _%_, _≤_}
 use mathlib.Core.Path.{_≡_, refl}
 use mathlib.Core.Logic.{⊎-elim}
 use native.Mathlib.Omega.{arith}
-use Rattle.flags.proofs.Laying.{Lays, lays-none, lays-next, lays-all}
-use Rattle.segments.specs.Rows.{wordAcross}
+use Rattle.outcomes.proofs.Laying.{Lays, lays-none, lays-next, lays-all}
+use Rattle.segments.specs.Across.{wordAcross}
 use Rattle.segments.proofs.Columns.{Across, across-turned, across-here, across-later, across-same}
 use borrow.Author.Needs.{needs}
 use Rattle.segments.proofs.words_all.Statement.{statement}
@@ -19,30 +19,6 @@ abbrev μ-loop : tie.MeasureT-loop
 loop-holds : tie.Need-loop-holds Inv-loop μ-loop
 loop-holds c = (search needs, (λ no. absurd (no refl)), lays-none _ _ _)
 
-column-requires : tie.Need-column-requires Inv-loop μ-loop
-column-requires c κs = search needs
-
-turned-requires : tie.Need-turned-requires Inv-loop μ-loop
-turned-requires c κs = search needs
-
-mul-words : tie.Need-mul-words Inv-loop μ-loop
-mul-words c = search needs
-
-array-read-words : tie.Need-array-read-words Inv-loop μ-loop
-array-read-words c = search needs
-
-mul-words-2 : tie.Need-mul-words-2 Inv-loop μ-loop
-mul-words-2 c = search needs
-
-slice-write-words : tie.Need-slice-write-words Inv-loop μ-loop
-slice-write-words c = search needs
-
-add-m : tie.Need-add-m Inv-loop μ-loop
-add-m c = search needs
-
-loop-less : tie.Need-loop-less Inv-loop μ-loop
-loop-less c = search needs
-
 loop-again : tie.Need-loop-again Inv-loop μ-loop
 loop-again c =
     let args = c .before .before .before .before .before .args in
@@ -51,9 +27,6 @@ loop-again c =
     ⊎-elim (λ w. across-same (args .rows .now) (args .n) (turn .m / 64) (w .4) (across-turned (args .rows .now) (w .1 .result) (w .3 .result) (args .n) (turn .m / 64) (omega arith) (w .1 .ensures) (w .3 .ensures)))
     (λ w. across-same (args .rows .now) (args .n) (turn .m / 64) (w .1) (turn .inv .1 (w .0 .left))) (c .if1 .came) in
     (search needs, across-later (args .rows .now) (c .if1 .block) (args .n) (turn .m) across, lays-next _ _ (c .before .loop-test .taken) (across-here (args .rows .now) (c .if1 .block) (args .n) (turn .m) across) (turn .inv .2))
-
-same-length : tie.Need-same-length Inv-loop μ-loop
-same-length c = search needs
 
 returns : tie.Need-returns Inv-loop μ-loop
 returns c = let pre = c .before .before .before .before .pre in lays-all _ (pre .3) (omega arith) (c .before .loop .inv .2)
@@ -65,14 +38,14 @@ words-all-spec =
     Inv-loop
     μ-loop
     loop-holds
-    column-requires
-    turned-requires
-    mul-words
-    array-read-words
-    mul-words-2
-    slice-write-words
-    add-m
-    loop-less
+    (λ c κs. search needs)
+    (λ c κs. search needs)
+    (λ c. search needs)
+    (λ c. search needs)
+    (λ c. search needs)
+    (λ c. search needs)
+    (λ c. search needs)
+    (λ c. search needs)
     loop-again
-    same-length
+    (λ c. search needs)
     returns)

@@ -19,38 +19,14 @@ not-P c = sym (c .before .same3 .ensures) ∙ c .if3 .left
 not-R : (c : tie.Else4) → same (bytes "R") (c .before .before .before .before .before .before .before .before .before .before .before .before .before .args .first .now) ≡ false
 not-R c = sym (c .before .same4 .ensures) ∙ c .if4 .left
 
-slice-aggregate-same : tie.Need-slice-aggregate-same
-slice-aggregate-same c = search needs
-
-same-requires : tie.Need-same-requires
-same-requires c κs = search needs
-
 returns : tie.Need-returns
 returns c = rw (sym (c .before .same .ensures) ∙ c .if1 .taken)
-
-slice-aggregate-same-2 : tie.Need-slice-aggregate-same-2
-slice-aggregate-same-2 c = search needs
-
-same-requires-2 : tie.Need-same-requires-2
-same-requires-2 c κs = search needs
 
 returns-2 : tie.Need-returns-2
 returns-2 c = rw (not-A (c .before .before .before), sym (c .before .same2 .ensures) ∙ c .if2 .taken)
 
-slice-aggregate-same-3 : tie.Need-slice-aggregate-same-3
-slice-aggregate-same-3 c = search needs
-
-same-requires-3 : tie.Need-same-requires-3
-same-requires-3 c κs = search needs
-
 returns-3 : tie.Need-returns-3
 returns-3 c = rw (not-A (c .before .before .before .before .before .before), not-S (c .before .before .before), sym (c .before .same3 .ensures) ∙ c .if3 .taken)
-
-slice-aggregate-same-4 : tie.Need-slice-aggregate-same-4
-slice-aggregate-same-4 c = search needs
-
-same-requires-4 : tie.Need-same-requires-4
-same-requires-4 c κs = search needs
 
 returns-4 : tie.Need-returns-4
 returns-4 c = rw (not-A (c .before .before .before .before .before .before .before .before .before), not-S (c .before .before .before .before .before .before), not-P (c .before .before .before), sym (c .before .same4 .ensures) ∙ c .if4 .taken)
@@ -62,16 +38,16 @@ pub line-kind-spec : {M : Type 1} → statement M
 line-kind-spec =
     tie.close
     (tie.spec
-    slice-aggregate-same
-    same-requires
+    (λ c. search needs)
+    (λ c κs. search needs)
     returns
-    slice-aggregate-same-2
-    same-requires-2
+    (λ c. search needs)
+    (λ c κs. search needs)
     returns-2
-    slice-aggregate-same-3
-    same-requires-3
+    (λ c. search needs)
+    (λ c κs. search needs)
     returns-3
-    slice-aggregate-same-4
-    same-requires-4
+    (λ c. search needs)
+    (λ c κs. search needs)
     returns-4
     returns-5)

@@ -14,37 +14,10 @@ Inv-loop values field at₀ name₀ end₀ k₀ taken₀ at name end k taken = W
 abbrev μ-loop : tie.MeasureT-loop
 μ-loop values field at₀ name₀ end₀ k₀ taken₀ at name end k taken = length values + 1 - at
 
-end-of-requires : tie.Need-end-of-requires Inv-loop μ-loop
-end-of-requires c κs = search needs
-
 loop-holds : tie.Need-loop-holds Inv-loop μ-loop
 loop-holds c =
     let a = c .before .before .before in
     walk-starts (a .args .values .now) (a .args .field .now) (c .end-of .ensures .0) (c .end-of .ensures .1 .1) (a .pre)
-
-end-of-requires-2 : tie.Need-end-of-requires-2 Inv-loop μ-loop
-end-of-requires-2 c κs = search needs
-
-sub-same : tie.Need-sub-same Inv-loop μ-loop
-sub-same c = search needs
-
-part-same-start : tie.Need-part-same-start Inv-loop μ-loop
-part-same-start c = search needs
-
-part-same-end : tie.Need-part-same-end Inv-loop μ-loop
-part-same-end c = search needs
-
-sub-same-2 : tie.Need-sub-same-2 Inv-loop μ-loop
-sub-same-2 c = search needs
-
-part-same-start-2 : tie.Need-part-same-start-2 Inv-loop μ-loop
-part-same-start-2 c = search needs
-
-part-same-end-2 : tie.Need-part-same-end-2 Inv-loop μ-loop
-part-same-end-2 c = search needs
-
-same-requires : tie.Need-same-requires Inv-loop μ-loop
-same-requires c κs = search needs
 
 bit-requires : tie.Need-bit-requires Inv-loop μ-loop
 bit-requires c κs =
@@ -76,23 +49,11 @@ returns-2 c =
     let e = c .before .before .before .before .before .before .before .end-of2 in
     walk-stops (g .inv) (e .ensures .0) (e .ensures .1 .1) (sym (c .before .before .before .before .same .ensures) ∙ c .before .before .before .if1 .taken) (c .if3 .taken) (omega arith)
 
-add-name : tie.Need-add-name Inv-loop μ-loop
-add-name c = search needs
-
-end-of-requires-3 : tie.Need-end-of-requires-3 Inv-loop μ-loop
-end-of-requires-3 c κs = search needs
-
-add-at : tie.Need-add-at Inv-loop μ-loop
-add-at c = search needs
-
 add-k : tie.Need-add-k Inv-loop μ-loop
 add-k c =
     let g = c .before .before .before .before .before .before .before .before .before .loop in
     let e = c .before .before .before .before .before .before .before .before .end-of2 in
     omega (arith, value-few (g .inv) (e .ensures .0) (e .ensures .1 .1))
-
-loop-less : tie.Need-loop-less Inv-loop μ-loop
-loop-less c = search needs
 
 loop-again : tie.Need-loop-again Inv-loop μ-loop
 loop-again c =
@@ -106,17 +67,11 @@ returns-3 c =
     let e = c .before .before .before .before .before .end-of2 in
     walk-misses (g .inv) (e .ensures .0) (e .ensures .1 .1) (sym (c .before .before .same .ensures) ∙ c .before .if1 .left) (c .if4 .taken)
 
-add-at-2 : tie.Need-add-at-2 Inv-loop μ-loop
-add-at-2 c = search needs
-
 add-k-2 : tie.Need-add-k-2 Inv-loop μ-loop
 add-k-2 c =
     let g = c .before .before .before .before .before .before .loop in
     let e = c .before .before .before .before .before .end-of2 in
     omega (arith, value-few (g .inv) (e .ensures .0) (e .ensures .1 .1))
-
-loop-less-2 : tie.Need-loop-less-2 Inv-loop μ-loop
-loop-less-2 c = search needs
 
 loop-again-2 : tie.Need-loop-again-2 Inv-loop μ-loop
 loop-again-2 c =
@@ -130,29 +85,29 @@ names-mask-spec =
     (tie.spec
     Inv-loop
     μ-loop
-    end-of-requires
+    (λ c κs. search needs)
     loop-holds
-    end-of-requires-2
-    sub-same
-    part-same-start
-    part-same-end
-    sub-same-2
-    part-same-start-2
-    part-same-end-2
-    same-requires
+    (λ c κs. search needs)
+    (λ c. search needs)
+    (λ c. search needs)
+    (λ c. search needs)
+    (λ c. search needs)
+    (λ c. search needs)
+    (λ c. search needs)
+    (λ c κs. search needs)
     bit-requires
     add-taken
     cast-result
     returns
     returns-2
-    add-name
-    end-of-requires-3
-    add-at
+    (λ c. search needs)
+    (λ c κs. search needs)
+    (λ c. search needs)
     add-k
-    loop-less
+    (λ c. search needs)
     loop-again
     returns-3
-    add-at-2
+    (λ c. search needs)
     add-k-2
-    loop-less-2
+    (λ c. search needs)
     loop-again-2)

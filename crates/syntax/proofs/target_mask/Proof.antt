@@ -8,28 +8,16 @@ use Rattle.syntax.proofs.Masks.{star, all-named, some-named}
 use Rattle.syntax.proofs.target_mask.Statement.{statement}
 use Rattle.syntax.proofs.target_mask.Tie as tie
 
-bit-requires : tie.Need-bit-requires
-bit-requires c κs = search needs
-
 sub-full : tie.Need-sub-full
 sub-full c = omega (arith, pow-pos (c .before .before .before .args .n))
 
 cast-full : tie.Need-cast-full
 cast-full c = omega (arith, pow-mono {i = c .before .before .before .args .n} {j = 16} (omega arith))
 
-slice-aggregate-same : tie.Need-slice-aggregate-same
-slice-aggregate-same c = search needs
-
-same-requires : tie.Need-same-requires
-same-requires c κs = search needs
-
 returns : tie.Need-returns
 returns c =
     let a = c .before .before .before .before .before .before in
     star (cut tab (a .args .values .now)) (a .args .field .now) (a .pre .0) (c .before .before .before .bit .ensures) (sym (c .before .same .ensures) ∙ c .if1 .taken)
-
-names-mask-requires : tie.Need-names-mask-requires
-names-mask-requires c κs = search needs
 
 returns-2 : tie.Need-returns-2
 returns-2 c =
@@ -45,12 +33,12 @@ pub target-mask-spec : {M : Type 1} → statement M
 target-mask-spec =
     tie.close
     (tie.spec
-    bit-requires
+    (λ c κs. search needs)
     sub-full
     cast-full
-    slice-aggregate-same
-    same-requires
+    (λ c. search needs)
+    (λ c κs. search needs)
     returns
-    names-mask-requires
+    (λ c κs. search needs)
     returns-2
     returns-3)

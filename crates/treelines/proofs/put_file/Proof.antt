@@ -20,9 +20,6 @@ abbrev μ-loop : tie.MeasureT-loop
 places : (c : tie.Start Inv-loop μ-loop) → length (c .args .list .all) ≡ 65
 places c = search (needs, mapped-length)
 
-put-bytes-requires : tie.Need-put-bytes-requires Inv-loop μ-loop
-put-bytes-requires c κs = search needs
-
 loop-holds : tie.Need-loop-holds Inv-loop μ-loop
 loop-holds c =
     let args = c .before .before .before .before .before .before .before .args in
@@ -42,20 +39,11 @@ put-element-requires c κs =
     let size = places (c .before .before .before .before .before .before .before .before .before .before .before) in
     (pre .headed, small-at _ _ list (l .i) pre (omega arith) (omega (arith, pre .few)), omega (arith, pre .few, pre .headed .short, l .inv .1 .within, c .before .before .before .before .before .before .put-bytes .ensures .moved))
 
-add-i : tie.Need-add-i Inv-loop μ-loop
-add-i c = search needs
-
-loop-less : tie.Need-loop-less Inv-loop μ-loop
-loop-less c = search needs
-
 loop-again : tie.Need-loop-again Inv-loop μ-loop
 loop-again c =
     let args = c .before .before .before .before .before .before .before .before .before .before .before .before .before .before .args in
     let l = c .before .before .before .before .before .before .loop in
     (omega arith, stored (elementLine (args .header .now) (args .a) (args .list .all)) 100000 0 _ _ (l .i) (l .inv .1) (c .before .before .put-element .ensures))
-
-same-length : tie.Need-same-length Inv-loop μ-loop
-same-length c = search needs
 
 returns : tie.Need-returns Inv-loop μ-loop
 returns c =
@@ -73,13 +61,13 @@ put-file-spec =
     (tie.spec
     Inv-loop
     μ-loop
-    put-bytes-requires
+    (λ c κs. search needs)
     loop-holds
     mul-e
     array-copy-out-e
     put-element-requires
-    add-i
-    loop-less
+    (λ c. search needs)
+    (λ c. search needs)
     loop-again
-    same-length
+    (λ c. search needs)
     returns)

@@ -18,9 +18,6 @@ use Rattle.writing.proofs.write_text.Reads as write-text-reads
 places : (c : tie.Start) → length (c .args .list .all) ≡ 65
 places c = search (needs, mapped-length)
 
-read-header-requires : tie.Need-read-header-requires
-read-header-requires c κs = search needs
-
 cast-t9 : tie.Need-cast-t9
 cast-t9 c = let small = small-header (c .before .before .before .before .before .before .args .header .now) (c .before .before .before .read-header .result) (c .before .before .before .read-header .ensures) [] (c .before .if1 .taken) in omega (arith, small .0, small .1)
 
@@ -54,9 +51,6 @@ returns-3 c = none-given (c .before .before .before .before .before .before .bef
 write-text-requires : tie.Need-write-text-requires
 write-text-requires c κs = writable (c .before .before .before .before .before .before .before .before .before .before .before .before .before .args .header .now) (c .before .before .before .before .before .before .before .before .before .before .read-header .result) (c .before .before .before .before .before .before .before .before .before .before .read-header .ensures) [] (c .before .before .before .before .before .before .before .before .if1 .left) _ (places (c .before .before .before .before .before .before .before .before .before .before .before .before .before)) (c .before .before .before .before .before .before .before .before .before .before .before .before .before .pre) (c .before .before .before .before .before .check-elements .result) (c .before .before .before .before .before .check-elements .ensures) (c .before .before .before .if2 .left)
 
-same-length : tie.Need-same-length
-same-length c = search needs
-
 returns-4 : tie.Need-returns-4
 returns-4 c =
     text-written (c .before .before .before .before .before .before .before .before .before .before .before .before .before .before .before .before .args .header .now) (c .before .before .before .before .before .before .before .before .before .before .before .before .before .read-header .result) (c .before .before .before .before .before .before .before .before .before .before .before .before .before .read-header .ensures) (c .before .before .before .before .before .before .before .before .before .before .before .before .before .before .before .before .args .out .now) (c .before .before .before .before .before .before .before .before .before .before .before .if1 .left) _ (places (c .before .before .before .before .before .before .before .before .before .before .before .before .before .before .before .before)) (c .before .before .before .before .before .before .before .before .before .before .before .before .before .before .before .before .pre) (c .before .before .before .before .before .before .before .before .check-elements .result) (c .before .before .before .before .before .before .before .before .check-elements .ensures) (c .before .before .before .before .before .before .if2 .left) (c .before .before .before .before .if3 .left)
@@ -66,7 +60,7 @@ pub write-spec : {M : Type 1} → statement M
 write-spec =
     tie.close
     (tie.spec
-    read-header-requires
+    (λ c κs. search needs)
     cast-t9
     cast-t10
     returns
@@ -76,5 +70,5 @@ write-spec =
     returns-2
     returns-3
     write-text-requires
-    same-length
+    (λ c. search needs)
     returns-4)

@@ -16,36 +16,15 @@ Inv-loop file places parents pairs n space i j out₀ at k₀ end₀ out k end =
 abbrev μ-loop : tie.MeasureT-loop
 μ-loop file places parents pairs n space i j out₀ at k₀ end₀ out k end = n - k
 
-mul-if1 : tie.Need-mul-if1 Inv-loop μ-loop
-mul-if1 c = search needs
-
-shared-slice-read-if1 : tie.Need-shared-slice-read-if1 Inv-loop μ-loop
-shared-slice-read-if1 c = search needs
-
 returns : tie.Need-returns Inv-loop μ-loop
 returns c =
     let args = c .before .before .before .before .before .before .before .args in
     no-pairs (args .file .now) (args .places .now) (args .n) (args .parents .now) (args .pairs .now) (args .space) (args .i) (args .j) (c .if1 .taken)
 
-add-k : tie.Need-add-k Inv-loop μ-loop
-add-k c = search needs
-
 loop-holds : tie.Need-loop-holds Inv-loop μ-loop
 loop-holds c =
     let args = c .before .before .before .before .before .before .before .args in
     (search needs, begun (laterLine (args .file .now) (args .places .now) (args .n) (args .parents .now) (args .pairs .now) (args .space) (args .i) (args .j)) 500 (args .j + 1) (args .out .now) (args .at))
-
-mul-if2 : tie.Need-mul-if2 Inv-loop μ-loop
-mul-if2 c = search needs
-
-shared-slice-read-if2 : tie.Need-shared-slice-read-if2 Inv-loop μ-loop
-shared-slice-read-if2 c = search needs
-
-add-k-2 : tie.Need-add-k-2 Inv-loop μ-loop
-add-k-2 c = search needs
-
-loop-less : tie.Need-loop-less Inv-loop μ-loop
-loop-less c = search needs
 
 loop-again : tie.Need-loop-again Inv-loop μ-loop
 loop-again c =
@@ -59,12 +38,6 @@ put-conflict-requires c κs =
     let pre = c .before .before .before .before .before .before .before .before .before .before .before .before .pre in
     let l = c .before .before .before .before .loop in
     (pre .0 .each _ (pre .2), pre .0 .each _ (pre .3), pre .0 .each (l .k) (omega arith), pre .1 .pairs-room, omega (arith, pre .0 .few), omega (arith, pre .0 .few), pre .1 .small, omega (arith, pre .0 .few, l .inv .1 .within))
-
-add-k-3 : tie.Need-add-k-3 Inv-loop μ-loop
-add-k-3 c = search needs
-
-loop-less-2 : tie.Need-loop-less-2 Inv-loop μ-loop
-loop-less-2 c = search needs
 
 loop-again-2 : tie.Need-loop-again-2 Inv-loop μ-loop
 loop-again-2 c =
@@ -88,19 +61,19 @@ put-later-spec =
     (tie.spec
     Inv-loop
     μ-loop
-    mul-if1
-    shared-slice-read-if1
+    (λ c. search needs)
+    (λ c. search needs)
     returns
-    add-k
+    (λ c. search needs)
     loop-holds
-    mul-if2
-    shared-slice-read-if2
-    add-k-2
-    loop-less
+    (λ c. search needs)
+    (λ c. search needs)
+    (λ c. search needs)
+    (λ c. search needs)
     loop-again
     put-conflict-requires
-    add-k-3
-    loop-less-2
+    (λ c. search needs)
+    (λ c. search needs)
     loop-again-2
     same-length
     returns-2)

@@ -26,12 +26,6 @@ put-later-requires c κs =
     let l = c .before .before .loop in
     (pre .0, pre .1, pre .2, omega arith, omega (arith, pre .0 .few, l .inv .1 .within))
 
-add-j : tie.Need-add-j Inv-loop μ-loop
-add-j c = search needs
-
-loop-less : tie.Need-loop-less Inv-loop μ-loop
-loop-less c = search needs
-
 loop-again : tie.Need-loop-again Inv-loop μ-loop
 loop-again c =
     let args = c .before .before .before .before .before .before .before .before .before .before .before .args in
@@ -56,8 +50,8 @@ put-pairs-spec =
     μ-loop
     loop-holds
     put-later-requires
-    add-j
-    loop-less
+    (λ c. search needs)
+    (λ c. search needs)
     loop-again
     same-length
     returns)

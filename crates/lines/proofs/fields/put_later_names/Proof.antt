@@ -14,7 +14,7 @@ use Rattle.lines.proofs.fields.put_later_names.Reads as reads
 use Rattle.lines.proofs.fields.put_later_names.Lts as lts
 use Rattle.printing.proofs.put.Reads as put-reads
 use Rattle.lines.proofs.fields.put_name.Reads as put-name-reads
-use Rattle.segments.proofs.has.Reads as has-reads
+use Rattle.rows.proofs.has.Reads as has-reads
 
 abbrev Inv-loop : tie.InvT-loop
 Inv-loop file places n word from out₀ at i₀ end₀ out i end = (i ≤ n) × Sofar (commaName file places n word) 17 from out₀ at i out end
@@ -27,15 +27,6 @@ loop-holds c =
     let args = c .before .before .before .args in
     (search needs, begun (commaName (args .file .now) (args .places .now) (args .n) (args .word)) 17 (args .from) (args .out .now) (args .at))
 
-has-requires : tie.Need-has-requires Inv-loop μ-loop
-has-requires c κs = search needs
-
-add-i : tie.Need-add-i Inv-loop μ-loop
-add-i c = search needs
-
-loop-less : tie.Need-loop-less Inv-loop μ-loop
-loop-less c = search needs
-
 loop-again : tie.Need-loop-again Inv-loop μ-loop
 loop-again c =
     let args = c .before .before .before .before .before .before .before .args in
@@ -43,17 +34,8 @@ loop-again c =
     let none = sym (c .before .has .ensures) ∙ not-true _ (c .if1 .taken) in
     (omega arith, passed-over (commaName (args .file .now) (args .places .now) (args .n) (args .word)) 17 (args .from) (args .out .now) (args .at) (l .i) (l .inv .1) (rw none))
 
-put-requires : tie.Need-put-requires Inv-loop μ-loop
-put-requires c κs = search needs
-
 put-name-requires : tie.Need-put-name-requires Inv-loop μ-loop
 put-name-requires c κs = (c .before .before .before .before .before .before .before .before .before .before .before .before .pre .0 .each (c .before .before .before .before .before .before .before .before .loop .i) (omega arith), omega (arith, c .before .before .before .before .before .before .before .before .loop .inv, c .before .before .before .before .before .before .before .before .before .before .before .before .pre, c .before .before .before .put .ensures .moved))
-
-add-i-2 : tie.Need-add-i-2 Inv-loop μ-loop
-add-i-2 c = search needs
-
-loop-less-2 : tie.Need-loop-less-2 Inv-loop μ-loop
-loop-less-2 c = search needs
 
 loop-again-2 : tie.Need-loop-again-2 Inv-loop μ-loop
 loop-again-2 c =
@@ -82,14 +64,14 @@ put-later-names-spec =
     Inv-loop
     μ-loop
     loop-holds
-    has-requires
-    add-i
-    loop-less
+    (λ c κs. search needs)
+    (λ c. search needs)
+    (λ c. search needs)
     loop-again
-    put-requires
+    (λ c κs. search needs)
     put-name-requires
-    add-i-2
-    loop-less-2
+    (λ c. search needs)
+    (λ c. search needs)
     loop-again-2
     same-length
     returns)

@@ -8,15 +8,6 @@ use Rattle.lines.proofs.fields.put_named.Lts as lts
 use Rattle.printing.proofs.put.Reads as put-reads
 use Rattle.lines.proofs.fields.put_name.Reads as put-name-reads
 
-put-name-requires : tie.Need-put-name-requires
-put-name-requires c κs = search needs
-
-put-requires : tie.Need-put-requires
-put-requires c κs = search needs
-
-same-length : tie.Need-same-length
-same-length c = search needs
-
 returns : tie.Need-returns
 returns c =
     let (w, l) = c .before .before .before .before .before .before .put-name .ensures in
@@ -24,4 +15,4 @@ returns c =
     (then w v, omega (arith, l, v .moved))
 
 pub put-named-spec : {M : Type 1} → statement M
-put-named-spec = tie.close (tie.spec put-name-requires put-requires same-length returns)
+put-named-spec = tie.close (tie.spec (λ c κs. search needs) (λ c κs. search needs) (λ c. search needs) returns)

@@ -14,7 +14,7 @@ use Rattle.printing.proofs.put.Reads as put-reads
 use Rattle.printing.proofs.put_field.Reads as put-field-reads
 use Rattle.lines.proofs.fields.put_later_names.Reads as put-later-names-reads
 use Rattle.lines.proofs.fields.put_name.Reads as put-name-reads
-use Rattle.segments.proofs.has.Reads as has-reads
+use Rattle.rows.proofs.has.Reads as has-reads
 
 abbrev Inv-loop : tie.InvT-loop
 Inv-loop file places n word out₀ at i₀ t10 out i = (i ≤ n) × (namesOf file places n word ≡ namesFrom file places n word i (n - i)) × (out ≡ out₀) × (length out ≡ length out₀)
@@ -27,23 +27,11 @@ loop-holds c =
     let args = c .before .before .before .args in
     (search needs, from-start (args .file .now) (args .places .now) (args .n) (args .word), refl, refl)
 
-has-requires : tie.Need-has-requires Inv-loop μ-loop
-has-requires c κs = search needs
-
 put-name-requires : tie.Need-put-name-requires Inv-loop μ-loop
 put-name-requires c κs = (c .before .before .before .before .before .before .before .before .pre .0 .each (c .before .before .before .before .loop .i) (omega arith), omega arith)
 
-add-put-later-names : tie.Need-add-put-later-names Inv-loop μ-loop
-add-put-later-names c = search needs
-
 put-later-names-requires : tie.Need-put-later-names-requires Inv-loop μ-loop
 put-later-names-requires c κs = (c .before .before .before .before .before .before .before .before .before .before .before .before .pre .0, omega arith, omega arith)
-
-put-requires : tie.Need-put-requires Inv-loop μ-loop
-put-requires c κs = search needs
-
-same-length : tie.Need-same-length Inv-loop μ-loop
-same-length c = search needs
 
 returns : tie.Need-returns Inv-loop μ-loop
 returns c =
@@ -56,27 +44,12 @@ returns c =
     let names = first-name (args .file .now) (args .places .now) (args .n) (args .word) (l .i) (omega arith) (l .inv .1) set in
     (rw (names, ← l .inv .2) (then (then w v) u), omega (arith, a, e, u .moved, c .before .before .before .before .before .before .before .before .before .before .before .before .before .before .before .before .before .before .before .pre .0 .few))
 
-add-i : tie.Need-add-i Inv-loop μ-loop
-add-i c = search needs
-
-loop-less : tie.Need-loop-less Inv-loop μ-loop
-loop-less c = search needs
-
 loop-again : tie.Need-loop-again Inv-loop μ-loop
 loop-again c =
     let args = c .before .before .before .before .before .before .before .args in
     let l = c .before .before .before .loop in
     let none = sym (c .before .has .ensures) ∙ c .if1 .left in
     (omega arith, unset (args .file .now) (args .places .now) (args .n) (args .word) (l .i) (omega arith) (l .inv .1) none, l .inv .2, l .inv .3)
-
-slice-aggregate-put-field : tie.Need-slice-aggregate-put-field Inv-loop μ-loop
-slice-aggregate-put-field c = search needs
-
-put-field-requires : tie.Need-put-field-requires Inv-loop μ-loop
-put-field-requires c κs = search needs
-
-same-length-2 : tie.Need-same-length-2 Inv-loop μ-loop
-same-length-2 c = search needs
 
 returns-2 : tie.Need-returns-2 Inv-loop μ-loop
 returns-2 c =
@@ -93,17 +66,17 @@ put-names-spec =
     Inv-loop
     μ-loop
     loop-holds
-    has-requires
+    (λ c κs. search needs)
     put-name-requires
-    add-put-later-names
+    (λ c. search needs)
     put-later-names-requires
-    put-requires
-    same-length
+    (λ c κs. search needs)
+    (λ c. search needs)
     returns
-    add-i
-    loop-less
+    (λ c. search needs)
+    (λ c. search needs)
     loop-again
-    slice-aggregate-put-field
-    put-field-requires
-    same-length-2
+    (λ c. search needs)
+    (λ c κs. search needs)
+    (λ c. search needs)
     returns-2)

@@ -26,12 +26,6 @@ put-kept-rule-requires c κs =
     let pre = c .before .before .before .before .before .before .before .pre in
     (pre .0 .each (c .before .before .loop .i) (omega arith), omega arith, pre .2, omega (arith, pre .0 .few, c .before .before .loop .inv .1 .within))
 
-add-i : tie.Need-add-i Inv-loop μ-loop
-add-i c = search needs
-
-loop-less : tie.Need-loop-less Inv-loop μ-loop
-loop-less c = search needs
-
 loop-again : tie.Need-loop-again Inv-loop μ-loop
 loop-again c =
     let args = c .before .before .before .before .before .before .before .before .before .before .args in
@@ -56,8 +50,8 @@ put-kept-spec =
     μ-loop
     loop-holds
     put-kept-rule-requires
-    add-i
-    loop-less
+    (λ c. search needs)
+    (λ c. search needs)
     loop-again
     same-length
     returns)

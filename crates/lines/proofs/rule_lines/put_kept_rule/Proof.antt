@@ -9,31 +9,10 @@ use Rattle.printing.proofs.put_field.Reads as put-field-reads
 use Rattle.printing.proofs.put_number.Reads as put-number-reads
 use Rattle.lines.proofs.fields.put_named.Reads as put-named-reads
 
-mul-m : tie.Need-mul-m
-mul-m c = search needs
-
-shared-slice-read-m : tie.Need-shared-slice-read-m
-shared-slice-read-m c = search needs
-
 returns : tie.Need-returns
 returns c =
     let args = c .before .before .before .before .before .before .args in
     not-kept (args .file .now) (args .places .now) (args .shown .now) (args .space) (args .i) _ refl (c .if1 .taken)
-
-slice-aggregate-put-field : tie.Need-slice-aggregate-put-field
-slice-aggregate-put-field c = search needs
-
-put-field-requires : tie.Need-put-field-requires
-put-field-requires c κs = search needs
-
-put-named-requires : tie.Need-put-named-requires
-put-named-requires c κs = search needs
-
-put-number-requires : tie.Need-put-number-requires
-put-number-requires c κs = search needs
-
-same-length : tie.Need-same-length
-same-length c = search needs
 
 returns-2 : tie.Need-returns-2
 returns-2 c =
@@ -49,12 +28,12 @@ pub put-kept-rule-spec : {M : Type 1} → statement M
 put-kept-rule-spec =
     tie.close
     (tie.spec
-    mul-m
-    shared-slice-read-m
+    (λ c. search needs)
+    (λ c. search needs)
     returns
-    slice-aggregate-put-field
-    put-field-requires
-    put-named-requires
-    put-number-requires
-    same-length
+    (λ c. search needs)
+    (λ c κs. search needs)
+    (λ c κs. search needs)
+    (λ c κs. search needs)
+    (λ c. search needs)
     returns-2)

@@ -23,19 +23,10 @@ loop-holds c =
     let args = c .before .before .before .before .args in
     (search needs, begun (λ k. struckLine (args .file .now) (args .places .now) (getD (args .order .now) k 0)) 500 0 (args .out .now) (args .at))
 
-shared-slice-read-put-struck-rule : tie.Need-shared-slice-read-put-struck-rule Inv-loop μ-loop
-shared-slice-read-put-struck-rule c = search needs
-
 put-struck-rule-requires : tie.Need-put-struck-rule-requires Inv-loop μ-loop
 put-struck-rule-requires c κs =
     let pre = c .before .before .before .before .before .before .before .before .pre in
     (pre .0 .each (c .before .before .before .loop .k) (omega arith), omega (arith, pre .0 .few, c .before .before .before .loop .inv .1 .within))
-
-add-k : tie.Need-add-k Inv-loop μ-loop
-add-k c = search needs
-
-loop-less : tie.Need-loop-less Inv-loop μ-loop
-loop-less c = search needs
 
 loop-again : tie.Need-loop-again Inv-loop μ-loop
 loop-again c =
@@ -61,10 +52,10 @@ put-struck-spec =
     Inv-loop
     μ-loop
     loop-holds
-    shared-slice-read-put-struck-rule
+    (λ c. search needs)
     put-struck-rule-requires
-    add-k
-    loop-less
+    (λ c. search needs)
+    (λ c. search needs)
     loop-again
     same-length
     returns)

@@ -7,18 +7,6 @@ use Rattle.lines.proofs.rule_lines.put_struck_rule.Lts as lts
 use Rattle.printing.proofs.put_field.Reads as put-field-reads
 use Rattle.lines.proofs.fields.put_named.Reads as put-named-reads
 
-slice-aggregate-put-field : tie.Need-slice-aggregate-put-field
-slice-aggregate-put-field c = search needs
-
-put-field-requires : tie.Need-put-field-requires
-put-field-requires c κs = search needs
-
-put-named-requires : tie.Need-put-named-requires
-put-named-requires c κs = search needs
-
-same-length : tie.Need-same-length
-same-length c = search needs
-
 returns : tie.Need-returns
 returns c =
     let args = c .before .before .before .before .before .before .before .before .before .before .before .before .args in
@@ -27,4 +15,4 @@ returns c =
 pub put-struck-rule-spec : {M : Type 1} → statement M
 put-struck-rule-spec =
     tie.close
-    (tie.spec slice-aggregate-put-field put-field-requires put-named-requires same-length returns)
+    (tie.spec (λ c. search needs) (λ c κs. search needs) (λ c κs. search needs) (λ c. search needs) returns)

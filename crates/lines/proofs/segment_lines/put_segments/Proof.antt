@@ -28,12 +28,6 @@ put-segment-requires c κs =
     let pre = c .before .before .before .before .before .before .before .before .before .pre in
     (pre .0, omega arith, omega arith, omega arith, omega arith, omega (arith, c .before .before .loop .inv .1 .within))
 
-add-m : tie.Need-add-m Inv-loop μ-loop
-add-m c = search needs
-
-loop-less : tie.Need-loop-less Inv-loop μ-loop
-loop-less c = search needs
-
 loop-again : tie.Need-loop-again Inv-loop μ-loop
 loop-again c =
     let args = c .before .before .before .before .before .before .before .before .before .before .before .before .args in
@@ -59,8 +53,8 @@ put-segments-spec =
     μ-loop
     loop-holds
     put-segment-requires
-    add-m
-    loop-less
+    (λ c. search needs)
+    (λ c. search needs)
     loop-again
     same-length
     returns)

@@ -16,30 +16,6 @@ Inv-loop table at masks₀ i₀ masks i = (i ≤ 6) × (masks ≡ laid (drop at 
 abbrev μ-loop : tie.MeasureT-loop
 μ-loop table at masks₀ i₀ masks i = 6 - i
 
-loop-holds : tie.Need-loop-holds Inv-loop μ-loop
-loop-holds c = search needs
-
-add-masks : tie.Need-add-masks Inv-loop μ-loop
-add-masks c = search needs
-
-mul-masks : tie.Need-mul-masks Inv-loop μ-loop
-mul-masks c = search needs
-
-shared-slice-read-masks : tie.Need-shared-slice-read-masks Inv-loop μ-loop
-shared-slice-read-masks c = search needs
-
-mul-masks-2 : tie.Need-mul-masks-2 Inv-loop μ-loop
-mul-masks-2 c = search needs
-
-array-write-masks : tie.Need-array-write-masks Inv-loop μ-loop
-array-write-masks c = search needs
-
-add-i : tie.Need-add-i Inv-loop μ-loop
-add-i c = search needs
-
-loop-less : tie.Need-loop-less Inv-loop μ-loop
-loop-less c = search needs
-
 loop-again : tie.Need-loop-again Inv-loop μ-loop
 loop-again c = (search needs, masks-next _ _ _ _ (c .before .before .loop .inv .1) (c .before .before .before .pre) (c .before .loop-test .taken))
 
@@ -52,13 +28,13 @@ masks-at-spec =
     (tie.spec
     Inv-loop
     μ-loop
-    loop-holds
-    add-masks
-    mul-masks
-    shared-slice-read-masks
-    mul-masks-2
-    array-write-masks
-    add-i
-    loop-less
+    (λ c. search needs)
+    (λ c. search needs)
+    (λ c. search needs)
+    (λ c. search needs)
+    (λ c. search needs)
+    (λ c. search needs)
+    (λ c. search needs)
+    (λ c. search needs)
     loop-again
     returns)

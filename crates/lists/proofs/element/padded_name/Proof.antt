@@ -16,21 +16,6 @@ Inv-loop name all₀ i₀ all i = (i ≤ length name) × (all ≡ laid name i (r
 abbrev μ-loop : tie.MeasureT-loop
 μ-loop name all₀ i₀ all i = length name - i
 
-loop-holds : tie.Need-loop-holds Inv-loop μ-loop
-loop-holds c = search needs
-
-shared-slice-read-all : tie.Need-shared-slice-read-all Inv-loop μ-loop
-shared-slice-read-all c = search needs
-
-array-write-all : tie.Need-array-write-all Inv-loop μ-loop
-array-write-all c = search needs
-
-add-i : tie.Need-add-i Inv-loop μ-loop
-add-i c = search needs
-
-loop-less : tie.Need-loop-less Inv-loop μ-loop
-loop-less c = search needs
-
 loop-again : tie.Need-loop-again Inv-loop μ-loop
 loop-again c = (search needs, name-next _ _ _ (c .before .before .loop .inv .1) (c .before .before .before .pre) (c .before .loop-test .taken))
 
@@ -43,10 +28,10 @@ padded-name-spec =
     (tie.spec
     Inv-loop
     μ-loop
-    loop-holds
-    shared-slice-read-all
-    array-write-all
-    add-i
-    loop-less
+    (λ c. search needs)
+    (λ c. search needs)
+    (λ c. search needs)
+    (λ c. search needs)
+    (λ c. search needs)
     loop-again
     returns)

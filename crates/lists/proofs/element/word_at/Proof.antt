@@ -7,25 +7,10 @@ use Rattle.lists.proofs.element.word_at.Tie as tie
 use Rattle.lists.proofs.element.word_at.Reads as reads
 use Rattle.lists.proofs.element.word_at.Lts as lts
 
-returns : tie.Need-returns
-returns c = search needs
-
-returns-2 : tie.Need-returns-2
-returns-2 c = search needs
-
-returns-3 : tie.Need-returns-3
-returns-3 c = search needs
-
-returns-4 : tie.Need-returns-4
-returns-4 c = search needs
-
-returns-5 : tie.Need-returns-5
-returns-5 c = search needs
-
 returns-6 : tie.Need-returns-6
 returns-6 c =
     let none = c .match .rest in
     last-word (c .before .args .number) (omega (arith, none .1, none .0 .1, none .0 .0 .1, none .0 .0 .0 .1, none .0 .0 .0 .0 .1))
 
 pub word-at-spec : {M : Type 1} → statement M
-word-at-spec = tie.close (tie.spec returns returns-2 returns-3 returns-4 returns-5 returns-6)
+word-at-spec = tie.close (tie.spec (λ c. search needs) (λ c. search needs) (λ c. search needs) (λ c. search needs) (λ c. search needs) returns-6)

@@ -18,23 +18,11 @@ depth-ends c = field-behind (c .before .before .before .args .line .now) 1 (c .b
 name-ends : (c : tie.After-end-of3) → let line = c .before .before .before .before .args .line .now in (c .end-of3 .result < length line) × Starts line 3 (c .end-of3 .result + 1)
 name-ends c = field-behind (c .before .before .before .before .args .line .now) 2 (c .before .end-of2 .result + 1) (c .end-of3 .result) (depth-ends (c .before) .1) (c .end-of3 .ensures) (omega (arith, c .before .before .before .before .pre))
 
-end-of-requires : tie.Need-end-of-requires
-end-of-requires c κs = search needs
-
-add-end-of : tie.Need-add-end-of
-add-end-of c = search needs
-
 end-of-requires-2 : tie.Need-end-of-requires-2
 end-of-requires-2 c κs = omega (arith, letter-ends c .0)
 
-add-end-of-2 : tie.Need-add-end-of-2
-add-end-of-2 c = search needs
-
 end-of-requires-3 : tie.Need-end-of-requires-3
 end-of-requires-3 c κs = omega (arith, depth-ends c .0)
-
-add-end-of-3 : tie.Need-add-end-of-3
-add-end-of-3 c = search needs
 
 end-of-requires-4 : tie.Need-end-of-requires-4
 end-of-requires-4 c κs = omega (arith, name-ends c .0)
@@ -59,11 +47,11 @@ pub field-ends-spec : {M : Type 1} → statement M
 field-ends-spec =
     tie.close
     (tie.spec
-    end-of-requires
-    add-end-of
+    (λ c κs. search needs)
+    (λ c. search needs)
     end-of-requires-2
-    add-end-of-2
+    (λ c. search needs)
     end-of-requires-3
-    add-end-of-3
+    (λ c. search needs)
     end-of-requires-4
     returns)

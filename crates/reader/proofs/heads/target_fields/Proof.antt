@@ -8,17 +8,11 @@ use Rattle.text.proofs.Pieces.{rest-of}
 use Rattle.reader.proofs.heads.target_fields.Statement.{statement}
 use Rattle.reader.proofs.heads.target_fields.Tie as tie
 
-add-from : tie.Need-add-from
-add-from c = search needs
-
 sub-result : tie.Need-sub-result
 sub-result c = let behind = c .before .pre .0 .targets (c .before .pre .1) in omega (arith, behind .0)
 
 part-result-start : tie.Need-part-result-start
 part-result-start c = let behind = c .before .pre .0 .targets (c .before .pre .1) in omega (arith, behind .0)
-
-part-result-end : tie.Need-part-result-end
-part-result-end c = search needs
 
 returns : tie.Need-returns
 returns c =
@@ -29,8 +23,8 @@ pub target-fields-spec : {M : Type 1} → statement M
 target-fields-spec =
     tie.close
     (tie.spec
-    add-from
+    (λ c. search needs)
     sub-result
     part-result-start
-    part-result-end
+    (λ c. search needs)
     returns)

@@ -96,17 +96,8 @@ from-word c before stands =
     let placed = place-found (c .before) before stands ∙ not-false (c .before .well-placed .result) (c .if5 .left) in
     from-place (c .before .before .before .before) before ∙ rw placed
 
-name-field-requires : tie.Need-name-field-requires
-name-field-requires c κs = search needs
-
-is-name-requires : tie.Need-is-name-requires
-is-name-requires c κs = search needs
-
 returns : tie.Need-returns
 returns c = answer (start (c .before)) 3 (λ before stands. rw (name-found (c .before) ∙ not-true (c .before .is-name .result) (c .if1 .taken)))
-
-known-element-requires : tie.Need-known-element-requires
-known-element-requires c κs = search needs
 
 returns-2 : tie.Need-returns-2
 returns-2 c = answer (start-2 (c .before)) 4 (λ before stands. rw (named (c .before .before), known-found (c .before) ∙ c .if2 .taken))
@@ -122,25 +113,10 @@ returns-4 c =
     let name-new = few .before .before in
     answer (start-2 (name-new .before)) 6 (λ before stands. rw (named (name-new .before .before), fresh name-new, lt-leb 64 _ (few .if3 .left), eq-eqb _ 0 (c .if4 .taken)))
 
-depth-field-requires : tie.Need-depth-field-requires
-depth-field-requires c κs = search needs
-
-depth-of-requires : tie.Need-depth-of-requires
-depth-of-requires c κs = search needs
-
-well-placed-requires : tie.Need-well-placed-requires
-well-placed-requires c κs = search needs
-
 returns-5 : tie.Need-returns-5
 returns-5 c =
     let misplaced = not-true (c .before .well-placed .result) (c .if5 .taken) in
     answer (start-5 (c .before)) 6 (λ before stands. from-place (c .before .before .before .before) before ∙ rw (place-found (c .before) before stands ∙ misplaced))
-
-word-field-requires : tie.Need-word-field-requires
-word-field-requires c κs = search needs
-
-word-number-requires : tie.Need-word-number-requires
-word-number-requires c κs = search needs
 
 returns-6 : tie.Need-returns-6
 returns-6 c = answer (start-6 (c .before)) 7 (λ before stands. from-word (c .before .before .before) before stands ∙ rw (word-found (c .before) ∙ c .if6 .taken))
@@ -152,18 +128,18 @@ pub element-refusal-spec : {M : Type 1} → statement M
 element-refusal-spec =
     tie.close
     (tie.spec
-    name-field-requires
-    is-name-requires
+    (λ c κs. search needs)
+    (λ c κs. search needs)
     returns
-    known-element-requires
+    (λ c κs. search needs)
     returns-2
     returns-3
     returns-4
-    depth-field-requires
-    depth-of-requires
-    well-placed-requires
+    (λ c κs. search needs)
+    (λ c κs. search needs)
+    (λ c κs. search needs)
     returns-5
-    word-field-requires
-    word-number-requires
+    (λ c κs. search needs)
+    (λ c κs. search needs)
     returns-6
     returns-7)

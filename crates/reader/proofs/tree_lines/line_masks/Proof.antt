@@ -23,9 +23,6 @@ standing c = c .before .before .before .before .before .before .before .pre .0 .
 below-six : (c : tie.At-loop Inv-loop μ-loop) → c .loop .i < 6
 below-six c = omega (arith, c .loop .inv .here, c .before .before .before .before .before .before .before .pre .0 .few)
 
-target-fields-requires : tie.Need-target-fields-requires Inv-loop μ-loop
-target-fields-requires c κs = search needs
-
 loop-holds : tie.Need-loop-holds Inv-loop μ-loop
 loop-holds c =
     let pre = c .before .before .before .before .before .before .pre in
@@ -62,15 +59,6 @@ mul-target-mask c = let small = below-six (c .before .before) in search needs
 array-read-target-mask : tie.Need-array-read-target-mask Inv-loop μ-loop
 array-read-target-mask c = let small = below-six (c .before .before) in search needs
 
-sub-target-mask-2 : tie.Need-sub-target-mask-2 Inv-loop μ-loop
-sub-target-mask-2 c = search needs
-
-part-target-mask-start-2 : tie.Need-part-target-mask-start-2 Inv-loop μ-loop
-part-target-mask-start-2 c = search needs
-
-part-target-mask-end-2 : tie.Need-part-target-mask-end-2 Inv-loop μ-loop
-part-target-mask-end-2 c = search needs
-
 target-mask-requires : tie.Need-target-mask-requires Inv-loop μ-loop
 target-mask-requires c κs =
     let turn = c .before .before .before in
@@ -95,12 +83,6 @@ returns-2 c =
     let end = c .before .before .before .before .before .before .end-of .ensures in
     walk-ends (c .before .before .before .before .before .before .before .loop .inv) (end .0) (end .1 .1) (c .before .before .before .target-mask .ensures) (c .before .before .if1 .left) (c .if2 .taken)
 
-add-at : tie.Need-add-at Inv-loop μ-loop
-add-at c = search needs
-
-loop-less : tie.Need-loop-less Inv-loop μ-loop
-loop-less c = search needs
-
 loop-again : tie.Need-loop-again Inv-loop μ-loop
 loop-again c =
     let end = c .before .before .before .before .before .before .end-of .ensures in
@@ -112,7 +94,7 @@ line-masks-spec =
     (tie.spec
     Inv-loop
     μ-loop
-    target-fields-requires
+    (λ c κs. search needs)
     loop-holds
     end-of-requires
     mul-first
@@ -124,15 +106,15 @@ line-masks-spec =
     part-target-mask-end
     mul-target-mask
     array-read-target-mask
-    sub-target-mask-2
-    part-target-mask-start-2
-    part-target-mask-end-2
+    (λ c. search needs)
+    (λ c. search needs)
+    (λ c. search needs)
     target-mask-requires
     returns
     mul-masks
     array-write-masks
     add-i
     returns-2
-    add-at
-    loop-less
+    (λ c. search needs)
+    (λ c. search needs)
     loop-again)

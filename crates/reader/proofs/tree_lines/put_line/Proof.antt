@@ -16,45 +16,18 @@ use Rattle.syntax.proofs.depth_of.Reads as depth-of-reads
 use Rattle.syntax.proofs.word_number.Reads as word-number-reads
 
 -- src/lib.rt:105:34
-depth-field-requires : tie.Need-depth-field-requires
-depth-field-requires c κs = search needs
-
 -- src/lib.rt:105:9
-depth-of-requires : tie.Need-depth-of-requires
-depth-of-requires c κs = search needs
-
 -- src/lib.rt:106:42
-word-field-requires : tie.Need-word-field-requires
-word-field-requires c κs = search needs
-
 -- src/lib.rt:106:9
-word-number-requires : tie.Need-word-number-requires
-word-number-requires c κs = search needs
-
 -- src/lib.rt:107:9
-name-field-requires : tie.Need-name-field-requires
-name-field-requires c κs = search needs
-
 -- src/lib.rt:109:15
-cast-t19 : tie.Need-cast-t19
-cast-t19 c = search needs
-
 -- src/lib.rt:110:16
-cast-t20 : tie.Need-cast-t20
-cast-t20 c = search needs
-
 -- src/lib.rt:113:59
-add-put-element : tie.Need-add-put-element
-add-put-element c = search needs
-
 -- src/lib.rt:113:59
 add-put-element-2 : tie.Need-add-put-element-2
 add-put-element-2 c = omega (arith, ap length (c .before .before .name-field .ensures), c .before .before .before .before .before .before .before .before .before .before .before .before .pre .0 .name-inside)
 
 -- src/lib.rt:113:5
-put-element-requires : tie.Need-put-element-requires
-put-element-requires c κs = search needs
-
 -- src/lib.rt:114:9
 with-element-requires : tie.Need-with-element-requires
 with-element-requires c κs =
@@ -62,21 +35,12 @@ with-element-requires c κs =
     (omega (arith, depth, c .before .before .before .before .before .before .before .before .before .before .before .before .before .before .before .before .before .pre .0 .shallow), c .before .before .before .before .before .before .before .before .before .before .before .before .before .before .before .before .before .pre .0 .few)
 
 -- src/lib.rt:116:13
-add-t26 : tie.Need-add-t26
-add-t26 c = search needs
-
 -- src/lib.rt:117:15
 add-t28 : tie.Need-add-t28
 add-t28 c = omega (arith, c .before .before .before .before .before .before .before .before .before .before .before .before .before .before .before .before .before .before .before .pre .0 .lines-passed, c .before .before .before .before .before .before .before .before .before .before .before .before .before .before .before .before .before .before .before .pre .0 .name-inside, c .before .before .before .before .before .before .before .before .before .before .before .before .before .before .before .before .before .before .before .pre .0 .ends)
 
 -- src/lib.rt:88:1
-same-length : tie.Need-same-length
-same-length c = search needs
-
 -- src/lib.rt:88:1
-same-length-2 : tie.Need-same-length-2
-same-length-2 c = search needs
-
 -- src/lib.rt:88:1
 returns : tie.Need-returns
 returns c =
@@ -98,19 +62,19 @@ pub put-line-spec : {M : Type 1} → statement M
 put-line-spec =
     tie.close
     (tie.spec
-    depth-field-requires
-    depth-of-requires
-    word-field-requires
-    word-number-requires
-    name-field-requires
-    cast-t19
-    cast-t20
-    add-put-element
+    (λ c κs. search needs)
+    (λ c κs. search needs)
+    (λ c κs. search needs)
+    (λ c κs. search needs)
+    (λ c κs. search needs)
+    (λ c. search needs)
+    (λ c. search needs)
+    (λ c. search needs)
     add-put-element-2
-    put-element-requires
+    (λ c κs. search needs)
     with-element-requires
-    add-t26
+    (λ c. search needs)
     add-t28
-    same-length
-    same-length-2
+    (λ c. search needs)
+    (λ c. search needs)
     returns)

@@ -16,18 +16,6 @@ start c = c .before .before .before .before .before .before .before .before
 ends-low : (c : tie.Start) → c .args .end < 18446744073709551615
 ends-low c = omega (arith, c .pre .1 .ends)
 
-sub-line : tie.Need-sub-line
-sub-line c = search needs
-
-part-line-start : tie.Need-part-line-start
-part-line-start c = search needs
-
-part-line-end : tie.Need-part-line-end
-part-line-end c = search needs
-
-add-if1 : tie.Need-add-if1
-add-if1 c = search needs
-
 returns : tie.Need-returns
 returns c =
     let pre = c .before .before .before .before .before .before .before .before .pre in
@@ -40,9 +28,6 @@ element-refusal-requires : tie.Need-element-refusal-requires
 element-refusal-requires c κs =
     let pre = start (c .before .before) .pre in
     (pre .0 .rooms .named, pre .0 .begun .shallow, c .before .field-ends .ensures)
-
-same-length : tie.Need-same-length
-same-length c = search needs
 
 returns-2 : tie.Need-returns-2
 returns-2 c =
@@ -58,9 +43,6 @@ line-masks-requires c κs =
     let lowest = c .before .element-refusal .ensures _ refl (pre .0 .tree) (element-names _ _ _ _) in
     let attributes = pre .0 .begun .attributes in
     (attributes .standing, attributes .few-values, some-attribute _ _ _ _ _ _ _ (pre .0) (pre .1) (pre .2) (counted .if1 .left) _ lowest (c .if2 .left), sym (pre .2 .count) ∙ counted .if1 .left, c .before .before .before .field-ends .ensures)
-
-same-length-2 : tie.Need-same-length-2
-same-length-2 c = search needs
 
 returns-3 : tie.Need-returns-3
 returns-3 c =
@@ -78,12 +60,6 @@ put-line-requires c κs =
     let lowest = passed .before .element-refusal .ensures _ refl (pre .0 .tree) (element-names _ _ _ _) in
     (room-there _ _ _ _ _ _ _ (pre .0) (pre .1) (pre .2) (counted .if1 .left) _ lowest (passed .if2 .left) (ends-low (start counted)), passed .before .before .before .field-ends .ensures)
 
-same-length-3 : tie.Need-same-length-3
-same-length-3 c = search needs
-
-same-length-4 : tie.Need-same-length-4
-same-length-4 c = search needs
-
 returns-4 : tie.Need-returns-4
 returns-4 c =
     let good-there = c .before .before .before .before .before .before .before .before in
@@ -100,19 +76,19 @@ pub tree-line-spec : {M : Type 1} → statement M
 tree-line-spec =
     tie.close
     (tie.spec
-    sub-line
-    part-line-start
-    part-line-end
-    add-if1
+    (λ c. search needs)
+    (λ c. search needs)
+    (λ c. search needs)
+    (λ c. search needs)
     returns
     field-ends-requires
     element-refusal-requires
-    same-length
+    (λ c. search needs)
     returns-2
     line-masks-requires
-    same-length-2
+    (λ c. search needs)
     returns-3
     put-line-requires
-    same-length-3
-    same-length-4
+    (λ c. search needs)
+    (λ c. search needs)
     returns-4)

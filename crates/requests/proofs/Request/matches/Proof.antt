@@ -17,27 +17,6 @@ Inv-loop masks at values len i₀ i = (i ≤ len) × (within (take 6 (drop at ma
 abbrev μ-loop : tie.MeasureT-loop
 μ-loop masks at values len i₀ i = len - i
 
-loop-holds : tie.Need-loop-holds Inv-loop μ-loop
-loop-holds c = search needs
-
-add-holds : tie.Need-add-holds Inv-loop μ-loop
-add-holds c = search needs
-
-mul-holds : tie.Need-mul-holds Inv-loop μ-loop
-mul-holds c = search needs
-
-shared-slice-read-holds : tie.Need-shared-slice-read-holds Inv-loop μ-loop
-shared-slice-read-holds c = search needs
-
-mul-holds-2 : tie.Need-mul-holds-2 Inv-loop μ-loop
-mul-holds-2 c = search needs
-
-array-read-holds : tie.Need-array-read-holds Inv-loop μ-loop
-array-read-holds c = search needs
-
-holds-requires : tie.Need-holds-requires Inv-loop μ-loop
-holds-requires c κs = search needs
-
 returns : tie.Need-returns Inv-loop μ-loop
 returns c =
     let start = c .before .before .before .before .before .before .before in
@@ -47,12 +26,6 @@ returns c =
     sym (turn .inv .1
     ∙ within-more (start .args .at) (start .args .self .len) (turn .i) (start .args .masks .now) (start .args .self .values) (start .pre .0) (start .pre .1) (omega arith) (c .before .before .before .loop-test .taken)
     ∙ rw (← c .before .holds .ensures, out))
-
-add-i : tie.Need-add-i Inv-loop μ-loop
-add-i c = search needs
-
-loop-less : tie.Need-loop-less Inv-loop μ-loop
-loop-less c = search needs
 
 loop-again : tie.Need-loop-again Inv-loop μ-loop
 loop-again c =
@@ -79,15 +52,15 @@ matches-spec =
     (tie.spec
     Inv-loop
     μ-loop
-    loop-holds
-    add-holds
-    mul-holds
-    shared-slice-read-holds
-    mul-holds-2
-    array-read-holds
-    holds-requires
+    (λ c. search needs)
+    (λ c. search needs)
+    (λ c. search needs)
+    (λ c. search needs)
+    (λ c. search needs)
+    (λ c. search needs)
+    (λ c κs. search needs)
     returns
-    add-i
-    loop-less
+    (λ c. search needs)
+    (λ c. search needs)
     loop-again
     returns-2)

@@ -37,32 +37,11 @@ loop-holds c =
     let six : length (start .args .t2) ≡ 6 = search needs in
     (search needs, search needs, start .pre .below, carried-none (start .args .self .len) (start .args .t2) (start .args .self .values) (omega arith))
 
-sub-i : tie.Need-sub-i Inv-loop μ-loop
-sub-i c = search needs
-
-mul-v : tie.Need-mul-v Inv-loop μ-loop
-mul-v c = search needs
-
-array-read-v : tie.Need-array-read-v Inv-loop μ-loop
-array-read-v c = search needs
-
 add-if1 : tie.Need-add-if1 Inv-loop μ-loop
 add-if1 c = omega (arith, value-small c)
 
-mul-if1 : tie.Need-mul-if1 Inv-loop μ-loop
-mul-if1 c = search needs
-
-array-read-if1 : tie.Need-array-read-if1 Inv-loop μ-loop
-array-read-if1 c = search needs
-
 add-values : tie.Need-add-values Inv-loop μ-loop
 add-values c = omega (arith, value-small (c .before))
-
-mul-values : tie.Need-mul-values Inv-loop μ-loop
-mul-values c = search needs
-
-array-write-values : tie.Need-array-write-values Inv-loop μ-loop
-array-write-values c = search needs
 
 returns : tie.Need-returns Inv-loop μ-loop
 returns c =
@@ -84,15 +63,6 @@ returns c =
           (raised len (turn .i) j counts (turn .values) (omega arith) (omega arith) (omega arith) (omega arith) (start .args .self .values) (turn .inv .3)),
       record { few = few; below = below; small = start .pre .small },
     )
-
-mul-values-2 : tie.Need-mul-values-2 Inv-loop μ-loop
-mul-values-2 c = search needs
-
-array-write-values-2 : tie.Need-array-write-values-2 Inv-loop μ-loop
-array-write-values-2 c = search needs
-
-loop-less : tie.Need-loop-less Inv-loop μ-loop
-loop-less c = search needs
 
 loop-again : tie.Need-loop-again Inv-loop μ-loop
 loop-again c =
@@ -136,18 +106,18 @@ next-spec =
     Inv-loop
     μ-loop
     loop-holds
-    sub-i
-    mul-v
-    array-read-v
+    (λ c. search needs)
+    (λ c. search needs)
+    (λ c. search needs)
     add-if1
-    mul-if1
-    array-read-if1
+    (λ c. search needs)
+    (λ c. search needs)
     add-values
-    mul-values
-    array-write-values
+    (λ c. search needs)
+    (λ c. search needs)
     returns
-    mul-values-2
-    array-write-values-2
-    loop-less
+    (λ c. search needs)
+    (λ c. search needs)
+    (λ c. search needs)
     loop-again
     returns-2)

@@ -7,25 +7,10 @@ use borrow.Author.Needs.{needs}
 use Rattle.treelines.proofs.fields.put_name.Statement.{statement}
 use Rattle.treelines.proofs.fields.put_name.Tie as tie
 
-cast-len : tie.Need-cast-len
-cast-len c = search needs
-
-sub-put-field : tie.Need-sub-put-field
-sub-put-field c = search needs
-
-part-put-field-start : tie.Need-part-put-field-start
-part-put-field-start c = search needs
-
 part-put-field-end : tie.Need-part-put-field-end
 part-put-field-end c =
     let size : length (c .before .before .before .before .before .args .e .name) ≡ 16 = search needs in
     search needs
-
-put-field-requires : tie.Need-put-field-requires
-put-field-requires c κs = search needs
-
-same-length : tie.Need-same-length
-same-length c = search needs
 
 returns : tie.Need-returns
 returns c =
@@ -37,10 +22,10 @@ pub put-name-spec : {M : Type 1} → statement M
 put-name-spec =
     tie.close
     (tie.spec
-    cast-len
-    sub-put-field
-    part-put-field-start
+    (λ c. search needs)
+    (λ c. search needs)
+    (λ c. search needs)
     part-put-field-end
-    put-field-requires
-    same-length
+    (λ c κs. search needs)
+    (λ c. search needs)
     returns)

@@ -5,28 +5,10 @@ use borrow.Author.Needs.{needs}
 use Rattle.treelines.proofs.targets.put_target.Statement.{statement}
 use Rattle.treelines.proofs.targets.put_target.Tie as tie
 
-full-mask-requires : tie.Need-full-mask-requires
-full-mask-requires c κs = search needs
-
-slice-aggregate-put-bytes : tie.Need-slice-aggregate-put-bytes
-slice-aggregate-put-bytes c = search needs
-
-put-bytes-requires : tie.Need-put-bytes-requires
-put-bytes-requires c κs = search needs
-
-same-length : tie.Need-same-length
-same-length c = search needs
-
 returns : tie.Need-returns
 returns c =
     let a = c .before .before .before .before .before .before .before .before .before in
     star (cut tab (a .args .values .now)) (a .args .count) (a .args .mask) _ (a .pre .0) (c .before .before .before .before .before .before .full-mask .ensures) (c .before .before .before .before .before .if1 .taken) (c .before .before .put-bytes .ensures)
-
-put-values-requires : tie.Need-put-values-requires
-put-values-requires c κs = search needs
-
-same-length-2 : tie.Need-same-length-2
-same-length-2 c = search needs
 
 returns-2 : tie.Need-returns-2
 returns-2 c =
@@ -37,11 +19,11 @@ pub put-target-spec : {M : Type 1} → statement M
 put-target-spec =
     tie.close
     (tie.spec
-    full-mask-requires
-    slice-aggregate-put-bytes
-    put-bytes-requires
-    same-length
+    (λ c κs. search needs)
+    (λ c. search needs)
+    (λ c κs. search needs)
+    (λ c. search needs)
     returns
-    put-values-requires
-    same-length-2
+    (λ c κs. search needs)
+    (λ c. search needs)
     returns-2)

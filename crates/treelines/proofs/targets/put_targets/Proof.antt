@@ -75,9 +75,6 @@ put-target-requires c κs =
 add-i : tie.Need-add-i Inv-loop μ-loop
 add-i c = let small = below-six (c .before .before .before .before .before .before .before .before .before) in search needs
 
-loop-less : tie.Need-loop-less Inv-loop μ-loop
-loop-less c = search needs
-
 loop-again : tie.Need-loop-again Inv-loop μ-loop
 loop-again c =
     let args = c .before .before .before .before .before .before .before .before .before .before .before .before .before .before .before .before .before .args in
@@ -116,7 +113,7 @@ put-targets-spec =
     array-read-put-target-2
     put-target-requires
     add-i
-    loop-less
+    (λ c. search needs)
     loop-again
     same-length
     returns)

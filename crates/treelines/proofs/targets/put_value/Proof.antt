@@ -5,26 +5,11 @@ use borrow.Author.Needs.{needs}
 use Rattle.treelines.proofs.targets.put_value.Statement.{statement}
 use Rattle.treelines.proofs.targets.put_value.Tie as tie
 
-put-requires : tie.Need-put-requires
-put-requires c κs = search needs
-
-put-bytes-requires : tie.Need-put-bytes-requires
-put-bytes-requires c κs = search needs
-
-same-length : tie.Need-same-length
-same-length c = search needs
-
 returns : tie.Need-returns
 returns c =
     let comma = c .before .before .before .before .before .before .put .ensures in
     let name = c .before .before .put-bytes .ensures in
     (rw (c .before .before .before .before .before .before .before .before .if1 .taken) (then comma name), omega (arith, comma .moved, name .moved))
-
-put-bytes-requires-2 : tie.Need-put-bytes-requires-2
-put-bytes-requires-2 c κs = search needs
-
-same-length-2 : tie.Need-same-length-2
-same-length-2 c = search needs
 
 returns-2 : tie.Need-returns-2
 returns-2 c = (rw (c .before .before .before .before .if1 .left) (c .before .before .put-bytes2 .ensures), search needs)
@@ -33,10 +18,10 @@ pub put-value-spec : {M : Type 1} → statement M
 put-value-spec =
     tie.close
     (tie.spec
-    put-requires
-    put-bytes-requires
-    same-length
+    (λ c κs. search needs)
+    (λ c κs. search needs)
+    (λ c. search needs)
     returns
-    put-bytes-requires-2
-    same-length-2
+    (λ c κs. search needs)
+    (λ c. search needs)
     returns-2)

@@ -21,50 +21,20 @@ loop-holds c =
 end-of-requires : tie.Need-end-of-requires Inv-loop μ-loop
 end-of-requires c κs = c .loop .inv .here
 
-sub-put-value : tie.Need-sub-put-value Inv-loop μ-loop
-sub-put-value c = search needs
-
-part-put-value-start : tie.Need-part-put-value-start Inv-loop μ-loop
-part-put-value-start c = search needs
-
-part-put-value-end : tie.Need-part-put-value-end Inv-loop μ-loop
-part-put-value-end c = search needs
-
-put-value-requires : tie.Need-put-value-requires Inv-loop μ-loop
-put-value-requires c κs = search needs
-
-same-length : tie.Need-same-length Inv-loop μ-loop
-same-length c = search needs
-
 returns : tie.Need-returns Inv-loop μ-loop
 returns c =
     let end = c .before .before .before .before .before .before .before .end-of .ensures in
     walk-names-last (c .before .before .before .before .before .before .before .before .loop .inv) (end .0) (end .1 .1) (c .before .before .before .before .before .before .if1 .taken) (c .before .before .before .put-value .ensures) (c .before .before .before .before .before .before .before .before .before .before .before .pre .0) (c .if2 .taken)
-
-add-start : tie.Need-add-start Inv-loop μ-loop
-add-start c = search needs
-
-loop-less : tie.Need-loop-less Inv-loop μ-loop
-loop-less c = search needs
 
 loop-again : tie.Need-loop-again Inv-loop μ-loop
 loop-again c =
     let end = c .before .before .before .before .before .before .before .end-of .ensures in
     walk-names (c .before .before .before .before .before .before .before .before .loop .inv) (end .0) (end .1 .1) (c .before .before .before .before .before .before .if1 .taken) (c .before .before .before .put-value .ensures) (omega arith)
 
-same-length-2 : tie.Need-same-length-2 Inv-loop μ-loop
-same-length-2 c = search needs
-
 returns-2 : tie.Need-returns-2 Inv-loop μ-loop
 returns-2 c =
     let end = c .before .before .end-of .ensures in
     walk-passes-last (c .before .before .before .loop .inv) (end .0) (end .1 .1) (c .before .if1 .left) (c .before .before .before .before .before .before .pre .0) (c .if3 .taken)
-
-add-start-2 : tie.Need-add-start-2 Inv-loop μ-loop
-add-start-2 c = search needs
-
-loop-less-2 : tie.Need-loop-less-2 Inv-loop μ-loop
-loop-less-2 c = search needs
 
 loop-again-2 : tie.Need-loop-again-2 Inv-loop μ-loop
 loop-again-2 c =
@@ -79,17 +49,17 @@ put-values-spec =
     μ-loop
     loop-holds
     end-of-requires
-    sub-put-value
-    part-put-value-start
-    part-put-value-end
-    put-value-requires
-    same-length
+    (λ c. search needs)
+    (λ c. search needs)
+    (λ c. search needs)
+    (λ c κs. search needs)
+    (λ c. search needs)
     returns
-    add-start
-    loop-less
+    (λ c. search needs)
+    (λ c. search needs)
     loop-again
-    same-length-2
+    (λ c. search needs)
     returns-2
-    add-start-2
-    loop-less-2
+    (λ c. search needs)
+    (λ c. search needs)
     loop-again-2)

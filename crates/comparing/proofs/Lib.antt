@@ -1,0 +1,3 @@
+-- Laws of equal texts.
+pub mod Lengths
+pub mod Equal

@@ -1,0 +1,2 @@
+-- What the contracts of conflicts cite.
+pub mod Pairs

@@ -1,0 +1,59 @@
+-- Conflicts of pairs: by the elements' parents and rows, the request that shows each.
+use Prim.Native.Nat.{ℕ, _+_, _*_, _≤_, _<_}
+use mathlib.Core.Path.{_≡_}
+use mathlib.Core.Bool.{Bool, true, false, _&&_, _||_}
+use mathlib.Core.List.{List}
+use lib.ListN.{length, getD}
+use Rattle.meaning.specs.declared.Decision.{Decision}
+use Rattle.meaning.specs.Text.{firstFrom}
+use Rattle.meaning.specs.Deciding.{requestOf, bit}
+use Rattle.decisions.specs.Table.{placeOr}
+use Rattle.rows.specs.Words.{appliesAt, givesAt}
+use Rattle.rows.specs.Rows.{bitOf}
+
+-- bit r is set, and none below it
+pub record Lowest (word r : ℕ) : Type 0 where
+  pub small : r < 64
+  pub set : bit word r ≡ true
+  pub none-below : (v : ℕ) → v < r → bit word v ≡ false
+
+-- on request m element i applies, and of j and k one permits and the other denies: by a table, and by rows
+unfoldable pub showsAt : (t struck : List ℕ) (n : ℕ) (counts : List ℕ) → (i j k m : ℕ) → Bool
+showsAt t struck n counts i j k m =
+    let q = requestOf counts m in
+    let permits = givesAt Decision.Permit t struck n q in
+    let denies = givesAt Decision.Deny t struck n q in
+    appliesAt t q i && ((permits j && denies k) || (denies j && permits k))
+
+unfoldable pub shownBy : (applied permits denies : List ℕ) → (i j k m : ℕ) → Bool
+shownBy applied permits denies i j k m = bitOf applied i m && ((bitOf permits j m && bitOf denies k m) || (bitOf denies j m && bitOf permits k m))
+
+-- A policy's parents (n where there is none), and whether i, j and k show a conflict on request m
+module _ (parents : List ℕ) (shows : ℕ → ℕ → ℕ → ℕ → Bool) (n space : ℕ) where
+  -- the first request that shows the conflict of j and k under j's parent, or the number of requests
+  unfoldable pub shownFor : ℕ → ℕ → ℕ
+  shownFor j k = placeOr space (firstFrom (shows (getD parents j 0) j k) 0 space)
+
+  -- that request stands at 64 j + k if k is a later child of j's parent: k, and each up to n
+  abbrev pub PairIs : List ℕ → ℕ → ℕ → Type 0
+  PairIs pairs j k = j < k → k < n → getD parents j 0 ≡ getD parents k 0 → getD parents j 0 < n → getD pairs (64 * j + k) 0 ≡ shownFor j k
+
+  abbrev pub PairsOf : List ℕ → ℕ → Type 0
+  PairsOf pairs j = (k : ℕ) → PairIs pairs j k
+
+  abbrev pub Pairs : List ℕ → Type 0
+  Pairs pairs = (j : ℕ) → PairsOf pairs j
+
+-- rows of 64 words for 64 elements, and at most 4,096 requests
+pub record Laid (applied permits denies : List ℕ) (space : ℕ) : Type 0 where
+  pub small : space ≤ 4096
+  pub applied-room : 4096 ≤ length applied
+  pub permits-room : 4096 ≤ length permits
+  pub denies-room : 4096 ≤ length denies
+
+-- parents of at most 64 elements, their rows, and room for 64 times 64 pairs
+pub record Pairing (parents applied permits denies : List ℕ) (n space : ℕ) (pairs : List ℕ) : Type 0 where
+  pub few : n ≤ 64
+  pub parents-room : n ≤ length parents
+  pub rows : Laid applied permits denies space
+  pub pairs-room : 4096 ≤ length pairs

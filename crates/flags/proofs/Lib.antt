@@ -1,7 +1,0 @@
--- The laws that the functions' proofs cite.
-pub mod Laying
-pub mod Searching
-pub mod Blocks
-pub mod Trying
-pub mod Strikes
-pub mod Enough

@@ -1,5 +1,0 @@
--- What the contracts of flags cite.
-pub mod Decided
-pub mod Ready
-pub mod Trims
-pub mod Changes

@@ -1,0 +1,4 @@
+-- Laws of names in fields.
+pub mod Bytes
+pub mod Fields
+pub mod Ends

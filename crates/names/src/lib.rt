@@ -1,0 +1,134 @@
+// Names: what is one, which are equal, and where one stands among the fields of a line.
+ghost use mathlib.Core.Path.{_≡_};
+ghost use mathlib.Core.Bool.{true, false, not};
+ghost use Prim.Native.Nat.{ℕ, _-_, _≤_, _<_};
+ghost use lib.ListN.{length, take, drop};
+ghost use Rattle.meaning.specs.Text.{all, sameName, amongNames, repeated, cut, tab, nameByte, isName};
+ghost use Rattle.meaning.specs.Deciding.{valueOf};
+ghost use Rattle.names.specs.Places.{foundOf};
+
+// Whether two names are equal. Nothing else compares names.
+pub fn same_name(a: &[u8], b: &[u8]) -> bool
+    ensures { λ r. ⌜ r ≡ sameName (now (a .entry)) (now (b .entry)) ⌝ }
+{
+    comparing::same(a, b)
+}
+
+// Whether the texts that end at this place end otherwise than the name: a quick test that tells most names apart.
+pub fn ends_otherwise(s: &[u8], end: usize, name: &[u8]) -> bool
+    requires { ⌜ (1 ≤ end) × (end ≤ length (now s)) ⌝ }
+    ensures { λ r. ⌜ (r ≡ true → (start : ℕ) → start ≤ end → sameName (now (name .entry)) (take (end - start) (drop start (now (s .entry)))) ≡ false) ⌝ }
+{
+    if name.len() == 0 {
+        return false;
+    }
+    let last = name.len() - 1;
+    if s[end - 1] == name[last] {
+        return false;
+    }
+    true
+}
+
+fn name_byte(b: u8) -> bool
+    ensures { λ r. ⌜ r ≡ nameByte b ⌝ }
+{
+    if 97 <= b {
+        return b <= 122;
+    }
+    if 48 <= b {
+        return b <= 57;
+    }
+    b == 45
+}
+
+// Whether a text is a name: its length and first byte first, then every byte.
+pub fn is_name(s: &[u8]) -> bool
+    ensures { λ r. ⌜ r ≡ isName (now (s .entry)) ⌝ }
+{
+    if s.len() < 1 {
+        return false;
+    }
+    if 16 < s.len() {
+        return false;
+    }
+    if s[0] == b'-' {
+        return false;
+    }
+    let mut i = 0;
+    while i < s.len() {
+        if !name_byte(s[i]) {
+            return false;
+        }
+        i += 1;
+    }
+    true
+}
+
+// Whether every field is a name.
+pub fn all_names(fields: &[u8]) -> bool
+    ensures { λ r. ⌜ r ≡ all isName (cut tab (now (fields .entry))) ⌝ }
+{
+    let mut at = 0;
+    loop {
+        let e = text::end_of(fields, at, b'\t');
+        if !is_name(&fields[at..e]) {
+            return false;
+        }
+        if e == fields.len() {
+            return true;
+        }
+        at = e + 1;
+    }
+}
+
+pub enum Found {
+    At(usize),
+    Nothing,
+}
+
+// The place, from 0, of the first field that has this name.
+pub fn find(fields: &[u8], name: &[u8]) -> Found
+    ensures { λ r. ⌜ r ≡ foundOf (valueOf 0 (now (name .entry)) (cut tab (now (fields .entry)))) ⌝ }
+    ensures within { λ r. ⌜ ((v : ℕ) → r ≡ Found.At v → v < length (cut tab (now (fields .entry)))) ⌝ }
+{
+    let mut at = 0;
+    let mut n = 0;
+    loop {
+        let e = text::end_of(fields, at, b'\t');
+        if same_name(name, &fields[at..e]) {
+            return Found::At(n);
+        }
+        if e == fields.len() {
+            return Found::Nothing;
+        }
+        at = e + 1;
+        n += 1;
+    }
+}
+
+fn has(fields: &[u8], name: &[u8]) -> bool
+    ensures { λ r. ⌜ r ≡ amongNames (now (name .entry)) (cut tab (now (fields .entry))) ⌝ }
+{
+    match find(fields, name) {
+        Found::At(_) => true,
+        Found::Nothing => false,
+    }
+}
+
+// Whether no field stands twice.
+pub fn all_distinct(fields: &[u8]) -> bool
+    ensures { λ r. ⌜ r ≡ not (repeated (cut tab (now (fields .entry)))) ⌝ }
+{
+    let mut at = 0;
+    loop {
+        let e = text::end_of(fields, at, b'\t');
+        if e == fields.len() {
+            return true;
+        }
+        let next = e + 1;
+        if has(&fields[next..], &fields[at..e]) {
+            return false;
+        }
+        at = next;
+    }
+}

@@ -1,0 +1,22 @@
+-- What each request gets from the elements of a table that flags leave, by definition and by words that tell it.
+use Prim.Native.Nat.{ℕ, _+_, _/_, _%_}
+use mathlib.Core.Bool.{Bool, not}
+use mathlib.Core.List.{List}
+use lib.ListN.{getD}
+use Rattle.meaning.specs.Deciding.{Outcome, bit, requestOf, matches, firstDecision, sameOutcome}
+use Rattle.decisions.specs.Table.{left}
+use Rattle.blocks.specs.Bits.{decisionBy}
+
+-- what two words tell of request m, those permitted and 64 places on those denied
+abbrev pub toldAt : List ℕ → ℕ → Outcome
+toldAt told m = decisionBy (bit (getD told (m / 64) 0) (m % 64)) (bit (getD told (64 + m / 64) 0) (m % 64))
+
+-- A policy: its table, the number of its elements, and the value count of each attribute
+module _ (t : List ℕ) (n : ℕ) (counts : List ℕ) where
+  -- what request m gets from the elements that are left
+  unfoldable pub decidedAt : List ℕ → ℕ → Outcome
+  decidedAt struck m = firstDecision (matches (requestOf counts m)) (left t struck 0 n)
+
+  -- request m gets another decision than the one told
+  unfoldable pub differsAt : List ℕ → List ℕ → ℕ → Bool
+  differsAt told struck m = not (sameOutcome (toldAt told m) (decidedAt struck m))

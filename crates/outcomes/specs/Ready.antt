@@ -1,0 +1,39 @@
+-- What the functions ask of the table, the flags and the decisions that are lent.
+use Prim.Native.Nat.{ℕ, _*_, _≤_, _<_}
+use mathlib.Core.Path.{_≡_}
+use mathlib.Core.List.{List}
+use lib.ListN.{length, take, getD}
+use Rattle.meaning.specs.Model.{product}
+use Rattle.decisions.specs.Table.{Leaves, RulesStruck}
+use Rattle.matching.specs.Hits.{Hits}
+use Rattle.outcomes.specs.declared.Shape.{Shape}
+use Rattle.outcomes.specs.Decided.{toldAt, decidedAt}
+
+-- the value count of each attribute
+abbrev pub countsOf : Shape → List ℕ
+countsOf s = take (s .len) (s .counts)
+
+-- a table of 1 to 64 elements whose first is no rule and whose rules have no children, a flag for each, set for rules alone, and at most 4,096 requests
+pub record Ready (t struck : List ℕ) (s : Shape) : Type 0 where
+  pub rows : 8 * s .n ≤ length t
+  pub flags : s .n ≤ length struck
+  pub some : 1 ≤ s .n
+  pub few : s .n ≤ 64
+  pub root : 2 ≤ getD t 0 0
+  pub stays : getD struck 0 0 ≡ 0
+  pub leaves : Leaves t (s .n)
+  pub rules : RulesStruck t struck (s .n)
+  pub attributes : s .len ≤ 6
+  pub all : product (countsOf s) ≡ s .space
+  pub positive : 0 < s .space
+  pub small : s .space ≤ 4096
+
+-- the words that tell which requests match each element's own target
+pub record Matched (t hits : List ℕ) (s : Shape) : Type 0 where
+  pub room : 64 * s .n ≤ length hits
+  pub hits-are : Hits t (s .n) (countsOf s) hits
+
+-- the words that tell what each request gets under these flags
+pub record Holds (t struck told : List ℕ) (s : Shape) : Type 0 where
+  pub enough : 128 ≤ length told
+  pub tells : (m : ℕ) → m < s .space → toldAt told m ≡ decidedAt t (s .n) (countsOf s) struck m

@@ -1,0 +1,106 @@
+// What each request gets, laid down by words of 64 requests, and where it is another than before.
+use blocks::Effects;
+ghost use mathlib.Core.Path.{_≡_};
+ghost use mathlib.Core.List.{_++_, map};
+ghost use Prim.Native.Nat.{_*_, _≤_, _<_};
+ghost use lib.ListN.{length, drop};
+ghost use Rattle.meaning.specs.Text.{counting};
+ghost use Rattle.meaning.specs.Deciding.{decisionNumber};
+ghost use Rattle.matching.specs.Hits.{Matchable};
+ghost use Rattle.outcomes.specs.Decided.{toldAt, differsAt};
+ghost use Rattle.outcomes.specs.Ready.{countsOf, Ready, Matched, Holds};
+ghost use Rattle.outcomes.specs.Changes.{Other, InBlock};
+
+// A policy's shape: `n` elements, the value counts of `len` attributes, and their product, the number of requests.
+pub struct Shape {
+    pub n: usize,
+    pub counts: [usize; 6],
+    pub len: usize,
+    pub space: usize,
+}
+
+// Lays down which requests match each element's own target.
+pub fn match_elements(table: &[u16], shape: Shape, hits: &mut [u64])
+    requires { ⌜ Matchable (now table) (shape .n) (shape .counts) (shape .len) (shape .space) (now hits) ⌝ }
+    ensures { λ _. ⌜ Matched (now (table .entry)) (now (hits .exit)) shape ⌝ }
+{
+    let counts = shape.counts;
+    matching::match_all(table, shape.n, counts, shape.len, shape.space, hits);
+}
+
+// Lays down what each request gets, a block of 64 at a time: the words of those permitted, and 64 places on of those denied.
+pub fn decide_all(table: &[u16], struck: &[u8], hits: &[u64], shape: Shape, told: &mut [u64])
+    requires { ⌜ Ready (now table) (now struck) shape × Matched (now table) (now hits) shape × (128 ≤ length (now told)) ⌝ }
+    ensures { λ _. ⌜ Holds (now (table .entry)) (now (struck .entry)) (now (told .exit)) shape ⌝ }
+{
+    let space = shape.space;
+    let mut block = 0;
+    while 64 * block < space {
+        let reply = blocks::reply(table, struck, hits, shape.n, block, 0);
+        let given = reply.given;
+        told[block] = given.permits;
+        told[64 + block] = given.denies;
+        block += 1;
+    }
+}
+
+// Lays down the number of what each request gets, by the words that tell it. What lies behind them stays.
+pub fn number_all(told: &[u64], space: usize, decided: &mut [u8])
+    requires { ⌜ (128 ≤ length (now told)) × (space ≤ 4096) × (space ≤ length (now decided)) ⌝ }
+    ensures { λ _. ⌜ now (decided .exit) ≡ map (λ m. decisionNumber (toldAt (now (told .entry)) m)) (counting 0 space) ++ drop space (now (decided .entry)) ⌝ }
+{
+    let mut m = 0;
+    while m < space {
+        let given = Effects {
+            permits: told[m / 64],
+            denies: told[64 + m / 64],
+        };
+        decided[m] = blocks::number(given, m % 64) as u8;
+        m += 1;
+    }
+}
+
+// The first request from `from` on, of 64 at most, whose bits in the two tell another decision, or the number of requests.
+fn first_other(given: Effects, before: Effects, from: usize, space: usize) -> usize
+    requires { ⌜ from < space × (space ≤ 4096) ⌝ }
+    ensures { λ r. ⌜ Other given before from space r ⌝ }
+{
+    let mut v = 0;
+    while v < 64 {
+        if space <= from + v {
+            return space;
+        }
+        if blocks::number(given, v) != blocks::number(before, v) {
+            return from + v;
+        }
+        v += 1;
+    }
+    space
+}
+
+// The first request of the block that gets another decision than the one laid down, or the number of requests.
+pub fn change_in(
+    table: &[u16],
+    struck: &[u8],
+    hits: &[u64],
+    shape: Shape,
+    told: &[u64],
+    block: usize,
+) -> usize
+    requires { ⌜ Ready (now table) (now struck) shape × Matched (now table) (now hits) shape × (128 ≤ length (now told)) × (64 * block < shape .space) ⌝ }
+    ensures { λ r. ⌜ InBlock (differsAt (now (table .entry)) (shape .n) (countsOf shape) (now (told .entry)) (now (struck .entry))) (shape .space) block r ⌝ }
+{
+    let space = shape.space;
+    let reply = blocks::reply(table, struck, hits, shape.n, block, 0);
+    let given = reply.given;
+    let before = Effects {
+        permits: told[block],
+        denies: told[64 + block],
+    };
+    if given.permits == before.permits {
+        if given.denies == before.denies {
+            return space;
+        }
+    }
+    first_other(given, before, 64 * block, space)
+}

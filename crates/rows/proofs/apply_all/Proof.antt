@@ -1,0 +1,52 @@
+-- `apply_all`: the rows of the first i elements. Assumes nothing.
+use Prim.Native.Nat.{_-_, _*_, _≤_}
+use mathlib.Core.Path.{refl}
+use native.Mathlib.Omega.{arith}
+use Rattle.rows.proofs.Rows.{applying, Told, told-none, told-row, applied-all}
+use borrow.Author.Needs.{needs}
+use Rattle.rows.proofs.apply_all.Statement.{statement}
+use Rattle.rows.proofs.apply_all.Tie as tie
+
+abbrev Inv-loop : tie.InvT-loop
+Inv-loop table hits applied₀ n blocks i₀ applied i = (i ≤ n) × (blocks ≤ 64) × Told (applying table) table hits n blocks applied₀ applied (64 * i)
+
+abbrev μ-loop : tie.MeasureT-loop
+μ-loop table hits applied₀ n blocks i₀ applied i = n - i
+
+loop-holds : tie.Need-loop-holds Inv-loop μ-loop
+loop-holds c = (search needs, omega (arith, c .before .before .before .before .pre .0 .small), told-none _ _ _ _ _ _)
+
+row-of-requires : tie.Need-row-of-requires Inv-loop μ-loop
+row-of-requires c κs = let start = c .before .before .before .before .before .before in let turn = c .before .loop in (record { rows = start .pre .0 .rows; few = start .pre .0 .few; words = omega (arith, start .pre .0 .few, start .pre .0 .room); most = turn .inv .1 }, search needs)
+
+put-requires : tie.Need-put-requires Inv-loop μ-loop
+put-requires c κs = let start = c .before .before .before .before .before .before .before .before .before in let turn = c .before .before .before .before .loop in (turn .inv .1, omega (arith, start .pre .0 .few, turn .inv .2 .size))
+
+loop-again : tie.Need-loop-again Inv-loop μ-loop
+loop-again c =
+    let turn = c .before .before .before .before .before .before .before .loop in
+    let put = c .before .before .put in
+    (search needs, turn .inv .1, told-row _ _ _ _ _ (turn .inv .2) (turn .inv .1) _ (put .last .1 .1 .1 .0) refl (put .kept .1 .1 .1 .0) (c .before .before .before .before .before .row-of .ensures) (put .ensures))
+
+returns : tie.Need-returns Inv-loop μ-loop
+returns c =
+    let start = c .before .before .before .before .before .before in
+    let turn = c .before .loop in
+    applied-all _ _ _ (start .pre .0) (omega arith) (turn .inv .2)
+
+pub apply-all-spec : {M : Type 1} → statement M
+apply-all-spec =
+    tie.close
+    (tie.spec
+    Inv-loop
+    μ-loop
+    (λ c. search needs)
+    loop-holds
+    row-of-requires
+    (λ c. search needs)
+    put-requires
+    (λ c. search needs)
+    (λ c. search needs)
+    loop-again
+    (λ c. search needs)
+    returns)

@@ -1,0 +1,3 @@
+-- What the contracts of rows cite.
+pub mod Words
+pub mod Rows

@@ -1,0 +1,30 @@
+-- Words of bits: bit i says whether element i passes a test. A word for each request says which elements apply to it.
+use Prim.Native.Nat.{ℕ, _+_, _*_}
+use mathlib.Core.Bool.{Bool, cond}
+use mathlib.Core.List.{List, [], _∷_, map}
+use Rattle.meaning.specs.declared.Decision.{Decision}
+use Rattle.meaning.specs.Text.{counting}
+use Rattle.meaning.specs.Deciding.{requestOf, matches, applies, is}
+use Rattle.decisions.specs.Table.{elementAt, before}
+use Rattle.decisions.specs.Replies.{replyAt}
+
+-- the word of some tests, the first one lowest
+abbrev pub marks : List Bool → ℕ
+marks [] = 0
+marks (b ∷ bs) = cond b 1 0 + 2 * marks bs
+
+-- the word of one test of k elements from i on
+unfoldable pub wordFrom : (ℕ → Bool) → ℕ → ℕ → ℕ
+wordFrom test i k = marks (map test (counting i k))
+
+-- element i of a table applies to a request
+unfoldable pub appliesAt : List ℕ → List ℕ → ℕ → Bool
+appliesAt t q i = applies (matches q) (before t i) (elementAt t i)
+
+-- element i, of n that flags leave, gives the decision
+unfoldable pub givesAt : Decision → List ℕ → List ℕ → ℕ → List ℕ → ℕ → Bool
+givesAt d t struck n q i = is d (replyAt (matches q) t struck n i .decision)
+
+-- the word of request m: which elements apply to it
+abbrev pub applyingAt : List ℕ → ℕ → List ℕ → ℕ → ℕ
+applyingAt t n counts m = wordFrom (appliesAt t (requestOf counts m)) 0 n

@@ -1,0 +1,67 @@
+-- The elements left of a policy, and those left of the table that it was read into.
+use mathlib.Core.Path.{_≡_, refl, sym, ap, _∙_}
+use Prim.Native.Nat.{ℕ, zero, suc, _+_, _-_, _<_}
+use native.Mathlib.Omega.{arith}
+use mathlib.Core.Logic.{_≢_}
+use mathlib.Core.List.{List, [], _∷_, _++_, map, reverse, reverse-cons, map-append}
+use lib.Dec.{eqb}
+use lib.ListN.{length, getD, length-map, length-reverse, replicate, List·getD-append}
+use lib.Seq.{take-append-seam, getD-at}
+use borrow.Author.Tests.{eqb-true, eqb-false}
+use Rattle.meaning.specs.declared.Element.{Element}
+use Rattle.meaning.specs.Text.{Bytes}
+use Rattle.meaning.specs.Model.{nameOf, Policy}
+use Rattle.meaning.specs.Deciding.{matches, firstDecision, decide}
+use Rattle.meaning.specs.Report.{nameIn}
+use Rattle.laws.proofs.Bools.{Test, passed, failed, test}
+use Rattle.decisions.specs.Table.{left}
+use Rattle.layout.specs.Places.{nameIn as nameInFile, elementIn, elementsTo}
+use Rattle.layout.proofs.Laws.{elements-length, bare, decision-bare, map-reverse, elements-bare, all-left}
+use Rattle.trimmed_text.specs.Flags.{leftFrom, leftPolicy}
+use Rattle.trimmed_text.proofs.Left.{left-map}
+
+-- flags leave of a table what they leave of its elements
+left-again : (table struck : List ℕ) (i n : ℕ) → left table struck i n ≡ leftFrom struck i (left table [] i n)
+unfolding left leftFrom
+left-again table struck i zero = refl
+left-again table struck i (suc n) = rw (left-again table struck (i + 1) n)
+
+-- elements that were read, by their places
+module _ (f : Bytes) (table places : List ℕ) where
+  elements-at : {A : Type 0} (F : Element → A) (d : A) (n i : ℕ) → i < n → getD (map F (reverse (elementsTo f table places n))) i d ≡ F (elementIn f table places i)
+  unfolding elementsTo
+  elements-at F d zero i l = absurd (omega arith)
+  elements-at {A} F d (suc n) i l =
+      ap (λ xs. getD xs i d) (ap (map F) (reverse-cons (elementIn f table places n) (elementsTo f table places n)) ∙ map-append F before (elementIn f table places n ∷ []))
+      ∙ go (test (eqb i n)) (elements-at F d n i)
+    where
+      before : List Element
+      before = reverse (elementsTo f table places n)
+
+      size : length (map F before) ≡ n
+      size = length-map before F ∙ length-reverse (elementsTo f table places n) ∙ elements-length f table places n
+
+      go : Test (eqb i n) → (i < n → getD (map F before) i d ≡ F (elementIn f table places i)) → getD (map F before ++ (F (elementIn f table places n) ∷ [])) i d ≡ F (elementIn f table places i)
+      go (passed e) earlier = rw (eqb-true i n e) (getD-at (map F before) (F (elementIn f table places n)) [] d n size)
+      go (failed e) earlier =
+          let other : i ≢ n = eqb-false i n e in
+          List·getD-append (map F before) (F (elementIn f table places n) ∷ []) d i (omega (arith, size)) ∙ earlier (omega arith)
+
+module _ (f : Bytes) (table places : List ℕ) (n : ℕ) (p : Policy) (is : p .elements ≡ reverse (elementsTo f table places n)) where
+  -- Where nothing is struck, all are left
+  pub whole-left : (struck : List ℕ) → ((k : ℕ) → k < n → getD struck k 0 ≡ 0) → left table struck 0 n ≡ map bare (p .elements)
+  whole-left struck live = all-left table struck n live ∙ ap reverse (sym (elements-bare f table places n)) ∙ sym (map-reverse bare (elementsTo f table places n)) ∙ ap (map bare) (sym is)
+
+  -- The decision on what is left of the table is that of the policy left
+  pub decided-left : (struck q : List ℕ) → firstDecision (matches q) (left table struck 0 n) ≡ decide (leftPolicy p struck) q
+  decided-left struck q =
+      ap (firstDecision (matches q)) (left-again table struck 0 n ∙ ap (leftFrom struck 0) (whole-left [] (λ k l. refl)) ∙ sym (left-map bare struck 0 (p .elements)))
+      ∙ decision-bare q (leftFrom struck 0 (p .elements))
+
+  -- What an element of the policy has is what stands at its place
+  pub element-at : {A : Type 0} (F : Element → A) (d : A) (i : ℕ) → i < n → getD (map F (p .elements)) i d ≡ F (elementIn f table places i)
+  element-at F d i l = ap (λ es. getD (map F es) i d) is ∙ elements-at f table places F d n i l
+
+  pub name-at : (i : ℕ) → i < n → nameIn (p .elements) i ≡ nameInFile f places i
+  unfolding elementIn
+  name-at i l = element-at nameOf [] i l ∙ take-append-seam (nameInFile f places i) (replicate (16 - length (nameInFile f places i)) 0)

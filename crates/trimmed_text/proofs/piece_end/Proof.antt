@@ -1,0 +1,40 @@
+-- `piece_end` meets its contract.
+use borrow.Author.Needs.{needs}
+use Rattle.trimmed_text.proofs.Copying.{piece-struck, piece-inner, piece-last}
+use Rattle.trimmed_text.proofs.piece_end.Statement.{statement}
+use Rattle.trimmed_text.proofs.piece_end.Tie as tie
+
+returns : tie.Need-returns
+returns c =
+    let s = c .before .before .before in
+    let a = s .args in
+    piece-struck (a .file .now) (a .places .now) (a .struck .now) (a .n) (s .pre .0) (a .i) (s .pre .1) (c .before .if1 .taken)
+
+returns-2 : tie.Need-returns-2
+returns-2 c =
+    let s = c .before .before .before .before in
+    let a = s .args in
+    piece-inner (a .file .now) (a .places .now) (a .struck .now) (a .n) (s .pre .0) (a .i) (s .pre .1) (c .before .before .if1 .left) (c .before .if2 .taken)
+
+returns-3 : tie.Need-returns-3
+returns-3 c =
+    let s = c .before .before .before in
+    let a = s .args in
+    piece-last (a .file .now) (a .places .now) (a .struck .now) (a .n) (s .pre .0) (a .i) (s .pre .1) (c .before .if1 .left) (c .if2 .left)
+
+pub piece-end-spec : {M : Type 1} → statement M
+piece-end-spec =
+    tie.close
+    (tie.spec
+    (λ c. search needs)
+    (λ c. search needs)
+    (λ c. search needs)
+    (λ c. search needs)
+    returns
+    (λ c. search needs)
+    (λ c. search needs)
+    (λ c. search needs)
+    (λ c. search needs)
+    (λ c. search needs)
+    returns-2
+    returns-3)

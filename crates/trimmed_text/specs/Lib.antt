@@ -1,0 +1,3 @@
+-- What the contracts of trimming cite.
+pub mod Flags
+pub mod Copied

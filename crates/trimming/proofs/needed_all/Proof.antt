@@ -1,0 +1,61 @@
+-- `needed_all`: the requests shown, laid down one after the other under flags that stay. Assumes nothing.
+use Prim.Native.Nat.{_-_, _≤_}
+use mathlib.Core.Path.{_≡_, refl, ap, _∙_}
+use native.Mathlib.Omega.{arith}
+use borrow.Author.Needs.{needs}
+use lib.ListN.{length}
+use Rattle.trimming.specs.Decided.{shownAt}
+use Rattle.outcomes.specs.Ready.{countsOf}
+use Rattle.outcomes.proofs.Laying.{Lays, lays-none, lays-next, lays-all}
+use Rattle.trimming.proofs.Trying.{asks}
+use Rattle.trimming.proofs.needed_all.Statement.{statement}
+use Rattle.trimming.proofs.needed_all.Tie as tie
+
+abbrev Inv-loop : tie.InvT-loop
+Inv-loop table struck₀ hits shape told shown₀ n i₀ struck shown i =
+    (i ≤ n) × (struck ≡ struck₀) × Lays (shownAt table (shape .n) (countsOf shape) struck₀) n shown₀ shown i
+
+abbrev μ-loop : tie.MeasureT-loop
+μ-loop table struck₀ hits shape told shown₀ n i₀ struck shown i = n - i
+
+loop-holds : tie.Need-loop-holds Inv-loop μ-loop
+loop-holds c = (omega arith, refl, lays-none _ _ _)
+
+shown-by-requires : tie.Need-shown-by-requires Inv-loop μ-loop
+shown-by-requires c κs =
+    let start = c .before .before .before .before .before .before .before .before in
+    let (ready, holds) = asks (c .before .before .loop .inv .1) (start .pre .0) (start .pre .2) in
+    (ready, start .pre .1, holds, omega arith)
+
+loop-again : tie.Need-loop-again Inv-loop μ-loop
+loop-again c =
+    let args = c .before .before .before .before .before .before .before .before .before .before .before .args in
+    let turn = c .before .before .before .before .before .loop in
+    let shown = c .before .before .shown-by .ensures in
+    let same = ap (λ flags. shownAt (args .table .now) (args .shape .n) (countsOf (args .shape)) flags (turn .i)) (turn .inv .1) in
+    (omega arith, shown .1 ∙ turn .inv .1, lays-next _ _ (c .before .before .before .before .loop-test .taken) (shown .0 ∙ same) (turn .inv .2))
+
+same-length : tie.Need-same-length Inv-loop μ-loop
+same-length c = ap length (c .before .loop .inv .1)
+
+returns : tie.Need-returns Inv-loop μ-loop
+returns c =
+    let turn = c .before .loop in
+    (lays-all _ (c .before .before .before .before .before .before .before .pre .3) (omega arith) (turn .inv .2), turn .inv .1)
+
+pub needed-all-spec : {M : Type 1} → statement M
+needed-all-spec =
+    tie.close
+    (tie.spec
+    Inv-loop
+    μ-loop
+    loop-holds
+    shown-by-requires
+    (λ c. search needs)
+    (λ c. search needs)
+    (λ c. search needs)
+    (λ c. search needs)
+    loop-again
+    same-length
+    (λ c. search needs)
+    returns)

@@ -1,0 +1,32 @@
+-- `needed_by`: the flag is set for the search, and set back. Assumes nothing.
+use native.Mathlib.Omega.{arith}
+use lib.ListN.{length-set}
+use Rattle.trimming.proofs.Trying.{set-back, first-change-is, rule-flag, trial}
+use borrow.Author.Needs.{needs}
+use Rattle.trimming.proofs.needed_by.Statement.{statement}
+use Rattle.trimming.proofs.needed_by.Tie as tie
+
+first-change-requires : tie.Need-first-change-requires
+first-change-requires c κs =
+    let start = c .before .before .before .before .before in
+    trial (start .args .table .now) (start .args .struck .now) (start .args .rule) (start .pre .4) (start .args .hits .now) (start .args .told .now) (start .args .shape) (start .pre .0) (start .pre .2) (start .pre .3) (start .pre .1)
+
+slice-write-struck-2 : tie.Need-slice-write-struck-2
+slice-write-struck-2 c = simp length-set (omega arith)
+
+returns : tie.Need-returns
+returns c =
+    let start = c .before .before .before .before .before .before in
+    let struck = start .args .struck .now in
+    let rule = start .args .rule in
+    (first-change-is (start .args .table .now) struck (start .args .told .now) (start .args .shape) rule (start .pre .0) (start .pre .2) _ (c .first-change .ensures), set-back struck rule 0 (rule-flag (start .args .table .now) struck rule (start .pre .4)))
+
+pub needed-by-spec : {M : Type 1} → statement M
+needed-by-spec =
+    tie.close
+    (tie.spec
+    (λ c. search needs)
+    first-change-requires
+    slice-write-struck-2
+    (λ c. search needs)
+    returns)

@@ -1,0 +1,54 @@
+-- Needless rules and trimming, over a table of elements and a flag for each: an element whose flag is not 0 is struck.
+use Prim.Native.Nat.{ℕ, zero, suc, _*_}
+use mathlib.Core.Bool.{Bool, not, cond, _&&_}
+use mathlib.Core.List.{List, [], _∷_}
+use mathlib.Core.Option.{Option, none, some}
+use lib.Dec.{eqb, ltb}
+use lib.ListN.{getD, set}
+use Rattle.meaning.specs.Text.{isNone, firstFrom, lastBelow}
+use Rattle.meaning.specs.Model.{product}
+use Rattle.meaning.specs.Deciding.{sameOutcome}
+use Rattle.decisions.specs.Table.{placeOr}
+use Rattle.outcomes.specs.Decided.{decidedAt}
+
+-- element i is a rule that is left: its flag is 0, and its word an effect
+abbrev pub ruleLeft : List ℕ → List ℕ → ℕ → Bool
+ruleLeft t struck i = eqb (getD struck i 0) 0 && ltb (getD t (8 * i) 0) 2
+
+-- the flags at the end, and the places struck in order
+pub record Struck : Type 0 where
+  pub flags : List ℕ
+  pub order : List ℕ
+
+abbrev pub struckFirst : ℕ → Struck → Struck
+struckFirst i s = record { flags = s .flags; order = i ∷ s .order }
+
+abbrev pub onward : Option ℕ → List ℕ → (ℕ → Struck) → Struck
+onward none struck next = record { flags = struck; order = [] }
+onward (some i) struck next = struckFirst i (next i)
+
+-- A policy: its table, the number of its elements, and the value count of each attribute
+module _ (t : List ℕ) (n : ℕ) (counts : List ℕ) where
+  -- request m gets another decision without element i; the first such request
+  unfoldable pub changesAt : List ℕ → ℕ → ℕ → Bool
+  changesAt struck i m = not (sameOutcome (decidedAt t n counts struck m) (decidedAt t n counts (set struck i 1) m))
+
+  unfoldable pub firstChangeAt : List ℕ → ℕ → Option ℕ
+  firstChangeAt struck i = firstFrom (changesAt struck i) 0 (product counts)
+
+  -- that request for a rule that is left; the number of requests where there is none, and for every other element
+  unfoldable pub shownAt : List ℕ → ℕ → ℕ
+  shownAt struck i = cond (ruleLeft t struck i) (placeOr (product counts) (firstChangeAt struck i)) (product counts)
+
+  -- a rule that is left and without which every request gets the same decision
+  unfoldable pub needlessAt : List ℕ → ℕ → Bool
+  needlessAt struck i = ruleLeft t struck i && isNone (firstChangeAt struck i)
+
+  -- the next rule to strike: the last needless one
+  unfoldable pub nextAt : List ℕ → Option ℕ
+  nextAt struck = lastBelow (needlessAt struck) n
+
+  -- while there is one, the next rule is struck
+  unfoldable pub trimmingAt : ℕ → List ℕ → Struck
+  trimmingAt zero struck = record { flags = struck; order = [] }
+  trimmingAt (suc fuel) struck = onward (nextAt struck) struck (λ i. trimmingAt fuel (set struck i 1))

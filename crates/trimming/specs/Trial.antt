@@ -1,0 +1,19 @@
+-- What is asked where a rule is tried.
+use Prim.Native.Nat.{ℕ, _≤_, _<_}
+use mathlib.Core.Path.{_≡_}
+use mathlib.Core.Bool.{false}
+use mathlib.Core.List.{List}
+use lib.ListN.{length}
+use Rattle.meaning.specs.Deciding.{requestOf, matches}
+use Rattle.decisions.specs.Table.{elementAt, Over}
+use Rattle.outcomes.specs.declared.Shape.{Shape}
+use Rattle.outcomes.specs.Decided.{differsAt}
+use Rattle.outcomes.specs.Ready.{countsOf, Ready, Matched}
+
+-- Element `rule` is tried: of the requests that do not match it, or an element over it, none gets another decision than the one told
+pub record Trial (t struck hits told : List ℕ) (s : Shape) (rule : ℕ) : Type 0 where
+  pub ready : Ready t struck s
+  pub matched : Matched t hits s
+  pub room : 128 ≤ length told
+  pub element : rule < s .n
+  pub elsewhere : (a m : ℕ) → Over t a rule → m < s .space → matches (requestOf (countsOf s) m) (elementAt t a) ≡ false → differsAt t (s .n) (countsOf s) told struck m ≡ false
