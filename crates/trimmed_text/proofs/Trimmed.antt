@@ -1,5 +1,5 @@
 -- Trimming on flags is the meaning's trimming on bytes.
-use mathlib.Core.Path.{_≡_, refl, sym, ap, _∙_}
+use mathlib.Core.Path.{_≡_, refl, ap, _∙_}
 use Prim.Native.Nat.{ℕ, zero, suc, _≤_}
 use native.Mathlib.Nat.{zero-add}
 use native.Mathlib.Omega.{arith}
@@ -13,10 +13,10 @@ use Rattle.meaning.specs.Reading.{read}
 use Rattle.meaning.specs.Trimming.{isRuleLine, nameAt, ruleLines, trimmed}
 use Rattle.meaning.specs.Report.{nameIn, keptLine}
 use Rattle.meaning.specs.Claims.Trimming.{Trims, none-left, last-struck}
-use Rattle.laws.proofs.Trimming.{next-none, next-last, rule-needed, trimmed-steps, steps-end, steps-settle}
-use Rattle.trimmed_text.specs.Flags.{Clear, leftFrom, leftPolicy, textLeft, firstChangeAt, keptAt, nextAt, trimmingAt, keptPlaces, keptLineAt}
+use Rattle.laws.proofs.Trimming.{next-none, next-last, trimmed-steps, steps-settle}
+use Rattle.trimmed_text.specs.Flags.{Clear, leftFrom, leftPolicy, textLeft, nextAt, trimmingAt, keptPlaces, keptLineAt}
 use Rattle.trimmed_text.proofs.Left.{left-all, left-within, left-fewer}
-use Rattle.trimmed_text.proofs.Steps.{Stands, lineAt, kept-left, kept-below, text-whole, stands-whole, rule-name, kept-line, strike-flag, stands-next, change-flag}
+use Rattle.trimmed_text.proofs.Steps.{Stands, lineAt, kept-left, kept-below, text-whole, stands-whole, rule-name, strike-flag, stands-next}
 use Rattle.trimmed_text.proofs.Next.{rule-place, next-flag, next-kept}
 use Rattle.trimmed_text.proofs.Kept.{kept-lines}
 
@@ -79,10 +79,3 @@ module _ (f : Bytes) (p : Policy) (h : read f ≡ given p) where
 
     pub kept-flags : gathered (keptLine (trimmed f .text)) (ruleLines (trimmed f .text)) ≡ gathered (keptLineAt p end) (keptPlaces p end)
     kept-flags = ap (λ t. gathered (keptLine (t .text)) (ruleLines (t .text))) trimmed-flags ∙ kept-lines f p h end trimmed-stands
-
-    pub kept-shown : (i : ℕ) → keptAt p end i ≡ true → (m : ℕ) × (firstChangeAt p end i ≡ some m)
-    kept-shown i kept =
-        let k = lineAt p end i in
-        let s = trimmed-stands in
-        let (q, m, left, e, change) = rule-needed (textLeft f p end) (leftPolicy p end) (s .accepts) k (kept-line f p h end s i kept) (steps-end (ends .steps) k) in
-        (m, sym (change-flag f p h end s i kept) ∙ e)
