@@ -77,9 +77,8 @@ fn strike(table: &[u16], struck: &mut [u8], shape: Shape)
     outcomes::match_elements(table, shape, &mut hits);
     let mut told = [0u64; 128];
     outcomes::decide_all(table, struck, &hits, shape, &mut told);
-    let mut hints = [0u16; 64];
     let mut order = [0u8; 64];
-    trimming::trim_flags(table, struck, &hits, shape, &told, &mut hints, &mut order);
+    trimming::trim_flags(table, struck, &hits, shape, &told, &mut order);
 }
 
 // The trimmed text of a policy file, in a lent buffer.

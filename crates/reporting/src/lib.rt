@@ -77,8 +77,7 @@ fn find_rules(
     ensures { λ r. ⌜ RulesFound (now (table .entry)) (shape .n) (countsOf shape) (now (order .exit)) (now (shown .exit)) r ⌝ }
 {
     let mut struck = [0u8; 64];
-    let mut hints = [0u16; 64];
-    let count = trimming::trim_flags(table, &mut struck, hits, shape, told, &mut hints, order);
+    let count = trimming::trim_flags(table, &mut struck, hits, shape, told, order);
     trimming::needed_all(table, &mut struck, hits, shape, told, shown);
     count
 }

@@ -36,7 +36,7 @@ fn over(table: &[u16], n: usize, i: usize) -> usize
 }
 
 // The first request that gets another decision than the one laid down, or the number of requests. Only requests that match the rule and the element over it can.
-pub fn first_change(
+fn first_change(
     table: &[u16],
     struck: &[u8],
     hits: &[u64],
@@ -114,7 +114,7 @@ fn alike(
 }
 
 // Whether element i is a rule without which every request gets the same decision; those with it are laid down.
-pub fn needless(
+fn needless(
     table: &[u16],
     struck: &mut [u8],
     hits: &[u64],
@@ -139,7 +139,7 @@ pub fn needless(
 }
 
 // The last needless rule, or n. A rule's hint is a request whose decision changed without it when it was tried last.
-pub fn next_rule(
+fn next_rule(
     table: &[u16],
     struck: &mut [u8],
     hits: &[u64],
@@ -164,7 +164,7 @@ pub fn next_rule(
 }
 
 // Strikes the last needless rule while there is one. The places struck are laid down in order; how many, is the result.
-pub fn trim_flags(
+fn strike_rules(
     table: &[u16],
     struck: &mut [u8],
     hits: &[u64],
@@ -188,6 +188,22 @@ pub fn trim_flags(
         count += 1;
     }
     count
+}
+
+// The same, with hints of its own.
+pub fn trim_flags(
+    table: &[u16],
+    struck: &mut [u8],
+    hits: &[u64],
+    shape: Shape,
+    told: &[u64],
+    order: &mut [u8],
+) -> usize
+    requires { ⌜ Ready (now table) (now struck) shape × Matched (now table) (now hits) shape × Holds (now table) (now struck) (now told) shape × (shape .n ≤ length (now order)) ⌝ }
+    ensures { λ r. ⌜ Trims (now (table .entry)) (now (told .entry)) shape (now (struck .entry)) (now (struck .exit)) (now (order .entry)) (now (order .exit)) r ⌝ }
+{
+    let mut hints = [0u16; 64];
+    strike_rules(table, struck, hits, shape, told, &mut hints, order)
 }
 
 // The first request whose decision changes without the rule, or the number of requests.

@@ -8,13 +8,12 @@ use Rattle.trimming.proofs.needed_all.Reads as needed-all-reads
 use Rattle.trimming.proofs.trim_flags.Reads as trim-flags-reads
 
 returns : tie.Need-returns
-returns c = rules-found _ _ _ _ _ _ _ _ _ (c .before .before .before .before .before .before .before .before .before .before .trim-flags .ensures) (c .before .before .before .needed-all .ensures .0)
+returns c = rules-found _ _ _ _ _ _ _ _ _ (c .before .before .before .before .before .before .before .before .before .trim-flags .ensures) (c .before .before .before .needed-all .ensures .0)
 
 pub find-rules-spec : {M : Type 1} → statement M
 find-rules-spec =
     tie.close
     (tie.spec
-    (λ c. search needs)
     (λ c. search needs)
     (λ c κs. search needs)
     (λ c. search needs)

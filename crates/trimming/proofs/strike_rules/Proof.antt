@@ -1,4 +1,4 @@
--- `trim_flags`: what is to come completes what striking from the start gives. Assumes nothing.
+-- `strike_rules`: what is to come completes what striking from the start gives. Assumes nothing.
 use Prim.Native.Nat.{_-_, _≤_}
 use mathlib.Core.Path.{_≡_, refl, ap, _∙_}
 use native.Mathlib.Omega.{arith}
@@ -6,8 +6,8 @@ use borrow.Author.Needs.{needs}
 use lib.ListN.{length, length-set}
 use Rattle.outcomes.specs.Ready.{countsOf, Ready, Holds}
 use Rattle.trimming.proofs.Strikes.{Next, next-found, next-none, trimming-stops, ready-next, holds-next, Strikes, strikes-none, strikes-next, strikes-end, strikes-all}
-use Rattle.trimming.proofs.trim_flags.Statement.{statement}
-use Rattle.trimming.proofs.trim_flags.Tie as tie
+use Rattle.trimming.proofs.strike_rules.Statement.{statement}
+use Rattle.trimming.proofs.strike_rules.Tie as tie
 
 abbrev Inv-loop : tie.InvT-loop
 Inv-loop table struck₀ hits shape told hints₀ order₀ n count₀ struck hints order count =
@@ -71,8 +71,8 @@ returns-2 c =
     let turn = c .before .loop in
     strikes-end (start .args .table .now) (start .args .shape) _ _ _ _ _ (turn .inv .6) _ _ refl (strikes-all (start .args .table .now) (start .args .shape) _ _ _ _ _ (turn .inv .6) (omega arith)) (turn .inv .0) (start .pre .4) (turn .inv .4) (turn .inv .5)
 
-pub trim-flags-spec : {M : Type 1} → statement M
-trim-flags-spec =
+pub strike-rules-spec : {M : Type 1} → statement M
+strike-rules-spec =
     tie.close
     (tie.spec
     Inv-loop
