@@ -190,17 +190,17 @@ void damage(struct bytes *file)
     };
     uint8_t byte = tricky_byte();
     uint32_t at = below((uint32_t)file->length);
+    const char *string = tricky();
     size_t length, field;
-    const char *string;
 
     if (file->length == 0)
         return;
     switch (below(22)) {
-    case 0: set_field(file, any_line, below(7), tricky()); break;
-    case 1: set_field(file, tree, 2, tricky()); break;
-    case 2: set_field(file, attribute, 1 + below(4), tricky()); break;
+    case 0: set_field(file, any_line, below(7), string); break;
+    case 1: set_field(file, tree, 2, string); break;
+    case 2: set_field(file, attribute, 1 + below(4), string); break;
     case 3: case 4: damage_name(file); break;
-    case 5: set_field(file, one_in(4) ? any_line : tree, 0, ONE_OF(kinds)); break;
+    case 5: set_field(file, byte < 64 ? any_line : tree, 0, ONE_OF(kinds)); break;
     case 6: case 7: set_field(file, tree, 1, ONE_OF(depths)); break;
     case 8: case 9: set_field(file, tree, 3, ONE_OF(words)); break;
     case 10: case 11: damage_target(file, below(one_in(2) ? 6 : 2)); break;
@@ -212,7 +212,6 @@ void damage(struct bytes *file)
         break;
     case 15: /* a field too many */
         field = pick_field(file, any_line, 1 + below(6), &length);
-        string = tricky();
         replace(file, field, 0, "\t", 1);
         replace(file, field, 0, string, strlen(string));
         break;

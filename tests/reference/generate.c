@@ -210,13 +210,14 @@ static void make_elements(struct bytes *file, const struct shape *shape)
     }
 }
 
-/* A file near 16,384 bytes, good but for its size: long rules, then short ones whose names' lengths find the size. */
-static void make_edge_file(struct bytes *file)
+/* Long rules, then short ones whose names' lengths find the size. */
+void make_edge_file(struct bytes *file)
 {
     size_t size = 16382 + below(5);
     char line[80];
     int rules = 0;
 
+    file->length = 0;
     for (int i = 0; i < 3; i++) {
         sprintf(line, "A\tx%d", i);
         put(file, line);
@@ -247,11 +248,11 @@ void make_file(struct bytes *file)
 {
     struct shape shape;
 
-    file->length = 0;
     if (one_in(100)) {
         make_edge_file(file);
         return;
     }
+    file->length = 0;
     make_attributes(file, &shape);
     shape.stars = shape.attributes > 3 ? 5 + below(4) : below(7);
     shape.narrow = one_in(3);

@@ -1,4 +1,5 @@
-/* Generated inputs for compare.c: policy files, valid or damaged, and request lines. All come from one seed. */
+/* Generated inputs: policy files, valid or damaged, and request lines for compare.c, lists of elements for make_lists.c.
+ * All come from one seed. */
 #ifndef GENERATE_H
 #define GENERATE_H
 
@@ -15,6 +16,7 @@ void replace(struct bytes *text, size_t at, size_t length, const void *bytes, si
 void put(struct bytes *text, const char *string); /* at the end */
 
 void make_file(struct bytes *file);
+void make_edge_file(struct bytes *file); /* near 16,384 bytes, good but for its size */
 
 /* A request line of the policy, or a bad one (of any policy, also one that was refused). */
 void make_request(struct bytes *request, const struct policy *policy, int good);

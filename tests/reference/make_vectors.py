@@ -1,5 +1,5 @@
 #!/usr/bin/env python3
-"""Makes crates/vectors: the policy files, their names, and what the reference program prints of each.
+"""Makes crates/vectors: the policy files, their names, what the reference program prints of each, and lists for the writer.
 
 Usage: make_vectors.py [--check]. The same bytes come out each time; --check writes nothing and tells whether they are
 those that are there. In the texts below spaces stand for tabs.
@@ -104,17 +104,27 @@ for seed in range(30):
     add(f"random-{seed:02}", random_policy(seed))
 
 
-def build(program):
-    parts = ("read", "decide", "trim", "report", "reference_program")
+LISTS = 400
+
+
+def build(program, *parts):
     sources = [HERE / f"{name}.c" for name in parts]
     subprocess.run(["cc", "-std=c99", "-Wall", "-Wextra", "-O2", "-o", program, *sources], check=True)
+
+
+def lists_and_answers(scratch):
+    """Lists for the writer, and the lines that must be printed of them."""
+    program, lists, answers = (pathlib.Path(scratch) / name for name in ("make_lists", "lists", "answers"))
+    build(program, "make_lists", "generate", "damage", "read", "write")
+    subprocess.run([program, "1", str(LISTS), lists, answers], check=True, stdout=subprocess.DEVNULL)
+    return lists.read_bytes(), answers.read_bytes()
 
 
 def made():
     """Every file of the crate that is made here, with its bytes."""
     with tempfile.TemporaryDirectory() as scratch:
         program = f"{scratch}/reference_program"
-        build(program)
+        build(program, "reference_program", "read", "decide", "trim", "report")
         add("report-of-65536-bytes", report_of(program, 65536))
         add("report-of-65537-bytes", report_of(program, 65537))
         add("report-far-too-long", far_too_long())
@@ -123,9 +133,11 @@ def made():
               for number in range(63)))
         names = sorted(files)
         printed = b"".join(name.encode() + b"\n" + output_of(program, files[name]) for name in names)
+        lists, answers = lists_and_answers(scratch)
     made = {CRATE / "data" / name: files[name] for name in names}
-    made[CRATE / "args"] = "".join(f"{name}\n" for name in names).encode()
-    made[CRATE / "stdout"] = printed
+    made[CRATE / "data" / "lists"] = lists
+    made[CRATE / "args"] = "".join(f"{name}\n" for name in (*names, "lists")).encode()
+    made[CRATE / "stdout"] = printed + b"lists\n" + answers
     return made
 
 
@@ -138,7 +150,7 @@ def main():
         elif path.read_bytes() != data:
             print("other bytes:", path.relative_to(CRATE))
             others += 1
-    print(len(files), "stored files", "compared with the reference's output" if check else "written")
+    print(len(files), "stored files and", LISTS, "lists", "compared with the reference's output" if check else "written")
     return others != 0
 
 

@@ -9,7 +9,7 @@ struct fields {
     struct slice field[FILE_BYTES / 2];
 };
 
-static const struct { const char *text, *kinds; } words[WORDS] = {
+const struct word_text words[WORDS] = {
     [EFFECT_PERMIT] = {"permit", "R"},
     [EFFECT_DENY] = {"deny", "R"},
     [DENY_OVERRIDES] = {"deny-overrides", "SP"},
@@ -28,7 +28,7 @@ static int is(struct slice field, const char *text)
     return field.length == strlen(text) && memcmp(field.bytes, text, field.length) == 0;
 }
 
-static int is_name(struct slice field)
+int is_name(struct slice field)
 {
     if (field.length < 1 || field.length > NAME_BYTES || field.bytes[0] == '-')
         return 0;
@@ -104,8 +104,7 @@ static int depth_of(struct slice field)
     return field.length == 1 && field.bytes[0] >= '0' && field.bytes[0] <= '7' ? field.bytes[0] - '0' : -1;
 }
 
-/* The nearest earlier element of depth one less, or -1. */
-static int parent_of(const struct policy *policy, int depth)
+int parent_of(const struct policy *policy, int depth)
 {
     for (int place = policy->elements - 1; place >= 0; place--)
         if (policy->element[place].depth == depth - 1)
@@ -113,7 +112,7 @@ static int parent_of(const struct policy *policy, int depth)
     return -1;
 }
 
-static int well_placed(const struct policy *policy, char kind, int depth, int parent)
+int well_placed(const struct policy *policy, char kind, int depth, int parent)
 {
     if (policy->attributes == 0)
         return 0;

@@ -63,15 +63,32 @@ struct policy {
 };
 
 /* read.c */
+extern const struct word_text { const char *text, *kinds; } words[WORDS]; /* each word, and the kinds it is for */
 struct answer read_policy(const uint8_t *file, size_t length, struct policy *policy);
 int same(struct slice a, struct slice b);
+int is_name(struct slice field);
 int value_number(const struct attribute *attribute, struct slice name); /* -1 if it is no value */
+int parent_of(const struct policy *policy, int depth); /* the nearest earlier element of depth one less, or -1 */
+int well_placed(const struct policy *policy, char kind, int depth, int parent);
 
 /* decide.c */
 void values_of(const struct policy *policy, int request, int values[ATTRIBUTES]);
 int applies(const struct policy *policy, int place, const int values[ATTRIBUTES]);
 enum decision gives(const struct policy *policy, int place, const int values[ATTRIBUTES]);
 void decide_space(const struct policy *policy, uint8_t decisions[SPACE]);
+
+/* An element of the list that the writer takes. */
+struct record {
+    char kind;
+    uint8_t depth;
+    uint8_t name[NAME_BYTES];  /* zero bytes behind the name */
+    uint8_t length;            /* of the name */
+    enum word word;
+    uint16_t mask[ATTRIBUTES]; /* zero behind the last attribute */
+};
+
+/* write.c: `second` is the length of the file. */
+struct answer ref_write(struct slice lines, const struct record *list, size_t elements, uint8_t *out, size_t room);
 
 /* trim.c */
 int first_change(struct policy *policy, int rule, const uint8_t decisions[SPACE]); /* the space if there is none */

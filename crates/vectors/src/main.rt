@@ -1,4 +1,7 @@
-// Prints what the program prints of each file that the arguments name, behind the file's name. An accepted file is read into elements and written again; a line says so if other bytes come out.
+// Prints what the program prints of each file that the arguments name, behind the file's name. An accepted file is read into elements and written again; a line says so if other bytes come out. Of the file `lists` it prints what the writer answers for each of its lists.
+mod doors;
+mod encoded;
+
 use elements::Elements;
 use libc::STDOUT_FILENO;
 use meaning::Element;
@@ -59,7 +62,19 @@ fn written_again(file: &[u8]) -> bool {
     comparing::same(file, &out[0..length])
 }
 
-// One file's name and its text.
+// What is to be printed of a policy file.
+fn print_report(fd: i32) {
+    let mut file = [0u8; 16385];
+    let n = io::read_full(fd, &mut file);
+    let mut out = [0u8; 65536];
+    let printed = program::print(&file[..n], &mut out);
+    io::write_all(STDOUT_FILENO, &out[0..printed]);
+    if !written_again(&file[..n]) {
+        io::write_all(STDOUT_FILENO, b"written otherwise\n");
+    }
+}
+
+// A file's name, and what is to be printed of it.
 fn print_file(index: usize) {
     let mut path = io::buffer();
     let length = os::arg(index, &mut path);
@@ -72,17 +87,14 @@ fn print_file(index: usize) {
         os::fail(&path[..length]);
         return;
     }
-    let mut file = [0u8; 16385];
-    let n = io::read_full(fd, &mut file);
-    libc::close(fd);
-    let mut out = [0u8; 65536];
-    let printed = program::print(&file[..n], &mut out);
     io::write_all(STDOUT_FILENO, &path[..length]);
     io::write_all(STDOUT_FILENO, b"\n");
-    io::write_all(STDOUT_FILENO, &out[0..printed]);
-    if !written_again(&file[..n]) {
-        io::write_all(STDOUT_FILENO, b"written otherwise\n");
+    if text::same(&path[..length], b"lists") {
+        encoded::print_lists(fd);
+    } else {
+        print_report(fd);
     }
+    libc::close(fd);
 }
 
 fn main() {

@@ -1,0 +1,38 @@
+// Doors to the operations on a lent list: a list by value is lent here, so that whoever calls needs no walk by hand.
+use meaning::Answer;
+use meaning::Element;
+ghost use mathlib.Core.Path.{_≡_};
+ghost use Prim.Native.Nat.{_≤_};
+ghost use lib.ListN.{take};
+ghost use Rattle.meaning.specs.Operations.{writeAnswer, writeLent};
+
+// The first `len` elements are the list. The writer looks at 65, so there may be one more.
+pub(crate) struct Listed {
+    pub(crate) all: [Element; 66],
+    pub(crate) len: usize,
+}
+
+// Places for the elements of a list.
+pub(crate) fn blanks() -> [Element; 66] {
+    let none = elements::none();
+    let all = none.all;
+    let blank = all[0];
+    [blank; 66]
+}
+
+// All places of a list.
+fn all_places(list: Listed) -> [Element; 66]
+    ensures { λ r. ⌜ r ≡ list .all ⌝ }
+{
+    list.all
+}
+
+// Writes a list, lent to `lists::write_list`.
+pub(crate) fn written(header: &[u8], list: Listed, out: &mut [u8]) -> Answer
+    requires { ⌜ list .len ≤ 66 ⌝ }
+    ensures { λ r. ⌜ (r ≡ writeAnswer (now (header .entry)) (take (list .len) (list .all)) (now (out .entry))) × (now (out .exit) ≡ writeLent (now (header .entry)) (take (list .len) (list .all)) (now (out .entry))) ⌝ }
+{
+    let all = all_places(list);
+    let n = list.len;
+    lists::write_list(header, &all[..n], out)
+}

@@ -1,0 +1,134 @@
+/* Writing a policy file: the attribute lines as bytes, and a list of elements. */
+#include "reference.h"
+
+#include <string.h>
+
+/* What does not fit into a file is counted only. */
+struct text { size_t length; uint8_t bytes[FILE_BYTES]; };
+
+static void put(struct text *text, const void *bytes, size_t length)
+{
+    if (text->length + length <= FILE_BYTES)
+        memcpy(text->bytes + text->length, bytes, length);
+    text->length += length;
+}
+
+static void put_string(struct text *text, const char *string)
+{
+    put(text, string, strlen(string));
+}
+
+/* The attribute lines are tested as a file's lines are, but that a tree line among them, were it ever so good, is 6.
+ * No other element stands before the first tree line, so of its tests only 2 and 3 come before 6. */
+static struct answer read_attribute_lines(struct slice lines, struct policy *policy)
+{
+    struct answer answer = read_policy(lines.bytes, lines.length, policy);
+
+    if (policy->elements > 0)
+        return (struct answer){6, (uint32_t)policy->attributes + 1};
+    if (answer.number == 9)
+        return (struct answer){0, 0};
+    if (answer.number > 6)
+        answer.number = 6;
+    return answer;
+}
+
+static int bad_name(const struct record *record)
+{
+    if (!is_name((struct slice){record->name, record->length}))
+        return 1;
+    for (int i = record->length; i < NAME_BYTES; i++)
+        if (record->name[i] != 0)
+            return 1;
+    return 0;
+}
+
+/* All values of an attribute; there are none behind the last attribute. */
+static unsigned all_values(const struct policy *policy, int attribute)
+{
+    return (1u << policy->attribute[attribute].values) - 1;
+}
+
+static int bad_mask(const struct policy *policy, int attribute, unsigned mask)
+{
+    return (attribute < policy->attributes && mask == 0) || (mask & ~all_values(policy, attribute)) != 0;
+}
+
+/* The lowest of 3 to 8 that an element is refused with, behind those of the policy; 0 if none. */
+static uint32_t test_record(const struct policy *policy, const struct record *record)
+{
+    if (bad_name(record))
+        return 3;
+    for (int i = 0; i < policy->elements; i++)
+        if (same(policy->element[i].name, (struct slice){record->name, record->length}))
+            return 4;
+    if (policy->elements == ELEMENTS)
+        return 5;
+    if (record->depth > 7 || !well_placed(policy, record->kind, record->depth, parent_of(policy, record->depth)))
+        return 6;
+    if (!strchr(words[record->word].kinds, record->kind))
+        return 7;
+    for (int i = 0; i < ATTRIBUTES; i++)
+        if (bad_mask(policy, i, record->mask[i]))
+            return 8;
+    return 0;
+}
+
+static void put_target(struct text *text, const struct policy *policy, int attribute, unsigned mask)
+{
+    const char *before = "";
+
+    if (mask == all_values(policy, attribute)) {
+        put_string(text, "*");
+        return;
+    }
+    for (int value = 0; value < policy->attribute[attribute].values; value++)
+        if (mask >> value & 1) {
+            struct slice name = policy->attribute[attribute].value[value];
+            put_string(text, before);
+            put(text, name.bytes, name.length);
+            before = ",";
+        }
+}
+
+static void put_line(struct text *text, const struct policy *policy, const struct record *record)
+{
+    char start[] = {record->kind, '\t', (char)('0' + record->depth), '\t'};
+
+    put(text, start, sizeof start);
+    put(text, record->name, record->length);
+    put_string(text, "\t");
+    put_string(text, words[record->word].text);
+    for (int i = 0; i < policy->attributes; i++) {
+        put_string(text, "\t");
+        put_target(text, policy, i, record->mask[i]);
+    }
+    put_string(text, "\n");
+}
+
+struct answer ref_write(struct slice lines, const struct record *list, size_t elements, uint8_t *out, size_t room)
+{
+    struct policy policy;
+    struct text text = {.length = 0};
+
+    struct answer answer = read_attribute_lines(lines, &policy);
+    if (answer.number != 0)
+        return answer;
+    put(&text, lines.bytes, lines.length);
+    for (size_t i = 0; i < elements; i++) {
+        uint32_t refusal = test_record(&policy, &list[i]);
+        if (refusal != 0)
+            return (struct answer){refusal, (uint32_t)(policy.attributes + i + 1)};
+        policy.element[policy.elements++] = (struct element){
+            .kind = list[i].kind, .depth = list[i].depth, .name = {list[i].name, list[i].length}};
+        put_line(&text, &policy, &list[i]);
+    }
+    if (elements == 0)
+        return (struct answer){9, 0};
+    if (text.length > FILE_BYTES)
+        return (struct answer){1, 0};
+    if (text.length > room)
+        return (struct answer){11, (uint32_t)text.length};
+    memcpy(out, text.bytes, text.length);
+    return (struct answer){0, (uint32_t)text.length};
+}
