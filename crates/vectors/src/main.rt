@@ -89,7 +89,7 @@ fn print_file(index: usize) {
     }
     io::write_all(STDOUT_FILENO, &path[..length]);
     io::write_all(STDOUT_FILENO, b"\n");
-    if text::same(&path[..length], b"lists") {
+    if comparing::same(&path[..length], b"lists") {
         encoded::print_lists(fd);
     } else {
         print_report(fd);
