@@ -1,12 +1,19 @@
 -- A request by value, as the meaning's list of value numbers.
 use Prim.Native.Nat.{ℕ, _≤_, _<_}
-use mathlib.Core.List.{List}
-use lib.ListN.{take, getD}
-use Rattle.meaning.specs.Model.{product}
+use mathlib.Core.List.{List, _++_}
+use lib.ListN.{length, take, drop, getD}
+use Rattle.meaning.specs.Model.{product, padded}
 use Rattle.requests.specs.declared.Request.{Request}
 
 abbrev pub valuesOf : Request → List ℕ
 valuesOf q = take (q .len) (q .values)
+
+-- the request of these values, with zeros behind them; and one whose values become these, the places behind as they were
+abbrev pub requestWith : List ℕ → Request
+requestWith vs = record { values = padded 6 vs; len = length vs }
+
+abbrev pub revalued : Request → List ℕ → Request
+revalued q vs = record { values = vs ++ drop (q .len) (q .values); len = q .len }
 
 -- a request of at most six attributes, each value below its count, in a space of at most 4,096
 pub record Fitting (counts : List ℕ) (q : Request) : Type 0 where

@@ -4,7 +4,7 @@ ghost use Prim.Native.Nat.{_+_, _≤_, _<_};
 ghost use lib.ListN.{length, take, drop};
 ghost use Rattle.meaning.specs.Model.{product};
 ghost use Rattle.meaning.specs.Deciding.{numberOf, requestOf, nextRequest, bit, within};
-ghost use Rattle.requests.specs.Values.{valuesOf, Fitting};
+ghost use Rattle.requests.specs.Values.{valuesOf, requestWith, revalued, Fitting};
 
 // The values of `len` attributes; the places behind them don't matter.
 pub struct Request {
@@ -39,7 +39,7 @@ impl Request {
     // The next request in number order, the first one behind the last: the last attribute changes first.
     pub fn next(self, counts: [usize; 6]) -> Request
         requires { ⌜ Fitting counts self ⌝ }
-        ensures { λ r. ⌜ (r .len ≡ self .len) × (valuesOf r ≡ nextRequest (take (self .len) counts) (valuesOf self)) × Fitting counts r ⌝ }
+        ensures { λ r. ⌜ (r ≡ revalued self (nextRequest (take (self .len) counts) (valuesOf self))) × Fitting counts r ⌝ }
     {
         let mut values = self.values;
         let len = self.len;
@@ -77,7 +77,7 @@ impl Request {
 // The request that has the number.
 pub fn request_of(number: usize, counts: [usize; 6], len: usize) -> Request
     requires { ⌜ (len ≤ 6) × (number < product (take len counts)) × (product (take len counts) ≤ 4096) ⌝ }
-    ensures { λ r. ⌜ (r .len ≡ len) × (valuesOf r ≡ requestOf (take len counts) number) × Fitting counts r ⌝ }
+    ensures { λ r. ⌜ (r ≡ requestWith (requestOf (take len counts) number)) × Fitting counts r ⌝ }
 {
     let mut values = [0usize; 6];
     let mut rest = number;

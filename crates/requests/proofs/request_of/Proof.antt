@@ -4,14 +4,16 @@ use mathlib.Core.Path.{_≡_, refl, _∙_}
 use native.Mathlib.Nat.{mod-lt}
 use native.Mathlib.Omega.{arith}
 use borrow.Author.Needs.{needs}
-use lib.ListN.{length, take, getD, length-set}
+use lib.ListN.{length, take, drop, getD, length-set, replicate}
+use lib.Seq.{drop-set-lt}
 use Rattle.requests.proofs.Laws.{Below, fits, set-below, counts-positive, positive-at, weighed, weighed-all}
+use Rattle.requests.proofs.Laid.{laid}
 use Rattle.requests.proofs.Steps.{divided, settled}
 use Rattle.requests.proofs.request_of.Statement.{statement}
 use Rattle.requests.proofs.request_of.Tie as tie
 
 abbrev Inv-loop : tie.InvT-loop
-Inv-loop number len counts values₀ rest₀ i₀ values rest i = (i ≤ len) × (length values ≡ 6) × (weighed len i rest counts values ≡ number) × ((k : ℕ) → i ≤ k → k < len → getD values k 0 < getD counts k 0)
+Inv-loop number len counts values₀ rest₀ i₀ values rest i = (i ≤ len) × (length values ≡ 6) × (weighed len i rest counts values ≡ number) × ((k : ℕ) → i ≤ k → k < len → getD values k 0 < getD counts k 0) × (drop len values ≡ drop len (replicate 6 0))
 
 abbrev μ-loop : tie.MeasureT-loop
 μ-loop number len counts values₀ rest₀ i₀ values rest i = i
@@ -30,7 +32,7 @@ loop-holds : tie.Need-loop-holds Inv-loop μ-loop
 loop-holds c =
     let few = c .pre .0 in
     let six : length (c .args .t2) ≡ 6 = search needs in
-    (search needs, search needs, weighed-all (c .args .len) (c .args .len) (c .args .number) (c .args .t2) _ (omega arith) refl, λ k a b. absurd (none k a b))
+    (search needs, search needs, weighed-all (c .args .len) (c .args .len) (c .args .number) (c .args .t2) _ (omega arith) refl, λ k a b. absurd (none k a b), refl)
 
 rem-values : tie.Need-rem-values Inv-loop μ-loop
 rem-values c = omega (arith, count-positive c)
@@ -51,6 +53,7 @@ loop-again c =
       length-set (turn .values) j v ∙ six-now,
       divided (start .args .len) (turn .i) j (start .args .t2) (turn .values) (omega arith) (omega arith) (omega arith) (omega arith) (turn .rest) ∙ turn .inv .2,
       λ k a b. set-below j v (start .args .t2) (turn .values) (omega arith) (mod-lt (turn .rest) (count-positive c)) k (λ other. turn .inv .3 k (omega arith) b),
+      drop-set-lt (start .args .len) (turn .values) j v (omega arith) ∙ turn .inv .4,
     )
 
 returns : tie.Need-returns Inv-loop μ-loop
@@ -64,8 +67,7 @@ returns c =
     let six-now : length (turn .values) ≡ 6 = turn .inv .1 in
     let none : turn .i ≡ 0 = omega arith in
     let below : Below len counts (turn .values) = λ k l. turn .inv .3 k (omega arith) l in (
-      refl,
-      settled len (turn .rest) (start .args .number) counts (turn .values) (fits len counts (turn .values) (omega arith) (omega arith) below) (rw none at (turn .inv .2)) (start .pre .1),
+      laid len (turn .values) _ (omega arith) (settled len (turn .rest) (start .args .number) counts (turn .values) (fits len counts (turn .values) (omega arith) (omega arith) below) (rw none at (turn .inv .2)) (start .pre .1)) (turn .inv .4),
       record { few = few; below = below; small = start .pre .2 },
     )
 

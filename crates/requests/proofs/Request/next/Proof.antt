@@ -3,15 +3,17 @@ use Prim.Native.Nat.{_+_, _-_, _≤_, _<_}
 use mathlib.Core.Path.{_≡_, refl, _∙_}
 use native.Mathlib.Omega.{arith}
 use borrow.Author.Needs.{needs}
-use lib.ListN.{length, take, getD, set, length-set}
+use lib.ListN.{length, take, drop, getD, set, length-set}
+use lib.Seq.{drop-set-lt}
 use Rattle.laws.proofs.Requests.{fits-positive}
 use Rattle.requests.proofs.Laws.{Below, fits, set-below, count-le}
+use Rattle.requests.proofs.Laid.{changed}
 use Rattle.requests.proofs.Steps.{Carried, carried-none, raised, cleared, stepped, wrapped}
 use Rattle.requests.proofs.Request.next.Statement.{statement}
 use Rattle.requests.proofs.Request.next.Tie as tie
 
 abbrev Inv-loop : tie.InvT-loop
-Inv-loop counts values₀ len i₀ values i = (i ≤ len) × (length values ≡ 6) × Below len counts values × Carried len i counts values values₀
+Inv-loop counts values₀ len i₀ values i = (i ≤ len) × (length values ≡ 6) × Below len counts values × Carried len i counts values values₀ × (drop len values ≡ drop len values₀)
 
 abbrev μ-loop : tie.MeasureT-loop
 μ-loop counts values₀ len i₀ values i = i
@@ -35,7 +37,7 @@ loop-holds c =
     let start = c .before in
     let few = start .pre .few in
     let six : length (start .args .t2) ≡ 6 = search needs in
-    (search needs, search needs, start .pre .below, carried-none (start .args .self .len) (start .args .t2) (start .args .self .values) (omega arith))
+    (search needs, search needs, start .pre .below, carried-none (start .args .self .len) (start .args .t2) (start .args .self .values) (omega arith), refl)
 
 add-if1 : tie.Need-add-if1 Inv-loop μ-loop
 add-if1 c = omega (arith, value-small c)
@@ -58,9 +60,10 @@ returns c =
     let now = set (turn .values) j (v + 1) in
     let room : length now ≡ 6 = length-set (turn .values) j (v + 1) ∙ six-now in
     let below : Below len counts now = λ k l. set-below j (v + 1) counts (turn .values) (omega arith) (c .if1 .taken) k (λ _. turn .inv .2 k l) in (
-      refl,
-      stepped len counts now (start .args .self .values) (fits len counts now (omega arith) (omega arith) below) (fits len counts (start .args .self .values) (omega arith) (omega arith) (start .pre .below))
-          (raised len (turn .i) j counts (turn .values) (omega arith) (omega arith) (omega arith) (omega arith) (start .args .self .values) (turn .inv .3)),
+      changed (start .args .self) now _
+          (stepped len counts now (start .args .self .values) (fits len counts now (omega arith) (omega arith) below) (fits len counts (start .args .self .values) (omega arith) (omega arith) (start .pre .below))
+          (raised len (turn .i) j counts (turn .values) (omega arith) (omega arith) (omega arith) (omega arith) (start .args .self .values) (turn .inv .3)))
+          (drop-set-lt len (turn .values) j (v + 1) (omega arith) ∙ turn .inv .4),
       record { few = few; below = below; small = start .pre .small },
     )
 
@@ -80,6 +83,7 @@ loop-again c =
       length-set (turn .values) j 0 ∙ six-now,
       λ k l. set-below j 0 counts (turn .values) (omega arith) (omega arith) k (λ _. turn .inv .2 k l),
       cleared len (turn .i) j counts (turn .values) (omega arith) (omega arith) (omega arith) (omega arith) (start .args .self .values) full (turn .inv .3),
+      drop-set-lt len (turn .values) j 0 (omega arith) ∙ turn .inv .4,
     )
 
 returns-2 : tie.Need-returns-2 Inv-loop μ-loop
@@ -93,9 +97,10 @@ returns-2 c =
     let six-first : length (start .args .self .values) ≡ 6 = search needs in
     let six-now : length (turn .values) ≡ 6 = turn .inv .1 in
     let none : turn .i ≡ 0 = omega arith in (
-      refl,
-      wrapped len counts (turn .values) (start .args .self .values) (fits len counts (turn .values) (omega arith) (omega arith) (turn .inv .2)) (fits len counts (start .args .self .values) (omega arith) (omega arith) (start .pre .below))
-          (rw none at (turn .inv .3)),
+      changed (start .args .self) (turn .values) _
+          (wrapped len counts (turn .values) (start .args .self .values) (fits len counts (turn .values) (omega arith) (omega arith) (turn .inv .2)) (fits len counts (start .args .self .values) (omega arith) (omega arith) (start .pre .below))
+          (rw none at (turn .inv .3)))
+          (turn .inv .4),
       record { few = few; below = turn .inv .2; small = start .pre .small },
     )
 
