@@ -9,7 +9,7 @@ use native.Mathlib.Nat.{sub-zero, eq-or-lt-of-le}
 use native.Mathlib.Numerals.{add-one}
 use native.Mathlib.Omega.{arith}
 use lib.ListN.{length, take, drop, getD, set, length-set, replicate}
-use lib.Seq.{take-suc-set}
+use lib.Seq.{length-take-le, take-suc-set, drop-set-lt}
 use borrow.Author.Tests.{eq-eqb, ne-eqb}
 use Rattle.meaning.specs.Text.{Bytes, cut, tab}
 use Rattle.meaning.specs.Model.{Attribute, Result, refused, given, _then_}
@@ -19,6 +19,7 @@ use Rattle.laws.proofs.Text.{Some, one-or-more, cut-some}
 use Rattle.names.specs.declared.Found.{Found}
 use Rattle.names.specs.declared.Found.the-variants.{At, Nothing}
 use Rattle.names.specs.Places.{foundOf}
+use Rattle.requests.proofs.Laid.{laid}
 use Rattle.text.proofs.Pieces.{behind, piece-last, piece-more, piece-at}
 use Rattle.layout.specs.declared.Attributes.{Attributes}
 use Rattle.layout.specs.Places.{attributeAt, attributesFrom, attributesOf}
@@ -67,6 +68,7 @@ pub record Walked (f : Bytes) (a : Attributes) (line : Bytes) (values : List ℕ
   pub within : at ≤ length line
   pub count : length (cut tab (drop at line)) ≡ a .len - i
   pub room : length values ≡ 6
+  pub clear : drop (a .len) values ≡ drop (a .len) (replicate 6 0)
   pub so-far : after (take i values) (valuesOf (suc i) (rest f a i) (cut tab (drop at line))) ≡ valuesOf 1 (attributesOf f a) (cut tab line)
 
 some-piece : {ps : List Bytes} → Some ps → 1 ≤ length ps
@@ -80,6 +82,7 @@ walk-starts {f} {a} {line} count few =
       within = zero-le;
       count = count ∙ sym (sub-zero (a .len));
       room = refl;
+      clear = refl;
       so-far = rw sub-zero (after-none (valuesOf 1 (attributesOf f a) (cut tab line)));
     }
 
@@ -129,6 +132,9 @@ module _ {f : Bytes} {a : Attributes} {line : Bytes} {values : List ℕ} {at i e
         ∙ ap (λ n. after (take i values ++ (v ∷ [])) (valuesOf (suc n) (rest f a (i + 1)) later)) (add-one i)
         ∙ sym one-found ∙ w .so-far
 
+    clear-still : drop (a .len) (set values i v) ≡ drop (a .len) (replicate 6 0)
+    clear-still = drop-set-lt (a .len) values i v (w .here) ∙ w .clear
+
     pub walk-on : i + 1 ≢ a .len → Walked f a line (set values i v) (e + 1) (i + 1)
     walk-on n =
         let fields-here = piece-more tab line at e p (more-after n) in
@@ -138,6 +144,7 @@ module _ {f : Bytes} {a : Attributes} {line : Bytes} {values : List ℕ} {at i e
           within = omega (arith, more-after n);
           count = omega (arith, w .count, ap length fields-here);
           room = length-set values i v ∙ w .room;
+          clear = clear-still;
           so-far = one-more (cut tab (drop (e + 1) line)) fields-here;
         }
 
@@ -147,7 +154,10 @@ module _ {f : Bytes} {a : Attributes} {line : Bytes} {values : List ℕ} {at i e
         let last-found = rw (none-after l, append-nil) at (one-more (behind tab line e) this-field) in
         let all-found : given (take (a .len) (set values i v)) ≡ valuesOf 1 (attributesOf f a) (cut tab line) =
         ap (λ n. given (take n (set values i v))) (sym l) ∙ last-found in
-        subst (AskedAs _) all-found (record { good = refl; values = refl; few = w .few })
+        let enough : a .len ≤ length (set values i v) = omega (arith, length-set values i v, w .room, w .few) in
+        let whole = laid (a .len) (set values i v) (take (a .len) (set values i v)) enough refl clear-still in
+        let few : length (take (a .len) (set values i v)) ≤ 6 = omega (arith, length-take-le (a .len) (set values i v) enough, w .few) in
+        subst (AskedAs _) all-found (record { is = λ k. record { good = true; place = 0; request = whole k }; few = few })
 
 -- A line by its count of fields
 module _ (f : Bytes) (a : Attributes) (line : Bytes) {pieces : ℕ} (counted : pieces ≡ length (cut tab line)) where

@@ -2,22 +2,22 @@
 use Prim.Native.Nat.{ℕ, _≤_}
 use mathlib.Core.Bool.{true, false}
 use mathlib.Core.Path.{_≡_}
+use mathlib.Core.List.{[]}
+use lib.ListN.{length}
 use Rattle.meaning.specs.Model.{Result, refused, given}
 use Rattle.meaning.specs.Deciding.{Request}
-use Rattle.requests.specs.Values.{valuesOf}
+use Rattle.requests.specs.Values.{requestWith}
 use Rattle.asking.specs.declared.Asked.{Asked}
 
--- a refusal's number and the place of its field
+-- a refusal has number 10, its place and no request; a request has zeros behind its values
 pub record Refused (r : Asked) (n m : ℕ) : Type 0 where
-  pub bad : r .good ≡ false
+  pub is : r ≡ record { good = false; place = m; request = requestWith [] }
   pub number : n ≡ 10
-  pub place : r .place ≡ m
   pub low : m ≤ 6
 
 pub record Asks (r : Asked) (q : Request) : Type 0 where
-  pub good : r .good ≡ true
-  pub values : valuesOf (r .request) ≡ q
-  pub few : r .request .len ≤ 6
+  pub is : r ≡ record { good = true; place = 0; request = requestWith q }
+  pub few : length q ≤ 6
 
 abbrev pub AskedAs : Asked → Result Request → Type 0
 AskedAs r (refused n m) = Refused r n m

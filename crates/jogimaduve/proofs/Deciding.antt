@@ -13,6 +13,7 @@ use Rattle.meaning.specs.Deciding.{Request, requestLine, decisionNumber, matche
 use Rattle.meaning.specs.Operations.{answered, decideAnswer}
 use Rattle.laws.proofs.Bools.{contradiction}
 use Rattle.requests.specs.Values.{valuesOf}
+use Rattle.requests.proofs.Laid.{values-with}
 use Rattle.decisions.specs.Table.{left}
 use Rattle.layout.specs.Places.{attributesOf}
 use Rattle.layout.proofs.Laws.{decided}
@@ -43,30 +44,30 @@ module _ (f table places : List ℕ) (r : Reading) (is-read : ReadAs f table pla
     request-refused b = go (requestLine (file-read f table places r is-read z .0 .attributes) request) asked-policy ∙ sym answer-is
       where
         go : (x : Result Request) → AskedAs a x → told 10 (a .place) ≡ answered decisionNumber (x then λ q. given (decide (file-read f table places r is-read z .0) q))
-        go (refused n m) t = λ i. told (sym (t .number) i) (t .place i)
-        go (given q) t = contradiction (t .good) b
+        go (refused n m) t = λ i. told (sym (t .number) i) (t .is i .place)
+        go (given q) t = contradiction (ap (λ x. x .good) (t .is)) b
 
     pub small-place : a .good ≡ false → a .place ≤ 6
     small-place b = go (requestLine (file-read f table places r is-read z .0 .attributes) request) asked-policy
       where
         go : (x : Result Request) → AskedAs a x → a .place ≤ 6
-        go (refused n m) t = omega (arith, t .place, t .low)
-        go (given q) t = contradiction (t .good) b
+        go (refused n m) t = rw (t .is) (t .low)
+        go (given q) t = contradiction (ap (λ x. x .good) (t .is)) b
 
     -- a request that is decided
     pub request-few : a .good ≡ true → a .request .len ≤ 6
     request-few g = go (requestLine (file-read f table places r is-read z .0 .attributes) request) asked-policy
       where
         go : (x : Result Request) → AskedAs a x → a .request .len ≤ 6
-        go (refused n m) t = contradiction g (t .bad)
-        go (given q) t = t .few
+        go (refused n m) t = contradiction g (ap (λ x. x .good) (t .is))
+        go (given q) t = rw (t .is) (t .few)
 
     pub request-decided : a .good ≡ true → (struck : List ℕ) → ((k : ℕ) → k < r .elements → getD struck k 0 ≡ 0) → (d : Decision) → d ≡ firstDecision (matches (valuesOf (a .request))) (left table struck 0 (r .elements))
         → (n : ℕ) → n ≡ decisionNumber d → told 0 n ≡ decideAnswer f request
     request-decided g struck zeros d is n numbered = go (requestLine (file-read f table places r is-read z .0 .attributes) request) asked-policy ∙ sym answer-is
       where
         go : (x : Result Request) → AskedAs a x → told 0 n ≡ answered decisionNumber (x then λ q. given (decide (file-read f table places r is-read z .0) q))
-        go (refused k m) t = contradiction g (t .bad)
+        go (refused k m) t = contradiction g (ap (λ x. x .good) (t .is))
         go (given q) t =
-            let same : d ≡ decide (file-read f table places r is-read z .0) q = is ∙ decided f table places struck (r .elements) (file-read f table places r is-read z .0) (valuesOf (a .request)) (file-read f table places r is-read z .2 .elements) zeros ∙ ap (decide (file-read f table places r is-read z .0)) (t .values) in
+            let same : d ≡ decide (file-read f table places r is-read z .0) q = is ∙ decided f table places struck (r .elements) (file-read f table places r is-read z .0) (valuesOf (a .request)) (file-read f table places r is-read z .2 .elements) zeros ∙ ap (decide (file-read f table places r is-read z .0)) (ap (λ x. valuesOf (x .request)) (t .is) ∙ values-with q) in
             λ i. told 0 ((numbered ∙ ap decisionNumber same) i)
