@@ -81,8 +81,8 @@ refusal-told attributes attrs all i r whole e h few early number line =
     let (from-three, low) = refusal-within attrs all i h in
     subst⁻¹ (CheckedAs r) e (record { number = number; line = line ∙ add-one (attributes + i); from-three = from-three; low = low; small = omega arith })
 
-pub end-told : (s : Sofar) (r : Checked) (whole : Result Sofar) → whole ≡ given s → r .number ≡ 0 → CheckedAs r whole
-end-told s r whole e number = subst⁻¹ (CheckedAs r) e (record { number = number })
+pub end-told : (s : Sofar) (r : Checked) (whole : Result Sofar) → whole ≡ given s → r .number ≡ 0 → r .line ≡ 0 → CheckedAs r whole
+end-told s r whole e number line = subst⁻¹ (CheckedAs r) e (record { number = number; line = line })
 
 -- Some attributes of any value counts
 abbrev pub standIns : List ℕ → List Attribute

@@ -50,6 +50,7 @@ pub record Refused (n m : ℕ) (r : Checked) : Type 0 where
 
 pub record Passed (r : Checked) : Type 0 where
   pub number : r .number ≡ 0
+  pub line : r .line ≡ 0
 
 abbrev pub CheckedAs : Checked → Result Sofar → Type 0
 CheckedAs r (refused n m) = Refused n m r

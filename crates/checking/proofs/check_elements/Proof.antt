@@ -52,7 +52,7 @@ returns c attrs are =
     let turn = c .before in
     let start = turn .before .before in
     let a = start .args in
-    end-told (behind attrs (a .list .all) (turn .loop .tree .len)) _ _ (turn .loop .inv .2 attrs are ∙ none-remains (a .attributes) attrs (a .list .all) (a .list .len) (room start) (turn .loop .tree .len) (c .if1 .taken)) refl
+    end-told (behind attrs (a .list .all) (turn .loop .tree .len)) _ _ (turn .loop .inv .2 attrs are ∙ none-remains (a .attributes) attrs (a .list .all) (a .list .len) (room start) (turn .loop .tree .len) (c .if1 .taken)) refl refl
 
 mul-e : tie.Need-mul-e Inv-loop μ-loop
 mul-e c = omega (arith, c .before .loop .inv .1 .few)
