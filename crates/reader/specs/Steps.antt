@@ -49,12 +49,13 @@ pub record Line (f : Bytes) (st : State) (end : ℕ) : Type 0 where
   pub ends : end < length f
   pub all-of-it : end ≡ st .at + length (getD (cut newline (drop (st .at) f)) 0 [])
 
--- the line at a place: its end, and how many fields it has where a newline ends it
+-- the line at a place: its end, and how many fields it has where a newline ends it, else 0
 pub record LineAt (f : Bytes) (at end fields : ℕ) : Type 0 where
   pub all-of-it : end ≡ at + length (getD (cut newline (drop at f)) 0 [])
   pub starts : at ≤ end
   pub inside : end ≤ length f
   pub count : end < length f → CountIs (cut tab (part f at end)) fields
+  pub unended : length f ≤ end → fields ≡ 0
 
 -- room for the element of a tree line of these fields, and the state behind it
 pub record Fits (table places : List ℕ) (st : State) (end : ℕ) (fs : List Bytes) : Type 0 where

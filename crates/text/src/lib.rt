@@ -88,7 +88,7 @@ fn wrong_line(s: &[u8], e: usize) -> Counted
     Counted { end, fields: 0 }
 }
 
-// The line that a text starts with: where it ends, and how many fields it has where a newline ends it. One pass over the bytes.
+// The line that a text starts with: where it ends, and how many fields it has where a newline ends it, else 0. One pass over the bytes.
 pub fn first_line(s: &[u8]) -> Counted
     ensures { λ r. ⌜ FirstLine (now (s .entry)) (r .end) (r .fields) ⌝ }
 {

@@ -20,6 +20,7 @@ line-there f at n fields inside first =
       starts = omega arith;
       inside = omega (arith, first .within, length-drop at f);
       count = λ l. rw size (first .count (omega (arith, length-drop at f)));
+      unended = λ l. first .unended (omega (arith, length-drop at f));
     }
 
 -- what was found is of the rest of the file
