@@ -1,15 +1,15 @@
 -- Attributes with one more behind them.
 use Prim.Native.Nat.{ℕ, zero, suc, _+_, _-_, _≤_, _<_}
-use mathlib.Core.Path.{_≡_, refl, ap, _∙_}
+use mathlib.Core.Path.{_≡_, refl, ap, _∙_, subst⁻¹}
 use mathlib.Core.Logic.{⊎-elim}
 use mathlib.Core.List.{[], _∷_, _++_}
 use native.Mathlib.Nat.{eq-or-lt-of-le}
 use native.Mathlib.Omega.{arith}
-use lib.ListN.{length, getD, set}
+use lib.ListN.{length, getD}
 use lib.Seq.{getD-set-same, getD-set-other}
 use Rattle.meaning.specs.Text.{Bytes, cut, tab}
 use Rattle.layout.specs.declared.Attributes.{Attributes}
-use Rattle.layout.specs.Places.{part, attributeAt, attributesFrom, attributesOf, Standing, Added}
+use Rattle.layout.specs.Places.{part, attributeAt, attributesFrom, attributesOf, Standing, AllStanding, added}
 
 -- one attribute more of those that are there
 from-more : (f : Bytes) (a : Attributes) (i n : ℕ) → attributesFrom f a i (suc n) ≡ attributesFrom f a i n ++ (attributeAt f a (i + n) ∷ [])
@@ -23,36 +23,36 @@ unfolding attributesFrom
 from-alike f a b i zero h = refl
 from-alike f a b i (suc n) h = rw (h i (omega arith), from-alike f a b (i + 1) n (λ k l. h k (omega arith)))
 
+-- what one attribute more does to those of any file
+pub record Added (a : Attributes) (name value end count : ℕ) (b : Attributes) : Type 0 where
+  pub one-more : b .len ≡ a .len + 1
+  pub behind : (f : Bytes) → attributesOf f b ≡ attributesOf f a ++ (record { name = part f name (value - 1); values = cut tab (part f value end) } ∷ [])
+  pub standing : (f : Bytes) → AllStanding f a → name < value → value ≤ end → end ≤ length f → count ≡ length (cut tab (part f value end)) → AllStanding f b
+  pub few-values : (most : ℕ) → ((i : ℕ) → i < a .len → getD (a .counts) i 0 ≤ most) → count ≤ most → (i : ℕ) → i < b .len → getD (b .counts) i 0 ≤ most
+
 module _ (a : Attributes) (name value end count : ℕ) where
-  abbrev added : Attributes
-  added =
-      record {
-        names = set (a .names) (a .len) name;
-        values = set (a .values) (a .len) value;
-        ends = set (a .ends) (a .len) end;
-        counts = set (a .counts) (a .len) count;
-        len = a .len + 1;
-      }
+  abbrev more : Attributes
+  more = added a name value end count
 
   -- each array has room for it
   module _ (names-room : a .len < length (a .names)) (values-room : a .len < length (a .values)) (ends-room : a .len < length (a .ends)) (counts-room : a .len < length (a .counts)) where
-    alike : (f : Bytes) (k : ℕ) → k < a .len → attributeAt f added k ≡ attributeAt f a k
+    alike : (f : Bytes) (k : ℕ) → k < a .len → attributeAt f more k ≡ attributeAt f a k
     alike f k l =
         let other : (k ≡ a .len → ⊥) = λ e. omega arith in
         rw (getD-set-other (a .names) (a .len) k name 0 other, getD-set-other (a .values) (a .len) k value 0 other, getD-set-other (a .ends) (a .len) k end 0 other)
 
-    new : (f : Bytes) → attributeAt f added (a .len) ≡ record { name = part f name (value - 1); values = cut tab (part f value end) }
+    new : (f : Bytes) → attributeAt f more (a .len) ≡ record { name = part f name (value - 1); values = cut tab (part f value end) }
     new f = rw (getD-set-same (a .names) (a .len) name 0 names-room, getD-set-same (a .values) (a .len) value 0 values-room, getD-set-same (a .ends) (a .len) end 0 ends-room)
 
-    behind : (f : Bytes) → attributesOf f added ≡ attributesOf f a ++ (record { name = part f name (value - 1); values = cut tab (part f value end) } ∷ [])
+    behind : (f : Bytes) → attributesOf f more ≡ attributesOf f a ++ (record { name = part f name (value - 1); values = cut tab (part f value end) } ∷ [])
     behind f =
-        let more : a .len + 1 ≡ suc (a .len) = omega arith in
+        let size : a .len + 1 ≡ suc (a .len) = omega arith in
         let here : 0 + a .len ≡ a .len = omega arith in
-        ap (attributesFrom f added 0) more
-        ∙ from-more f added 0 (a .len)
-        ∙ rw (here, new f, from-alike f a added 0 (a .len) (λ k l. alike f k (omega arith)))
+        ap (attributesFrom f more 0) size
+        ∙ from-more f more 0 (a .len)
+        ∙ rw (here, new f, from-alike f a more 0 (a .len) (λ k l. alike f k (omega arith)))
 
-    standing-new : (f : Bytes) (k : ℕ) → k ≡ a .len → name < value → value ≤ end → end ≤ length f → count ≡ length (cut tab (part f value end)) → Standing f added k
+    standing-new : (f : Bytes) (k : ℕ) → k ≡ a .len → name < value → value ≤ end → end ≤ length f → count ≡ length (cut tab (part f value end)) → Standing f more k
     standing-new f k e named line inside counted =
         let names-new = getD-set-same (a .names) (a .len) name 0 names-room in
         let values-new = getD-set-same (a .values) (a .len) value 0 values-room in
@@ -60,7 +60,7 @@ module _ (a : Attributes) (name value end count : ℕ) where
         let counts-new = getD-set-same (a .counts) (a .len) count 0 counts-room in
         rw e (record { name = rw (names-new, values-new) named; line = rw (values-new, ends-new) line; inside = rw ends-new inside; count = rw (counts-new, values-new, ends-new) counted })
 
-    standing-old : (f : Bytes) (k : ℕ) → k < a .len → Standing f a k → Standing f added k
+    standing-old : (f : Bytes) (k : ℕ) → k < a .len → Standing f a k → Standing f more k
     standing-old f k l s =
         let other : (k ≡ a .len → ⊥) = λ e. omega arith in
         let names-old = getD-set-other (a .names) (a .len) k name 0 other in
@@ -69,15 +69,15 @@ module _ (a : Attributes) (name value end count : ℕ) where
         let counts-old = getD-set-other (a .counts) (a .len) k count 0 other in
         record { name = rw (names-old, values-old) (s .name); line = rw (values-old, ends-old) (s .line); inside = rw ends-old (s .inside); count = rw (counts-old, values-old, ends-old) (s .count) }
 
-    count-new : (most k : ℕ) → k ≡ a .len → count ≤ most → getD (added .counts) k 0 ≤ most
+    count-new : (most k : ℕ) → k ≡ a .len → count ≤ most → getD (more .counts) k 0 ≤ most
     count-new most k e few = rw (e, getD-set-same (a .counts) (a .len) count 0 counts-room) few
 
-    count-old : (most k : ℕ) → k < a .len → getD (a .counts) k 0 ≤ most → getD (added .counts) k 0 ≤ most
+    count-old : (most k : ℕ) → k < a .len → getD (a .counts) k 0 ≤ most → getD (more .counts) k 0 ≤ most
     count-old most k l few = rw (getD-set-other (a .counts) (a .len) k count 0 (λ e. omega arith)) few
 
-    pub added-behind : a .len < 6 → Added a name value end count added
-    added-behind few =
-        record {
+    pub added-behind : a .len < 6 → {b : Attributes} → b ≡ more → Added a name value end count b
+    added-behind few is =
+        subst⁻¹ (Added a name value end count) is (record {
           one-more = refl;
           behind = behind;
           standing = λ f all named line inside counted. record {
@@ -85,7 +85,7 @@ module _ (a : Attributes) (name value end count : ℕ) where
             each = λ k l. ⊎-elim (λ e. standing-new f k e named line inside counted) (λ below. standing-old f k below (all .each k below)) (eq-or-lt-of-le (last k l));
           };
           few-values = λ most old new k l. ⊎-elim (λ e. count-new most k e new) (λ below. count-old most k below (old k below)) (eq-or-lt-of-le (last k l));
-        }
+        })
       where
         last : (k : ℕ) → k < a .len + 1 → k ≤ a .len
         last k l = omega arith

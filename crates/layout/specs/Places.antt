@@ -1,10 +1,10 @@
 -- Where attributes and elements stand in a file, and what the definitions make of the places.
 use Prim.Native.Nat.{ℕ, zero, suc, _+_, _-_, _*_, _≤_, _<_}
 use mathlib.Core.Bool.{cond}
-use mathlib.Core.List.{List, [], _∷_, _++_}
+use mathlib.Core.List.{List, [], _∷_}
 use mathlib.Core.Path.{_≡_}
 use lib.Dec.{eqb}
-use lib.ListN.{length, take, drop, getD}
+use lib.ListN.{length, take, drop, getD, set}
 use Rattle.meaning.specs.declared.Kind.{Kind}
 use Rattle.meaning.specs.declared.Kind.the-variants.{Set, Policy, Rule}
 use Rattle.meaning.specs.declared.Element.{Element}
@@ -44,12 +44,16 @@ pub record AllStanding (f : Bytes) (a : Attributes) : Type 0 where
   pub few : a .len ≤ 6
   pub each : (i : ℕ) → i < a .len → Standing f a i
 
--- one attribute more, of any file
-pub record Added (a : Attributes) (name value end count : ℕ) (b : Attributes) : Type 0 where
-  pub one-more : b .len ≡ a .len + 1
-  pub behind : (f : Bytes) → attributesOf f b ≡ attributesOf f a ++ (record { name = part f name (value - 1); values = cut tab (part f value end) } ∷ [])
-  pub standing : (f : Bytes) → AllStanding f a → name < value → value ≤ end → end ≤ length f → count ≡ length (cut tab (part f value end)) → AllStanding f b
-  pub few-values : (most : ℕ) → ((i : ℕ) → i < a .len → getD (a .counts) i 0 ≤ most) → count ≤ most → (i : ℕ) → i < b .len → getD (b .counts) i 0 ≤ most
+-- one attribute more behind those that are there
+abbrev pub added : Attributes → (name value end count : ℕ) → Attributes
+added a name value end count =
+    record {
+      names = set (a .names) (a .len) name;
+      values = set (a .values) (a .len) value;
+      ends = set (a .ends) (a .len) end;
+      counts = set (a .counts) (a .len) count;
+      len = a .len + 1;
+    }
 
 -- A kind, by the first byte of its line
 abbrev pub kindAt : ℕ → Kind

@@ -8,7 +8,7 @@ ghost use lib.Seq.{sets};
 ghost use Rattle.meaning.specs.declared.Element.{Element};
 ghost use Rattle.meaning.specs.Text.{amongNames};
 ghost use Rattle.meaning.specs.Reading.{wellPlaced};
-ghost use Rattle.layout.specs.Places.{attributesOf, AllStanding, Added, namesTo, Named};
+ghost use Rattle.layout.specs.Places.{attributesOf, AllStanding, added, namesTo, Named};
 ghost use Rattle.layout.specs.Nearest.{kindNumber, parentNumber, Stands};
 
 // Where each attribute stands: the start of its name, of its first value, the end of its line; and its value count.
@@ -63,7 +63,7 @@ pub fn with_attribute(
     count: usize,
 ) -> Attributes
     requires { ⌜ a .len < 6 ⌝ }
-    ensures { λ r. ⌜ Added a name value end count r ⌝ }
+    ensures { λ r. ⌜ r ≡ added a name value end count ⌝ }
 {
     let len = a.len;
     let mut names = a.names;

@@ -14,7 +14,8 @@ use Rattle.meaning.specs.Model.{Attribute, choices, space as spaceOf}
 use Rattle.meaning.specs.Reading.{attributeLine, lineOf, Sofar, Tests, lowest, attributeTests}
 use Rattle.laws.proofs.Lines.{attribute-fields}
 use Rattle.layout.specs.declared.Attributes.{Attributes}
-use Rattle.layout.specs.Places.{part, attributesOf, Added, elementsTo, lineStart}
+use Rattle.layout.specs.Places.{part, attributesOf, elementsTo, lineStart}
+use Rattle.layout.proofs.Adding.{Added}
 use Rattle.layout.proofs.Laws.{attributes-length}
 use Rattle.reader.specs.Sofar.{refusalBy, refusalOf, attributeIn, Tested, AttributeRefusal, AttributeLine}
 use Rattle.reader.specs.Steps.{Ready, Line, readSofar, Next}

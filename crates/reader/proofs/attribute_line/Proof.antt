@@ -1,9 +1,17 @@
 -- `attribute_line` meets its contract: the laws of the refusal and of the state behind the line.
+use Prim.Native.Nat.{_+_, _-_}
+use mathlib.Core.Path.{_≡_}
 use native.Mathlib.Omega.{arith}
+use lib.ListN.{length}
 use borrow.Author.Needs.{needs}
+use Rattle.layout.proofs.Adding.{added-behind}
 use Rattle.reader.proofs.AttributeLines.{AttributeParts, attribute-parts, line-refusal, line-next}
 use Rattle.reader.proofs.attribute_line.Statement.{statement}
 use Rattle.reader.proofs.attribute_line.Tie as tie
+
+-- each array of the attributes has six places
+rooms : (c : tie.Start) → let a = c .args .st .attributes in (length (a .names) ≡ 6) × (length (a .values) ≡ 6) × (length (a .ends) ≡ 6) × (length (a .counts) ≡ 6)
+rooms c = (search needs, search needs, search needs, search needs)
 
 -- where the name and the values stand
 parts : (c : tie.After-field) → let a = c .before .before .before .before .before .before .before .args in AttributeParts (a .file .now) (a .st .at) (a .end) (c .field .result .now)
@@ -34,10 +42,13 @@ returns-2 c =
     let start = c .before .before .before .before .before .before .before .before .before in
     let tested = c .before .before .before .before .attribute-refusal .ensures in
     let field = c .before .before .field in
-    let added = c .before .with-attribute in
+    let a = start .args .st .attributes in
+    let (names-room, values-room, ends-room, counts-room) = rooms start in
+    let few = tested .few (c .before .before .before .if1 .left) in
+    let added = added-behind a (start .args .st .at + 2) (start .args .st .at + 3 + length (field .result .now)) (start .args .end) (start .args .fields - 2) (omega arith) (omega arith) (omega arith) (omega arith) few (c .before .with-attribute .ensures) in
     λ table places ready. record {
       refusal = line-refusal ready (start .pre .1) (start .pre .2) tested;
-      next = λ none. line-next ready (start .pre .1) (start .pre .2) (field .result .now) (added .result) (field .ensures) (added .ensures) (tested .few-values none) (tested .small-space none) (tested .no-element none);
+      next = λ none. line-next ready (start .pre .1) (start .pre .2) (field .result .now) _ (field .ensures) added (tested .few-values none) (tested .small-space none) (tested .no-element none);
     }
 
 pub attribute-line-spec : {M : Type 1} → statement M
