@@ -17,8 +17,8 @@ use Rattle.requests.proofs.Laid.{values-with}
 use Rattle.decisions.specs.Table.{left}
 use Rattle.layout.specs.Places.{attributesOf}
 use Rattle.layout.proofs.Laws.{decided}
-use Rattle.asking.specs.declared.Asked.{Asked}
-use Rattle.asking.specs.Asked.{AskedAs}
+use Rattle.request_lines.specs.declared.Asked.{Asked}
+use Rattle.request_lines.specs.Asked.{AskedAs}
 use Rattle.reader.specs.declared.Reading.{Reading}
 use Rattle.reader.specs.Steps.{ReadAs}
 use Rattle.jogimaduve.specs.Told.{told}

@@ -12,7 +12,7 @@ use Rattle.meaning.specs.Report.{report, fitted, reportFile}
 use Rattle.meaning.specs.Operations.{answered, lent, reportAnswer, reportLent}
 use Rattle.laws.proofs.Bools.{Test, passed, failed, test}
 use Rattle.outcomes.specs.declared.Shape.{Shape}
-use Rattle.lines.specs.Fitted.{Fitted}
+use Rattle.report_lines.specs.Fitted.{Fitted}
 use Rattle.reporting.specs.Reported.{Reported}
 use Rattle.reader.specs.declared.Reading.{Reading}
 use Rattle.reader.specs.Steps.{Holds, ReadAs}

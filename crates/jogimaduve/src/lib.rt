@@ -52,7 +52,7 @@ pub extern "C" fn jogimaduve_decide(file: &[u8], request: &[u8]) -> Answer
         return reader::refusal(reading);
     }
     let attributes = reading.attributes;
-    let asked = asking::request_line(file, attributes, request);
+    let asked = request_lines::request_line(file, attributes, request);
     if !asked.good {
         return Answer {
             number: 10,

@@ -22,7 +22,7 @@ use Rattle.layout.specs.Places.{nameIn, elementsTo}
 use Rattle.rows.specs.Words.{givesAt}
 use Rattle.conflicts.specs.Pairs.{showsAt}
 use Rattle.trimmed_text.proofs.Table.{name-at}
-use Rattle.lines.specs.Lines.{conflictLine, isChild, laterLine, laterLines, pairLines, conflictText}
+use Rattle.report_lines.specs.Lines.{conflictLine, isChild, laterLine, laterLines, pairLines, conflictText}
 use Rattle.reporting.proofs.Applying.{applies-at}
 use Rattle.laws.proofs.Lists.{gathered-alike, gathered-keep, gathered-twice, gathered-one, pairs-first, pairs-alike}
 use Rattle.reporting.proofs.Searched.{first-or}

@@ -23,7 +23,7 @@ use Rattle.segments.specs.Across.{wordAcross}
 use Rattle.conflicts.specs.Pairs.{shownBy, Pairs}
 use Rattle.segments.proofs.Columns.{across-applying}
 use Rattle.conflicts.proofs.Showing.{pairs-by-table}
-use Rattle.lines.specs.Ready.{Ordered}
+use Rattle.report_lines.specs.Ready.{Ordered}
 use Rattle.reporting.specs.Found.{none-struck, trimmedAt, SegmentsFound, ConflictsFound, RulesFound}
 use Rattle.reporting.proofs.Searched.{laid-at}
 use Rattle.reporting.proofs.StruckText.{order-below}

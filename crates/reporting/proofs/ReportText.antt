@@ -11,8 +11,8 @@ use Rattle.outcomes.specs.declared.Shape.{Shape}
 use Rattle.outcomes.specs.Ready.{countsOf, Ready}
 use Rattle.layout.specs.Places.{elementsTo}
 use Rattle.conflicts.specs.Pairs.{shownFor}
-use Rattle.lines.specs.Lines.{struckText, reportText}
-use Rattle.lines.specs.Fitted.{Fitted}
+use Rattle.report_lines.specs.Lines.{struckText, reportText}
+use Rattle.report_lines.specs.Fitted.{Fitted}
 use Rattle.reporting.specs.Reported.{Reported}
 use Rattle.reporting.specs.Found.{none-struck, SegmentsFound, ConflictsFound, RulesFound}
 use Rattle.reporting.proofs.SegmentText.{segments-are}

@@ -25,7 +25,7 @@ use Rattle.trimmed_text.proofs.Table.{name-at}
 use Rattle.rows.specs.Words.{marks, applyingAt}
 use Rattle.segments.specs.Sizes.{alike, opensAt, sizeAt}
 use Rattle.rows.proofs.Marks.{bit-mark, same-marks}
-use Rattle.lines.specs.Lines.{decisionFrom, namesOf, segmentLine, segmentText}
+use Rattle.report_lines.specs.Lines.{decisionFrom, namesOf, segmentLine, segmentText}
 use Rattle.reporting.proofs.Applying.{word-is}
 use Rattle.reporting.proofs.ChildPlaces.{count-is}
 use Rattle.laws.proofs.Lists.{keep-alike, any-alike, has-some, gathered-alike, gathered-keep, first-any}

@@ -25,7 +25,7 @@ use Rattle.trimmed_text.specs.Flags.{Clear, keptAt, trimmingAt, keptPlaces, kep
 use Rattle.trimmed_text.proofs.Trimmed.{trimmed-flags, kept-flags}
 use Rattle.trimmed_text.proofs.Table.{name-at}
 use Rattle.trimmed_text.proofs.Tabled.{first-change-is, rule-is, trimming-is}
-use Rattle.lines.specs.Lines.{struckLine, struckText, keptLine, keptText}
+use Rattle.report_lines.specs.Lines.{struckLine, struckText, keptLine, keptText}
 use Rattle.reporting.specs.Found.{none-struck, trimmedAt}
 use Rattle.laws.proofs.Lists.{has-at, gathered-alike, gathered-keep}
 use Rattle.reporting.proofs.Searched.{first-or}

@@ -9,7 +9,7 @@ use Rattle.meaning.specs.Report.{report}
 use Rattle.outcomes.specs.declared.Shape.{Shape}
 use Rattle.outcomes.specs.Ready.{countsOf}
 use Rattle.layout.specs.Places.{elementsTo}
-use Rattle.lines.specs.Fitted.{Fitted}
+use Rattle.report_lines.specs.Fitted.{Fitted}
 
 -- of the policy that was read from f into the table: r is the length of its report, and the buffer holds it or is as it was
 pub record Reported (f : Bytes) (table places : List ℕ) (s : Shape) (old new : Bytes) (r : ℕ) : Type 0 where

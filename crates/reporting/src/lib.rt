@@ -110,7 +110,7 @@ pub fn report(file: &[u8], table: &[u16], places: &[usize], shape: Shape, out: &
     let mut order = [0u8; 64];
     let mut shown = [0usize; 64];
     let count = find_rules(table, &hits, shape, &told, &mut order, &mut shown);
-    lines::write_report(
+    report_lines::write_report(
         file,
         places,
         n,

@@ -11,7 +11,7 @@ use Rattle.jogimaduve.proofs.jogimaduve_decide.Statement.{statement}
 use Rattle.jogimaduve.proofs.jogimaduve_decide.Tie as tie
 use Rattle.jogimaduve.proofs.jogimaduve_decide.Reads as reads
 use Rattle.jogimaduve.proofs.jogimaduve_decide.Lts as lts
-use Rattle.asking.proofs.request_line.Reads as request-line-reads
+use Rattle.request_lines.proofs.request_line.Reads as request-line-reads
 use Rattle.decisions.proofs.decide.Reads as decide-reads
 use Rattle.decisions.proofs.number.Reads as number-reads
 use Rattle.reader.proofs.read.Reads as read-reads
