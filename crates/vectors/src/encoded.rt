@@ -1,6 +1,6 @@
 // Lists for the writer, as tests/reference/make_lists.c stores them in a file.
 use crate::doors;
-use crate::doors::Listed;
+use crate::doors::Lent;
 use libc::STDOUT_FILENO;
 use meaning::Element;
 use meaning::Kind;
@@ -123,7 +123,7 @@ fn mixed(total: u64, b: u8) -> u64
 }
 
 // Writes a list, and prints the answer and the sum of the buffer.
-fn print_written(header: &[u8], list: Listed, out: &mut [u8])
+fn print_written(header: &[u8], list: Lent, out: &mut [u8])
     requires { ⌜ list .len ≤ 66 ⌝ }
 {
     let answer = doors::written(header, list, out);
@@ -155,7 +155,7 @@ fn print_list(fd: i32) {
     let mut header = [0u8; 65536];
     read_bytes(fd, lines, &mut header);
     let all = read_elements(fd, n);
-    let list = Listed { all, len: n };
+    let list = Lent { all, len: n };
     let mut out = pattern();
     print_written(&header[0..lines], list, &mut out[0..room]);
 }

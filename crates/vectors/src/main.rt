@@ -2,9 +2,8 @@
 mod doors;
 mod encoded;
 
-use elements::Elements;
+use doors::Lent;
 use libc::STDOUT_FILENO;
-use meaning::Element;
 ghost use Prim.Native.Nat.{_≤_};
 ghost use lib.ListN.{length};
 
@@ -26,32 +25,21 @@ fn attribute_lines_end(file: &[u8]) -> usize
     at
 }
 
-// The first n elements of a list that was read.
-fn taken(all: [Element; 64], n: usize) -> Elements
-    ensures { λ r. ⌜ r .len ≤ 64 ⌝ }
-{
-    let mut list = elements::none();
-    let mut i = 0;
-    while i < 64 {
-        if n <= i {
-            return list;
-        }
-        list = elements::with_element(list, all[i]);
-        i += 1;
-    }
-    list
-}
-
 // Whether a file comes out of the writer as it went into the reader; refused ones count.
 fn written_again(file: &[u8]) -> bool {
     let read = lists::read_elements(file, 64).answer;
     if read.number != 0 {
         return true;
     }
+    let n = read.second as usize;
+    if 66 < n {
+        return false;
+    }
+    let all = doors::listed(file);
+    let list = Lent { all, len: n };
     let header = attribute_lines_end(file);
     let mut out = [0u8; 16384];
-    let list = taken(listed::listed(file), read.second as usize);
-    let written = writing::write(&file[..header], list, &mut out);
+    let written = doors::written(&file[0..header], list, &mut out);
     if written.number != 0 {
         return false;
     }

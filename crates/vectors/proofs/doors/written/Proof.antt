@@ -1,21 +1,13 @@
 -- `written` meets its contract: a walk of its MIR, by hand. The array that `all_places` gives is a local of the function. Its first elements are lent as a slice for a lifetime that the walk makes, `write_list` is called at that lifetime, the lifetime is ended, and the array is put together again.
 -- The lines and the buffer go to `write_list` at their own lifetimes, shares and names: the borrow of the buffer is given up for good, and of what the lines own, which is Copy, a copy is kept for the exit.
---     front-out, front-in          elements in memory are the first k and the others, and back
---     out-of-local, into-local     a local that holds an array is its elements in memory, side by side, and back
 use Rattle.fields.proofs.Walk.{_≡_, refl, sym, _∙_, ap, subst, List, [], _∷_, ℕ, _≤_, _<_, _^_, Holds, length, URA, fullShare, Ty, named, Val, WT, hasTy, SProp, ent, sep, snd∗, exE, id⊢, Lft, Share, Fml, ftrue, fat, flft, Memory, Routine, Heap, Calls, Loops, WpFn, Tables, Atoms, sem, Lfts, Fun, fact, givenOf, tables, tablesOf, Given, Item, ‵, raw, _⊛_, ⋆, some, later, _$_, _∵_, !, qed, by, move, drop, use1, use2, split, join, rewrite, pick, fsplit, fjoin, suffices, frame, await, done, agg, whole, sub, look-in, look, init, forget, stop, fld, from, load, of-opd, and-then, no-more, assigns, land, returns, enter, alloc1, alloc0, params1, pass1, pass0, free1, free0, FmC, fmOf, WpFn-mono, RattleType, owns, Is, shows, u8, RefT, now, plain, sliceVal, ShrSlice, slice-vals, shr-slice-tells, shr-slice-copy, only, owned, peeks, heard, nothing, Contract, Triple, calls-at, ensured, lasts, Vals, onEntry, Meets, tripleOf, entered, cited, says, Stays, stay-none, stay-none-slice, walkOf, goes-none, goes-none-slice, Walks, ends-at, walked, walk-meets, yes}
 use Rattle.lists.proofs.Walk.{_*_, arith, take, GName, fsep, flent, feqI, feqL, fpick, fpack, hop, addr, MutSlice, Room, mut-slice-tells, finally, row, shares, arr-parts, needs, gave-slice, goes-gave-slice}
-use mathlib.Core.List.{_++_}
-use lib.ListN.{drop as drop-list, take-append-drop}
+use lib.ListN.{drop as drop-list}
 use lib.Seq.{length-take-le}
 use types.Tokens.{lft-new, lft-end, lent-back}
-use types.SemTy.{cells}
-use denote.Memory.{cellAt, partAt, mem as in-memory, partOf}
-use denote.Array.{Array, array-vals, array-tells, array-lawful}
-use denote.ArrayMemory.{array-apart, array-whole}
+use denote.Array.{array-lawful}
 use denote.Lend.{lends-shr-slice}
 use denote.Struct.Laws as LL
-use borrow.Table.Elements.{at as place-of, cut-app, join-app}
-use borrow.Rule.Slice.Shared.{Sh, parts-cells}
 use Rattle.meaning.specs.declared.Answer.{Answer}
 use Rattle.meaning.specs.declared.Element.{Element}
 use Rattle.meaning.specs.Operations.{writeAnswer, writeLent}
@@ -29,35 +21,26 @@ use Rattle.lists.proofs.write_list.Symbol as write-list-def
 use Rattle.lists.proofs.write_list.Symbol.{name as #lists·write-list}
 use Rattle.lists.proofs.write_list.Met as write-list-thm
 use Rattle.fields.proofs.Answers.{answers}
-use Rattle.vectors.specs.declared.doors.Listed.{Listed}
+use Rattle.vectors.specs.declared.doors.Lent.{Lent}
 use Rattle.vectors.proofs.doors.all_places as all-places
 use Rattle.vectors.proofs.doors.all_places.Symbol as all-places-def
 use Rattle.vectors.proofs.doors.all_places.Symbol.{name as #vectors·doors·all-places}
 use Rattle.vectors.proofs.doors.all_places.Met as all-places-thm
-use Rattle.vectors.proofs.doors.Listed as B
-use Rattle.vectors.proofs.doors.Listed.Laws as B′
+use Rattle.vectors.proofs.Arrays.{E, N, mach, past, out-of-local, into-local, front-out, front-in}
+use Rattle.vectors.proofs.doors.Lent as B
+use Rattle.vectors.proofs.doors.Lent.Laws as B′
 use Rattle.vectors.proofs.doors.written.Key.{name as #vectors·doors·written}
 use Rattle.vectors.proofs.doors.written as written
 use Rattle.vectors.proofs.doors.written.Statement as stated
 use Rattle.vectors.proofs.doors.written.Code as code
 use Rattle.vectors.proofs.doors.written.Code.Mir as code-mir
 
--- the types of an element, of the array and of the list by value
-abbrev E : RattleType
-E = T.the-row
-
-abbrev N : RattleType
-N = Array E 66
-
+-- the types of the list by value and of the local that is lent
 abbrev R : RattleType
 R = B.the-row
 
 abbrev arrTy : Ty
 arrTy = local-type code-mir.locals 4
-
--- the array's machine value
-abbrev mach : List Element → Val
-mach xs = only (array-vals (LL.vals T.the-type T′.the-laws) xs)
 
 abbrev stayed : Stays (written.ended .signature .params) (written.ended .kept)
 stayed = (stay-none-slice (0 ∷ []) tt (plain (λ _. u8)) yes, (stay-none (λ _. R) yes, (gave-slice (1 ∷ []) tt (plain (λ _. u8)), tt)))
@@ -70,44 +53,11 @@ module _ {M : Type 1} (𝓤 : URA M) (H : Heap 𝓤) (A : Atoms 𝓤) (mem : Mem
   abbrev WriteList : Contract 𝓤
   WriteList = tripleOf 𝓤 H A write-list.signature (write-list.spec 𝓤 H A mem run)
 
--- where the elements behind the first k begin
-abbrev past : List Element → ℕ → ℕ
-past xs k = place-of 0 (in-memory E .size) (length (take k xs))
-
-module _ {M : Type 1} (𝓤 : URA M) (H : Heap 𝓤) (A : Atoms 𝓤) (W : Given 𝓤 H A) where
-  front-out : (xs : List Element) (k l : ℕ) → ent 𝓤 (sem 𝓤 H A (row E fullShare xs l 0)) (sep 𝓤 (sem 𝓤 H A (row E fullShare (take k xs) l 0)) (sem 𝓤 H A (row E fullShare (drop-list k xs) l (past xs k))))
-  front-out xs k l =
-      qed W (‵ (row E fullShare xs l 0) ∷ []) ∵ rewrite ! 0 (λ (F : Fml). ‵ F) (parts-cells E fullShare xs l 0) refl $ rewrite ! 0 (λ (ys : List Element). ‵ (cells (Sh E fullShare) ys l 0)) (sym (take-append-drop k xs)) refl $
-      use1 W (‵ (cells (Sh E fullShare) (take k xs) l 0) ⊛ ‵ (cells (Sh E fullShare) (drop-list k xs) l (past xs k))) (cut-app 𝓤 H A (Sh E fullShare) (take k xs) (drop-list k xs) l 0) $ split ! $
-      rewrite ! 0 (λ (F : Fml). ‵ F) (sym (parts-cells E fullShare (take k xs) l 0)) refl $ rewrite ! 1 (λ (F : Fml). ‵ F) (sym (parts-cells E fullShare (drop-list k xs) l (past xs k))) refl $ done !
-
-  front-in : (xs : List Element) (k l : ℕ) → ent 𝓤 (sep 𝓤 (sem 𝓤 H A (row E fullShare (take k xs) l 0)) (sem 𝓤 H A (row E fullShare (drop-list k xs) l (past xs k)))) (sem 𝓤 H A (row E fullShare xs l 0))
-  front-in xs k l =
-      qed W (‵ (row E fullShare (take k xs) l 0) ∷ ‵ (row E fullShare (drop-list k xs) l (past xs k)) ∷ []) ∵
-      rewrite ! 0 (λ (F : Fml). ‵ F) (parts-cells E fullShare (take k xs) l 0) refl $ rewrite ! 1 (λ (F : Fml). ‵ F) (parts-cells E fullShare (drop-list k xs) l (past xs k)) refl $
-      use2 W (‵ (cells (Sh E fullShare) (take k xs ++ drop-list k xs) l 0)) (join-app 𝓤 H A (Sh E fullShare) (take k xs) (drop-list k xs) l 0) $
-      rewrite ! 0 (λ (ys : List Element). ‵ (cells (Sh E fullShare) ys l 0)) (take-append-drop k xs) refl $ rewrite ! 0 (λ (F : Fml). ‵ F) (sym (parts-cells E fullShare xs l 0)) refl $ done !
-
-  out-of-local : (xs : List Element) (u : Val) (l : ℕ) → ent 𝓤 (sep 𝓤 (H .at fullShare arrTy l 0 u) (sem 𝓤 H A (N .own xs (u ∷ [])))) (sem 𝓤 H A (arr-parts (shares E) 66 .part fullShare xs l 0))
-  unfolding partOf
-  out-of-local xs u l =
-      qed W (‵ (fat fullShare arrTy l 0 u) ∷ ‵ (N .own xs (u ∷ [])) ∷ []) ∵ use1 W (‵ (cellAt fullShare (N .mir) (u ∷ []) l 0)) (W .laws .at-raw fullShare arrTy l 0 u) $
-      fjoin ! $ fpack ! (List Val) (λ us. fsep (cellAt fullShare (N .mir) us l 0) (N .own xs us)) (u ∷ []) $ by ! (array-apart 𝓤 H A W E fullShare tt 66 xs l 0)
-
-  into-local : (xs : List Element) (k l : ℕ) → length xs ≡ 66 → ent 𝓤 (sep 𝓤 (sem 𝓤 H A (row E fullShare (take k xs) l 0)) (sem 𝓤 H A (row E fullShare (drop-list k xs) l (past xs k)))) (H .at fullShare arrTy l 0 (mach xs))
-  unfolding partOf
-  into-local xs k l len =
-      qed W (‵ (row E fullShare (take k xs) l 0) ∷ ‵ (row E fullShare (drop-list k xs) l (past xs k)) ∷ []) ∵ use2 W (‵ (row E fullShare xs l 0)) (front-in xs k l) $ feqI ! ℕ (length xs) 66 len $ fjoin ! $
-      use1 W (‵ (partAt N fullShare xs l 0)) (array-whole 𝓤 H A W E fullShare 66 xs l 0) $ fpick ! (λ vs. fsplit ! $ move ! (1 ∷ []) $
-      peeks ! N (Is N) (shows 𝓤 H A N) xs vs (λ is. drop ! $
-      rewrite ! 0 (λ (us : List Val). ‵ (cellAt fullShare (N .mir) us l 0)) (array-tells E (LL.vals T.the-type T′.the-laws) (LL.tells T.the-type T′.the-laws) 66 xs vs is) refl $
-      by ! (W .laws .raw-at fullShare arrTy l 0 (mach xs))))
-
 -- fewer elements than an array has are few enough for a slice
 few-fit : (n : ℕ) → n ≤ 66 → Room E n
 few-fit n few = (omega arith, omega arith)
 
-module _ {M : Type 1} (𝓤 : URA M) (H : Heap 𝓤) (A : Atoms 𝓤) (W : Given 𝓤 H A) (mem : Memory → SProp 𝓤) (run : Routine → Fun 𝓤) (κ κ′ : Lft) (q q′ : Share) (src : RefT (List ℕ)) (list : Listed) (b o : ℕ) (γ : GName) (os : List ℕ)
+module _ {M : Type 1} (𝓤 : URA M) (H : Heap 𝓤) (A : Atoms 𝓤) (W : Given 𝓤 H A) (mem : Memory → SProp 𝓤) (run : Routine → Fun 𝓤) (κ κ′ : Lft) (q q′ : Share) (src : RefT (List ℕ)) (list : Lent) (b o : ℕ) (γ : GName) (os : List ℕ)
     (room-h : Room u8 (length (now src))) (is : Is R list (LL.vals B.the-type B′.the-laws list)) (room-o : Room u8 (length os)) (few : list .len ≤ 66) where
   abbrev κs : Lfts 2
   κs = (κ, (κ′, tt))
@@ -222,7 +172,7 @@ module _ {M : Type 1} (𝓤 : URA M) (H : Heap 𝓤) (A : Atoms 𝓤) (W : Given
         assigns ! (addr ! (from ! (fld ! refl (hop ! (look-in ! 15 (sub ! 0 refl (whole !))) (stop !))))) (from ! (stop !)) (init ! 3 refl (tt, tt)) $
         assigns ! (agg ! (and-then ! (load ! (from ! (stop !)) (look ! 3 refl)) (and-then ! (load ! (from ! (fld ! refl (stop !))) (look-in ! 15 (sub ! 1 refl (whole !)))) (no-more !)))) (from ! (stop !)) (init ! 1 refl (tt, (tt, (record { fits = room-o .0 }, tt)))) $
         -- the local _4 is its elements, of which the first are lent for a lifetime that is made here
-        move ! (13 ∷ 0 ∷ []) $ use2 W (‵ (arr-parts (shares E) 66 .part fullShare xs l₄ 0)) (out-of-local 𝓤 H A W xs u l₄) $ fsplit ! $ feqL ! (λ len.
+        move ! (13 ∷ 0 ∷ []) $ use2 W (‵ (arr-parts (shares E) 66 .part fullShare xs l₄ 0)) (out-of-local 𝓤 H A W arrTy refl xs u l₄) $ fsplit ! $ feqL ! (λ len.
         use1 W (‵ (row E fullShare (take n xs) l₄ 0) ⊛ ‵ (row E fullShare (drop-list n xs) l₄ (past xs n))) (front-out 𝓤 H A W xs n l₄) $ split ! $ feqI ! ℕ (length (take n xs)) (length (take n xs)) refl $ fjoin ! $
         lft-new ! tt (λ ν. move ! (1 ∷ []) $
         use1 W (later (some (λ (γ′ : GName). ‵ (ShrSlice (named 1) (ν ∷ []) E .own (x xs l₄ ν γ′) (sliceVal (l₄, 0) (length (take n xs)) ∷ [])) ⊛ ‵ (flent (ν ∷ []) (arr-parts (shares E) (length (take n xs)) .part fullShare (take n xs) l₄ 0)))))
@@ -243,7 +193,8 @@ module _ {M : Type 1} (𝓤 : URA M) (H : Heap 𝓤) (A : Atoms 𝓤) (W : Given
         land ! (from ! (stop !)) (init ! 26 refl (LL.lawful D.the-type D′.the-laws 𝓤 H A W .typed r _ ir .0)) $
         -- the lifetime is ended, and the array put together
         move ! (1 ∷ []) $ split ! $ move ! (1 ∷ []) $ split ! $ lft-end ! tt $ move ! (0 ∷ 7 ∷ []) $ lent-back ! tt $ fsplit ! $ drop ! $ move ! (0 ∷ 7 ∷ []) $
-        use2 W (‵ (fat fullShare arrTy l₄ 0 (mach xs))) (into-local 𝓤 H A W xs n l₄ len) $
+        use2 W (‵ (row E fullShare xs l₄ 0)) (front-in 𝓤 H A W xs n l₄) $ feqI ! ℕ (length xs) 66 len $ fjoin ! $
+        use1 W (‵ (fat fullShare arrTy l₄ 0 (mach xs)) ⊛ ‵ (N .own xs (mach xs ∷ []))) (into-local 𝓤 H A W arrTy refl xs l₄) $ split ! $ move ! (1 ∷ []) $ drop ! $
         -- [_4; the buffer's token; the lines'; what the answer owns; the last buffer; what list owns; what the lines own; _10; …; and that _4 dies; …; _0; …]
         returns ! (look ! 26 refl) $ forget ! 0 refl $ forget ! 7 refl $ forget ! 9 refl $ forget ! 11 refl $ forget ! 13 refl $ forget ! 15 refl $ forget ! 17 refl $ forget ! 20 refl $ forget ! 22 refl $ forget ! 24 refl $ forget ! 26 refl $
         move ! (26 ∷ 27 ∷ []) $ free1 ! $ move ! (24 ∷ 25 ∷ []) $ free1 ! $ move ! (22 ∷ 23 ∷ []) $ free1 ! $ move ! (20 ∷ 21 ∷ []) $ free1 ! $ move ! (0 ∷ 19 ∷ []) $ free1 ! $

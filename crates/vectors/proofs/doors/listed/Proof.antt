@@ -1,12 +1,10 @@
 -- `listed` meets its contract: a walk of its MIR, by hand. The array that `blanks` gives is a local of the function. It is lent as a slice for a lifetime that the walk makes, `read_list` is called at that lifetime, the lifetime is ended, and the array is taken back with the list that `read_list` says.
---     out-of-local, into-local     a local that holds an array is its elements in memory, side by side, and back
 use Rattle.fields.proofs.Walk.{_≡_, refl, sym, _∙_, ap, subst, List, [], _∷_, ℕ, Holds, lit<, length, URA, fullShare, Ty, named, Val, WT, hasTy, SProp, ent, sep, emp, via, fst∗, snd∗, exE, id⊢, Lft, Share, Fml, ftrue, fat, flft, Memory, Routine, Heap, Calls, Loops, WpFn, Tables, Atoms, sem, Fun, fact, givenOf, tables, tablesOf, Given, Item, ‵, raw, _⊛_, ⋆, some, later, _$_, _∵_, !, qed, by, move, drop, use1, use2, split, join, rewrite, pick, fsplit, fjoin, suffices, frame, await, done, agg, look, init, forget, stop, from, load, lit, of-opd, and-then, no-more, assigns, land, returns, enter, alloc1, alloc0, params1, pass1, pass0, free1, free0, FmC, fmOf, WpFn-mono, RattleType, owns, Is, shows, u8, RefT, now, plain, sliceVal, ShrSlice, slice-vals, shr-slice-tells, shr-slice-copy, only, peeks, heard, nothing, Contract, Triple, calls-at, ensured, lasts, Vals, onEntry, Meets, tripleOf, entered, cited, says, Stays, stay-none-slice, walkOf, goes-none-slice, Walks, ends-at, walked, walk-meets, yes}
 use Rattle.lists.proofs.Walk.{replicate, GName, fsep, flent, keep, feqL, use3, fpick, fpack, addr, MutSlice, Room, Held, row, shares, arr-parts}
 use types.Tokens.{lft-new, lft-end}
 use types.SemTy.{cells, Arr}
-use denote.Memory.{cellAt, partAt, mem as in-memory, partOf}
-use denote.Array.{Array, array-vals, array-tells, array-lawful}
-use denote.ArrayMemory.{array-apart, array-whole}
+use denote.Memory.{mem as in-memory}
+use denote.Array.{array-lawful}
 use denote.Lend.{lends-slice, slice-back}
 use denote.Index.{whole-in, whole-out}
 use denote.Struct.Laws as LL
@@ -24,29 +22,20 @@ use Rattle.lists.proofs.read_list as read-list
 use Rattle.lists.proofs.read_list.Symbol as read-list-def
 use Rattle.lists.proofs.read_list.Symbol.{name as #lists·read-list}
 use Rattle.lists.proofs.read_list.Met as read-list-thm
-use Rattle.listed.proofs.blanks as blanks
-use Rattle.listed.proofs.blanks.Symbol as blanks-def
-use Rattle.listed.proofs.blanks.Symbol.{name as #listed·blanks}
-use Rattle.listed.proofs.blanks.Met as blanks-thm
-use Rattle.listed.proofs.listed.Key.{name as #listed·listed}
-use Rattle.listed.proofs.listed as listed
-use Rattle.listed.proofs.listed.Statement as stated
-use Rattle.listed.proofs.listed.Code as code
-use Rattle.listed.proofs.listed.Code.Mir as code-mir
+use Rattle.vectors.proofs.Arrays.{E, N, mach, out-of-local, into-local}
+use Rattle.vectors.proofs.doors.blanks as blanks
+use Rattle.vectors.proofs.doors.blanks.Symbol as blanks-def
+use Rattle.vectors.proofs.doors.blanks.Symbol.{name as #vectors·doors·blanks}
+use Rattle.vectors.proofs.doors.blanks.Met as blanks-thm
+use Rattle.vectors.proofs.doors.listed.Key.{name as #vectors·doors·listed}
+use Rattle.vectors.proofs.doors.listed as listed
+use Rattle.vectors.proofs.doors.listed.Statement as stated
+use Rattle.vectors.proofs.doors.listed.Code as code
+use Rattle.vectors.proofs.doors.listed.Code.Mir as code-mir
 
--- the element's and the array's types
-abbrev E : RattleType
-E = T.the-row
-
-abbrev N : RattleType
-N = Array E 64
-
+-- the type of the local that is lent
 abbrev arrTy : Ty
 arrTy = local-type code-mir.locals 2
-
--- the array's machine value
-abbrev mach : List Element → Val
-mach xs = only (array-vals (LL.vals T.the-type T′.the-laws) xs)
 
 abbrev stayed : Stays (listed.ended .signature .params) (listed.ended .kept)
 stayed = (stay-none-slice (0 ∷ []) tt (plain (λ _. u8)) yes, tt)
@@ -62,27 +51,11 @@ module _ {M : Type 1} (𝓤 : URA M) (H : Heap 𝓤) (A : Atoms 𝓤) (mem : Mem
   abbrev EnsuredBlanks : List Element → SProp 𝓤
   EnsuredBlanks xs = ensured 𝓤 H A blanks.ended (blanks.clauses 𝓤 H A mem run) tt tt tt xs
 
-  said-blanks : (xs : List Element) → ent 𝓤 (EnsuredBlanks xs) (fact 𝓤 (xs ≡ replicate 64 blank))
-  said-blanks xs = exE 𝓤 _ (λ ws. snd∗ 𝓤 (sem 𝓤 H A (lasts blanks.ended tt tt ws)) (fact 𝓤 (xs ≡ replicate 64 blank)))
+  said-blanks : (xs : List Element) → ent 𝓤 (EnsuredBlanks xs) (fact 𝓤 (xs ≡ replicate 66 blank))
+  said-blanks xs = exE 𝓤 _ (λ ws. snd∗ 𝓤 (sem 𝓤 H A (lasts blanks.ended tt tt ws)) (fact 𝓤 (xs ≡ replicate 66 blank)))
 
   abbrev to-blanks : Blanks .Ghost
   to-blanks = ((tt, tt, tt, tt, tt), tt)
-
-module _ {M : Type 1} (𝓤 : URA M) (H : Heap 𝓤) (A : Atoms 𝓤) (W : Given 𝓤 H A) where
-  out-of-local : (xs : List Element) (u : Val) (l : ℕ) → ent 𝓤 (sep 𝓤 (H .at fullShare arrTy l 0 u) (sem 𝓤 H A (N .own xs (u ∷ [])))) (sem 𝓤 H A (arr-parts (shares E) 64 .part fullShare xs l 0))
-  unfolding partOf
-  out-of-local xs u l =
-      qed W (‵ (fat fullShare arrTy l 0 u) ∷ ‵ (N .own xs (u ∷ [])) ∷ []) ∵ use1 W (‵ (cellAt fullShare (N .mir) (u ∷ []) l 0)) (W .laws .at-raw fullShare arrTy l 0 u) $
-      fjoin ! $ fpack ! (List Val) (λ us. fsep (cellAt fullShare (N .mir) us l 0) (N .own xs us)) (u ∷ []) $ by ! (array-apart 𝓤 H A W E fullShare tt 64 xs l 0)
-
-  into-local : (xs : List Element) (l : ℕ) → ent 𝓤 (sem 𝓤 H A (Arr (in-memory E) 64 .lies xs l 0)) (sep 𝓤 (H .at fullShare arrTy l 0 (mach xs)) (sem 𝓤 H A (N .own xs (mach xs ∷ []))))
-  unfolding partOf
-  into-local xs l =
-      qed W (‵ (Arr (in-memory E) 64 .lies xs l 0) ∷ []) ∵ fsplit ! $ move ! (1 ∷ []) $ use1 W (‵ (row E fullShare xs l 0)) (whole-out 𝓤 H A W E xs l 0) $ move ! (1 ∷ 0 ∷ []) $ fjoin ! $
-      use1 W (‵ (partAt N fullShare xs l 0)) (array-whole 𝓤 H A W E fullShare 64 xs l 0) $ fpick ! (λ vs. fsplit ! $ move ! (1 ∷ []) $
-      peeks ! N (Is N) (shows 𝓤 H A N) xs vs (λ is. rewrite ! 0 (λ (us : List Val). ‵ (N .own xs us)) (array-tells E (LL.vals T.the-type T′.the-laws) (LL.tells T.the-type T′.the-laws) 64 xs vs is) refl $
-      rewrite ! 1 (λ (us : List Val). ‵ (cellAt fullShare (N .mir) us l 0)) (array-tells E (LL.vals T.the-type T′.the-laws) (LL.tells T.the-type T′.the-laws) 64 xs vs is) refl $
-      move ! (1 ∷ []) $ use1 W (‵ (fat fullShare arrTy l 0 (mach xs))) (W .laws .raw-at fullShare arrTy l 0 (mach xs)) $ done !))
 
 module _ {M : Type 1} (𝓤 : URA M) (H : Heap 𝓤) (A : Atoms 𝓤) (W : Given 𝓤 H A) (mem : Memory → SProp 𝓤) (run : Routine → Fun 𝓤) (κ : Lft) (q : Share) (src : RefT (List ℕ)) (room-f : Room u8 (length (now src))) where
   abbrev fs : List ℕ
@@ -100,14 +73,14 @@ module _ {M : Type 1} (𝓤 : URA M) (H : Heap 𝓤) (A : Atoms 𝓤) (W : Given
   abbrev Own : Fml
   Own = ShrSlice (named 0) κ u8 .own src (vf ∷ [])
 
-  exits : (zs : List Element) → zs ≡ readLent fs (replicate 64 blank) → ent 𝓤 (⋆ 𝓤 H A (‵ (N .own zs (mach zs ∷ [])) ∷ ‵ (flft κ q) ∷ ‵ Own ∷ [])) (Post (mach zs))
+  exits : (zs : List Element) → zs ≡ readLent fs (replicate 66 blank) → ent 𝓤 (⋆ 𝓤 H A (‵ (N .own zs (mach zs ∷ [])) ∷ ‵ (flft κ q) ∷ ‵ Own ∷ [])) (Post (mach zs))
   exits zs e =
       qed W (‵ (N .own zs (mach zs ∷ [])) ∷ ‵ (flft κ q) ∷ ‵ Own ∷ []) ∵
       suffices ! _ (ends-at 𝓤 H A listed.ended stayed (listed.clauses 𝓤 H A mem run) W (((κ, tt), (q, tt), tt, (src, tt), at), tt) (mach zs) zs (tt, tt) (tt, tt)) $ says ! e $
       nothing ! $ move ! (2 ∷ 0 ∷ []) $ join ! $ frame ! $ nothing ! $ move ! (2 ∷ 0 ∷ []) $ fjoin ! $ frame ! $ done !
 
   typed : (xs : List Element) (u : Val) → Is N xs (u ∷ []) → Holds (hasTy arrTy u) × WT u
-  typed xs u is = array-lawful 𝓤 H A W E (LL.lawful T.the-type T′.the-laws 𝓤 H A W) 64 .typed xs (u ∷ []) is .0
+  typed xs u is = array-lawful 𝓤 H A W E (LL.lawful T.the-type T′.the-laws 𝓤 H A W) 66 .typed xs (u ∷ []) is .0
 
   -- ---- the call of `read_list`, with the list at l, lent for ν under the name γ
   abbrev x : ℕ → GName → List Element → RefT (List Element)
@@ -117,13 +90,13 @@ module _ {M : Type 1} (𝓤 : URA M) (H : Heap 𝓤) (A : Atoms 𝓤) (W : Given
   toks ν = ‵ (flft κ q) ⊛ ‵ (flft (ν ∷ []) fullShare) ⊛ ‵ ftrue
 
   abbrev to-read : ℕ → ℕ → GName → List Element → ReadList 𝓤 H A mem run .Ghost
-  to-read l ν γ xs = (((κ, (ν ∷ [], tt)), (q, (fullShare, tt)), tt, (src, (x l γ xs, tt)), (vf ∷ [], (sliceVal (l, 0) 64 ∷ [], tt))), tt)
+  to-read l ν γ xs = (((κ, (ν ∷ [], tt)), (q, (fullShare, tt)), tt, (src, (x l γ xs, tt)), (vf ∷ [], (sliceVal (l, 0) 66 ∷ [], tt))), tt)
 
-  goes-read : (l ν : ℕ) (γ : GName) (xs : List Element) → ent 𝓤 (onEntry 𝓤 H A read-list.signature (κ, (ν ∷ [], tt)) (q, (fullShare, tt)) (src, (x l γ xs, tt)) (vf ∷ [], (sliceVal (l, 0) 64 ∷ [], tt))) (ReadList 𝓤 H A mem run .pre (to-read l ν γ xs))
+  goes-read : (l ν : ℕ) (γ : GName) (xs : List Element) → ent 𝓤 (onEntry 𝓤 H A read-list.signature (κ, (ν ∷ [], tt)) (q, (fullShare, tt)) (src, (x l γ xs, tt)) (vf ∷ [], (sliceVal (l, 0) 66 ∷ [], tt))) (ReadList 𝓤 H A mem run .pre (to-read l ν γ xs))
   goes-read l ν γ xs =
-      qed W (toks ν ∷ ‵ (owns (ShrSlice (named 0) κ u8 ∷ MutSlice (named 1) (ν ∷ []) E ∷ []) (src, (x l γ xs, tt)) (vf ∷ [], (sliceVal (l, 0) 64 ∷ [], tt))) ∷ []) ∵ join ! $ frame ! $ done !
+      qed W (toks ν ∷ ‵ (owns (ShrSlice (named 0) κ u8 ∷ MutSlice (named 1) (ν ∷ []) E ∷ []) (src, (x l γ xs, tt)) (vf ∷ [], (sliceVal (l, 0) 66 ∷ [], tt))) ∷ []) ∵ join ! $ frame ! $ done !
 
-  module _ (C : Calls 𝓤 H) (Λ : Loops 𝓤 H) (fm : FmC 𝓤 H (W .laws) C) (known-blanks : Triple 𝓤 (C #listed·blanks) (Blanks 𝓤 H A mem run)) (known-read : Triple 𝓤 (C #lists·read-list) (ReadList 𝓤 H A mem run)) where
+  module _ (C : Calls 𝓤 H) (Λ : Loops 𝓤 H) (fm : FmC 𝓤 H (W .laws) C) (known-blanks : Triple 𝓤 (C #vectors·doors·blanks) (Blanks 𝓤 H A mem run)) (known-read : Triple 𝓤 (C #lists·read-list) (ReadList 𝓤 H A mem run)) where
     walk : ent 𝓤 (onEntry 𝓤 H A listed.signature (κ, tt) (q, tt) (src, tt) at) (WpFn 𝓤 H C Λ code.function (vf ∷ []) Post)
     walk =
         qed W ((‵ (flft κ q) ⊛ ‵ ftrue) ∷ ‵ (owns (ShrSlice (named 0) κ u8 ∷ []) (src, tt) at) ∷ []) ∵ enter ! C Λ code.function (vf ∷ []) _ $
@@ -131,14 +104,14 @@ module _ {M : Type 1} (𝓤 : URA M) (H : Heap 𝓤) (A : Atoms 𝓤) (W : Given
         pass1 ! (init ! 10 refl (tt, (tt, (record { fits = room-f .0 }, tt)))) $ pass0 ! $
         nothing ! $ use1 W (raw (Blanks 𝓤 H A mem run .pre (to-blanks 𝓤 H A mem run))) (qed W (‵ ftrue ∷ []) ∵ nothing ! $ join ! $ frame ! $ done !) $
         calls-at ! fm (Blanks 𝓤 H A mem run) known-blanks (to-blanks 𝓤 H A mem run) (no-more !) (λ u.
-        answers W ! tt (‵ ftrue) N (EnsuredBlanks 𝓤 H A mem run) (λ xs. xs ≡ replicate 64 blank) u (id⊢ 𝓤 _) (said-blanks 𝓤 H A mem run) (λ xs e is. move ! (1 ∷ []) $ drop ! $
+        answers W ! tt (‵ ftrue) N (EnsuredBlanks 𝓤 H A mem run) (λ xs. xs ≡ replicate 66 blank) u (id⊢ 𝓤 _) (said-blanks 𝓤 H A mem run) (λ xs e is. move ! (1 ∷ []) $ drop ! $
         -- [what the array owns; _6; …; _5; …; _4; …; _3; …; _2; …; _1; …; room for _0; …; the token; what file owns]
         land ! (from ! (stop !)) (init ! 7 refl (typed xs u is)) $
         assigns ! (of-opd ! (load ! (from ! (stop !)) (look ! 7 refl))) (from ! (stop !)) (init ! 9 refl (typed xs u is)) $
         assigns ! (addr ! (from ! (stop !))) (from ! (stop !)) (init ! 3 refl (tt, tt)) $
         assigns ! (agg ! (and-then ! (load ! (from ! (stop !)) (look ! 3 refl)) (and-then ! (lit ! tt) (no-more !)))) (from ! (stop !)) (init ! 1 refl (tt, (tt, (record { fits = lit< tt }, tt)))) $
         -- the local is its elements, which are lent for a lifetime that is made here
-        move ! (9 ∷ 0 ∷ []) $ use2 W (‵ (arr-parts (shares E) 64 .part fullShare xs l₂ 0)) (out-of-local 𝓤 H A W xs u l₂) $ fsplit ! $ feqL ! (λ len. use1 W (‵ (cells (in-memory E) xs l₂ 0)) (whole-in 𝓤 H A W E xs l₂ 0) $
+        move ! (9 ∷ 0 ∷ []) $ use2 W (‵ (arr-parts (shares E) 66 .part fullShare xs l₂ 0)) (out-of-local 𝓤 H A W arrTy refl xs u l₂) $ fsplit ! $ feqL ! (λ len. use1 W (‵ (cells (in-memory E) xs l₂ 0)) (whole-in 𝓤 H A W E xs l₂ 0) $
         lft-new ! tt (λ ν. move ! (1 ∷ []) $
         use1 W (later (some (λ (γ : GName). ‵ (MutSlice (named 1) (ν ∷ []) E .own (x l₂ γ xs) (sliceVal (l₂, 0) (length xs) ∷ [])) ⊛ ‵ (flent (ν ∷ []) (Held E (length xs) l₂ 0 γ)))))
         (lends-slice 𝓤 H A W E (named 1) (ν ∷ []) xs l₂ 0 (subst (Room E) (sym len) (lit< tt, lit< tt))) $ await ! tt $ pick ! (λ γ. split ! $
@@ -159,7 +132,8 @@ module _ {M : Type 1} (𝓤 : URA M) (H : Heap 𝓤) (A : Atoms 𝓤) (W : Given
         split ! $ move ! (1 ∷ []) $ split ! $ lft-end ! tt $ move ! (0 ∷ 5 ∷ 3 ∷ []) $
         use3 W (later (‵ (Arr (in-memory E) (length xs) .lies (ws .1 .0) l₂ 0))) (slice-back 𝓤 H A W E (ν ∷ []) γ (ws .1 .0) (length xs) l₂ 0) $ await ! tt $
         rewrite ! 0 (λ (n : ℕ). ‵ (Arr (in-memory E) n .lies (ws .1 .0) l₂ 0)) len refl $
-        use1 W (‵ (fat fullShare arrTy l₂ 0 (mach (ws .1 .0))) ⊛ ‵ (N .own (ws .1 .0) (mach (ws .1 .0) ∷ []))) (into-local 𝓤 H A W (ws .1 .0) l₂) $ split ! $ move ! (1 ∷ []) $
+        fsplit ! $ move ! (1 ∷ []) $ use1 W (‵ (row E fullShare (ws .1 .0) l₂ 0)) (whole-out 𝓤 H A W E (ws .1 .0) l₂ 0) $ move ! (1 ∷ 0 ∷ []) $ fjoin ! $
+        use1 W (‵ (fat fullShare arrTy l₂ 0 (mach (ws .1 .0))) ⊛ ‵ (N .own (ws .1 .0) (mach (ws .1 .0) ∷ []))) (into-local 𝓤 H A W arrTy refl (ws .1 .0) l₂) $ split ! $ move ! (1 ∷ []) $
         peeks ! N (Is N) (shows 𝓤 H A N) (ws .1 .0) (mach (ws .1 .0) ∷ []) (λ iz.
         -- [what the array owns; _2; true; the token; what file owns; _6; …; _5; …; _4; …; _3; …; and that _2 dies; _1; …; room for _0; …]
         assigns ! (of-opd ! (load ! (from ! (stop !)) (look ! 1 refl))) (from ! (stop !)) (init ! 16 refl (typed (ws .1 .0) (mach (ws .1 .0)) iz)) $
@@ -169,13 +143,13 @@ module _ {M : Type 1} (𝓤 : URA M) (H : Heap 𝓤) (A : Atoms 𝓤) (W : Given
         by ! (exits (ws .1 .0) (e₂ .1 ∙ ap (readLent fs) e)))))))))))))))))))))
 
 module _ {M : Type 1} (𝓤 : URA M) (H : Heap 𝓤) (A : Atoms 𝓤) (W : Given 𝓤 H A) (mem : Memory → SProp 𝓤) (run : Routine → Fun 𝓤) where
-  listed-walks : (C : Calls 𝓤 H) (Λ : Loops 𝓤 H) → FmC 𝓤 H (W .laws) C → Triple 𝓤 (C #listed·blanks) (Blanks 𝓤 H A mem run) → Triple 𝓤 (C #lists·read-list) (ReadList 𝓤 H A mem run)
+  listed-walks : (C : Calls 𝓤 H) (Λ : Loops 𝓤 H) → FmC 𝓤 H (W .laws) C → Triple 𝓤 (C #vectors·doors·blanks) (Blanks 𝓤 H A mem run) → Triple 𝓤 (C #lists·read-list) (ReadList 𝓤 H A mem run)
       → Walks 𝓤 H A listed.ended stayed (WpFn 𝓤 H C Λ code.function) (listed.clauses 𝓤 H A mem run)
   listed-walks C Λ fm known-blanks known-read = walked 𝓤 H A listed.ended stayed (listed.clauses 𝓤 H A mem run) (WpFn 𝓤 H C Λ code.function) (λ κs. (slice-vals, tt)) (λ κs. (shr-slice-tells (named 0) (κs .0) u8, tt))
       (λ κs qs bounds a g are. via 𝓤 _ (fst∗ 𝓤 _ (emp 𝓤)) (walk 𝓤 H A W mem run (κs .0) (qs .0) (a .0) (are .0 .0 .1) C Λ fm known-blanks known-read))
 
 listed-meets : {M : Type 1} (𝓤 : URA M) (H : Heap 𝓤) (A : Atoms 𝓤) (W : Given 𝓤 H A) (mem : Memory → SProp 𝓤) (run : Routine → Fun 𝓤) (𝓣 : Tables 𝓤 H)
-    → Triple 𝓤 (𝓣 .C #listed·blanks) (Blanks 𝓤 H A mem run) → Triple 𝓤 (𝓣 .C #lists·read-list) (ReadList 𝓤 H A mem run)
+    → Triple 𝓤 (𝓣 .C #vectors·doors·blanks) (Blanks 𝓤 H A mem run) → Triple 𝓤 (𝓣 .C #lists·read-list) (ReadList 𝓤 H A mem run)
     → Meets 𝓤 H A listed.signature (WpFn 𝓤 H (𝓣 .C) (𝓣 .Λ) code.function) (listed.spec 𝓤 H A mem run)
 listed-meets 𝓤 H A W mem run 𝓣 known-blanks known-read =
     walk-meets 𝓤 H A listed.ended stayed W (goes-none-slice 𝓤 H A W 1 (0 ∷ []) tt (plain (λ _. u8)) yes, tt) (listed.clauses 𝓤 H A mem run)
@@ -185,7 +159,7 @@ pub listed-spec : {M : Type 1} → stated.statement M
 unfolding code.routine tablesOf
 listed-spec 𝓤 H 𝓜 𝓖 𝓡 =
     entered 𝓤 H (tripleOf 𝓤 H (𝓖 .A) listed.signature (listed.spec 𝓤 H (𝓖 .A) (𝓜 .mem) (𝓡 .run)))
-    (tables 𝓤 H 𝓜 𝓡 code.env .C) (tables 𝓤 H 𝓜 𝓡 code.env .Λ) #listed·listed code.function (code.unfolded 𝓤 H 𝓜 𝓡)
+    (tables 𝓤 H 𝓜 𝓡 code.env .C) (tables 𝓤 H 𝓜 𝓡 code.env .Λ) #vectors·doors·listed code.function (code.unfolded 𝓤 H 𝓜 𝓡)
     (listed-meets 𝓤 H (𝓖 .A) (givenOf 𝓤 H 𝓜 𝓖) (𝓜 .mem) (𝓡 .run) (tablesOf 𝓤 H 𝓜 (tables 𝓤 H 𝓜 𝓡 code.env))
-    (cited 𝓤 H (Blanks 𝓤 H (𝓖 .A) (𝓜 .mem) (𝓡 .run)) 𝓜 𝓡 code.env #listed·blanks blanks-def.routine code.calls-listed·blanks (blanks-thm.met 𝓤 H 𝓜 𝓖 𝓡))
+    (cited 𝓤 H (Blanks 𝓤 H (𝓖 .A) (𝓜 .mem) (𝓡 .run)) 𝓜 𝓡 code.env #vectors·doors·blanks blanks-def.routine code.calls-vectors·doors·blanks (blanks-thm.met 𝓤 H 𝓜 𝓖 𝓡))
     (cited 𝓤 H (ReadList 𝓤 H (𝓖 .A) (𝓜 .mem) (𝓡 .run)) 𝓜 𝓡 code.env #lists·read-list read-list-def.routine code.calls-lists·read-list (read-list-thm.met 𝓤 H 𝓜 𝓖 𝓡)))

@@ -1,9 +1,9 @@
 -- `blanks` meets its contract: the first place of no elements is blank.
 use borrow.Author.Needs.{needs}
-use Rattle.listed.proofs.blanks.Statement.{statement}
-use Rattle.listed.proofs.blanks.Tie as tie
-use Rattle.listed.proofs.blanks.Reads as reads
-use Rattle.listed.proofs.blanks.Lts as lts
+use Rattle.vectors.proofs.doors.blanks.Statement.{statement}
+use Rattle.vectors.proofs.doors.blanks.Tie as tie
+use Rattle.vectors.proofs.doors.blanks.Reads as reads
+use Rattle.vectors.proofs.doors.blanks.Lts as lts
 use Rattle.elements.proofs.none.Reads as none-reads
 
 returns : tie.Need-returns

@@ -1,0 +1,2 @@
+-- Laws that the walks by hand share.
+mod Arrays
