@@ -11,6 +11,8 @@ use denote.Struct.Laws as LL
 use Rattle.meaning.specs.declared.Answer.{Answer}
 use Rattle.meaning.specs.declared.Element.{Element}
 use Rattle.meaning.specs.Operations.{writeAnswer, writeLent}
+use Rattle.meaning.specs.Claims.Texts.{All}
+use Rattle.meaning.specs.Claims.Writing.{Shaped}
 use Rattle.meaning.proofs.Answer as D
 use Rattle.meaning.proofs.Answer.Laws as D′
 use Rattle.meaning.proofs.Element as T
@@ -104,6 +106,10 @@ module _ {M : Type 1} (𝓤 : URA M) (H : Heap 𝓤) (A : Atoms 𝓤) (W : Given
   abbrev Told : List Element → Answer → List ℕ → Type 0
   Told xs r zs = (r ≡ writeAnswer hs (take n xs) os) × (zs ≡ writeLent hs (take n xs) os)
 
+  -- the same, and what `write_list` says of the elements besides
+  abbrev Heard : List Element → Answer → List ℕ → Type 0
+  Heard xs r zs = (r ≡ writeAnswer hs (take n xs) os) × (zs ≡ writeLent hs (take n xs) os) × (r .number ≡ 0 → All Shaped (take n xs))
+
   exits : (r : Answer) (w : Val) (zs : List ℕ) → Told (list .all) r zs → length zs ≡ length os
       → ent 𝓤 (⋆ 𝓤 H A (Tok′ ∷ ‵ (flft κ q) ∷ ‵ (D.the-row .own r (w ∷ [])) ∷ ‵ (finally u8 γ zs) ∷ ‵ OwnL ∷ ‵ OwnH ∷ [])) (Post w)
   exits r w zs e len =
@@ -186,8 +192,8 @@ module _ {M : Type 1} (𝓤 : URA M) (H : Heap 𝓤) (A : Atoms 𝓤) (W : Given
         -- [the call; what list owns; what the lines own; the lender's part; the other elements; _10; …]
         calls-at ! fm (WriteList 𝓤 H A mem run) known-write (to-write xs l₄ ν γ′) (and-then ! (load ! (from ! (stop !)) (look ! 22 refl)) (and-then ! (load ! (from ! (stop !)) (look ! 9 refl)) (and-then ! (load ! (from ! (stop !)) (look ! 5 refl)) (no-more !)))) (λ w.
         use1 W (later (some (λ (r : Answer). (Toks xs l₄ ν γ′ ⊛ ‵ (D.the-row .own r (w ∷ []))) ⊛ raw (ensured 𝓤 H A write-list.ended (write-list.clauses 𝓤 H A mem run) (κ, (ν ∷ [], (κ′, tt))) (src, (x xs l₄ ν γ′, (y, tt))) tt r)))) (id⊢ 𝓤 _) $ await ! tt $ pick ! (λ r.
-        split ! $ move ! (1 ∷ []) $ use1 W (some (λ (ws : Unit {0} × (Unit {0} × (List ℕ × Unit {0}))). ‵ (lasts write-list.ended (κ, (ν ∷ [], (κ′, tt))) (src, (x xs l₄ ν γ′, (y, tt))) ws) ⊛ raw (fact 𝓤 (Told xs r (ws .1 .1 .0))))) (id⊢ 𝓤 _) $ pick ! (λ ws.
-        split ! $ move ! (1 ∷ []) $ heard ! (Told xs r (ws .1 .1 .0)) (λ e. fsplit ! $ drop ! $ fsplit ! $ drop ! $ fsplit ! $ fsplit ! $ move ! (1 ∷ []) $ feqL ! (λ long.
+        split ! $ move ! (1 ∷ []) $ use1 W (some (λ (ws : Unit {0} × (Unit {0} × (List ℕ × Unit {0}))). ‵ (lasts write-list.ended (κ, (ν ∷ [], (κ′, tt))) (src, (x xs l₄ ν γ′, (y, tt))) ws) ⊛ raw (fact 𝓤 (Heard xs r (ws .1 .1 .0))))) (id⊢ 𝓤 _) $ pick ! (λ ws.
+        split ! $ move ! (1 ∷ []) $ heard ! (Heard xs r (ws .1 .1 .0)) (λ e. fsplit ! $ drop ! $ fsplit ! $ drop ! $ fsplit ! $ fsplit ! $ move ! (1 ∷ []) $ feqL ! (λ long.
         move ! (1 ∷ []) $ drop ! $ move ! (1 ∷ []) $ split ! $ move ! (1 ∷ []) $ peeks ! D.the-row (Is D.the-row) (shows 𝓤 H A D.the-row) r (w ∷ []) (λ ir.
         -- [what the answer owns; the tokens; the last buffer; what list owns; what the lines own; the lender's part; the other elements; _10; …]
         land ! (from ! (stop !)) (init ! 26 refl (LL.lawful D.the-type D′.the-laws 𝓤 H A W .typed r _ ir .0)) $
