@@ -1,13 +1,14 @@
 // What the program prints of a policy file: its report, or the line `E`.
 ghost use mathlib.Core.Path.{_≡_};
+ghost use mathlib.Core.List.{_++_};
 ghost use Prim.Native.Nat.{_≤_};
-ghost use lib.ListN.{length, take};
+ghost use lib.ListN.{length, drop};
 ghost use Rattle.meaning.specs.Report.{program};
 
-// The text, in a buffer of 65,536 bytes. How long it is, is the result.
+// The text, in a buffer of 65,536 bytes; what is behind it stays. How long it is, is the result.
 pub fn print(file: &[u8], out: &mut [u8]) -> usize
     requires { ⌜ length (now out) ≡ 65536 ⌝ }
-    ensures { λ r. ⌜ (take r (now (out .exit)) ≡ program (now (file .entry))) × (r ≤ 65536) ⌝ }
+    ensures { λ r. ⌜ (r ≡ length (program (now (file .entry)))) × (now (out .exit) ≡ program (now (file .entry)) ++ drop r (now (out .entry))) × (r ≤ 65536) ⌝ }
 {
     let answer = jogimaduve::jogimaduve_report(file, out);
     let number = answer.number;
