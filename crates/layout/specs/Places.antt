@@ -4,7 +4,7 @@ use mathlib.Core.Bool.{cond}
 use mathlib.Core.List.{List, [], _∷_}
 use mathlib.Core.Path.{_≡_}
 use lib.Dec.{eqb}
-use lib.ListN.{length, take, drop, getD, set}
+use lib.ListN.{length, take, drop, getD, set, replicate}
 use Rattle.meaning.specs.declared.Kind.{Kind}
 use Rattle.meaning.specs.declared.Kind.the-variants.{Set, Policy, Rule}
 use Rattle.meaning.specs.declared.Element.{Element}
@@ -44,7 +44,10 @@ pub record AllStanding (f : Bytes) (a : Attributes) : Type 0 where
   pub few : a .len ≤ 6
   pub each : (i : ℕ) → i < a .len → Standing f a i
 
--- one attribute more behind those that are there
+-- no attribute; and one more behind those that are there
+abbrev pub noAttributes : Attributes
+noAttributes = record { names = replicate 6 0; values = replicate 6 0; ends = replicate 6 0; counts = replicate 6 0; len = 0 }
+
 abbrev pub added : Attributes → (name value end count : ℕ) → Attributes
 added a name value end count =
     record {

@@ -8,7 +8,7 @@ ghost use lib.Seq.{sets};
 ghost use Rattle.meaning.specs.declared.Element.{Element};
 ghost use Rattle.meaning.specs.Text.{amongNames};
 ghost use Rattle.meaning.specs.Reading.{wellPlaced};
-ghost use Rattle.layout.specs.Places.{attributesOf, AllStanding, added, namesTo, Named};
+ghost use Rattle.layout.specs.Places.{attributesOf, AllStanding, noAttributes, added, namesTo, Named};
 ghost use Rattle.layout.specs.Nearest.{kindNumber, parentNumber, Stands};
 
 // Where each attribute stands: the start of its name, of its first value, the end of its line; and its value count.
@@ -32,6 +32,19 @@ pub struct Row {
     pub word: u16,
     pub depth: u16,
     pub masks: [u16; 6],
+}
+
+// No attribute.
+pub fn no_attributes() -> Attributes
+    ensures { λ r. ⌜ r ≡ noAttributes ⌝ }
+{
+    Attributes {
+        names: [0; 6],
+        values: [0; 6],
+        ends: [0; 6],
+        counts: [0; 6],
+        len: 0,
+    }
 }
 
 // Whether an attribute has this name.

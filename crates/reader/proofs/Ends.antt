@@ -9,24 +9,20 @@ use lib.ListN.{length, replicate}
 use borrow.Author.Tests.{eq-eqb, ne-eqb}
 use Rattle.meaning.specs.Model.{refused}
 use Rattle.meaning.specs.Reading.{nothing, finished}
-use Rattle.layout.specs.declared.Attributes.{Attributes}
 use Rattle.layout.specs.declared.Tree.{Tree}
-use Rattle.layout.specs.Places.{attributesFrom, elementsTo, Lined, lineStart}
+use Rattle.layout.specs.Places.{noAttributes, attributesFrom, elementsTo, Lined, lineStart}
 use Rattle.layout.proofs.Laws.{empty-stands}
 use Rattle.reader.specs.declared.State.{State}
 use Rattle.reader.specs.declared.Reading.{Reading}
 use Rattle.reader.proofs.AttributeLines.{no-elements}
-use Rattle.reader.specs.Steps.{Ready, readSofar, ReadAs}
+use Rattle.reader.specs.Steps.{Ready, readSofar, refusedWith, ReadAs}
 
 -- before the first line
-abbrev pub none-yet : Attributes
-none-yet = record { names = replicate 6 0; values = replicate 6 0; ends = replicate 6 0; counts = replicate 6 0; len = 0 }
-
 abbrev pub no-tree : Tree
 no-tree = record { len = 0; depth = 0; kinds = replicate 8 0 }
 
 abbrev pub beginning : State
-beginning = record { at = 0; line = 1; attributes = none-yet; space = 1; tree = no-tree }
+beginning = record { at = 0; line = 1; attributes = noAttributes; space = 1; tree = no-tree }
 
 pub beginning-ready : (f table places : List ℕ) → 512 ≤ length table → 128 ≤ length places → Ready f table places beginning × (readSofar f table places beginning ≡ nothing)
 unfolding attributesFrom elementsTo lineStart
@@ -51,21 +47,19 @@ module _ (f table places : List ℕ) (st : State) (end : ℕ) (ready : Ready f t
   abbrev ending : Reading → Type 0
   ending r = ReadAs f table places r (cond (eqb (st .at) end) (finished (readSofar f table places st)) (refused 2 (st .line)))
 
-  abbrev told : ℕ → ℕ → Reading
-  told n m = record { number = n; second = m; attributes = st .attributes; space = st .space; elements = st .tree .len }
-
   -- bytes behind the last newline
-  pub left-over : (st .at ≡ end → ⊥) → st .line ≤ 16385 → ending (told 2 (st .line))
-  left-over h l = rw (ne-eqb (st .at) end h) (record { number = refl; second = refl; not-zero = lit≤ tt; low = lit≤ tt; small = l })
+  pub left-over : {r : Reading} → r ≡ refusedWith 2 (st .line) → (st .at ≡ end → ⊥) → st .line ≤ 16385 → ending r
+  left-over is h l = rw (ne-eqb (st .at) end h) (record { is = is; not-zero = lit≤ tt; low = lit≤ tt; small = l })
 
   -- no tree line
-  pub no-element : st .at ≡ end → st .tree .len ≡ 0 → ending (told 9 0)
-  no-element e z = rw (eq-eqb (st .at) end e, no-elements f table places (st .tree .len), eq-eqb (st .tree .len) 0 z) (record { number = refl; second = refl; not-zero = lit≤ tt; low = lit≤ tt; small = zero-le })
+  pub no-element : {r : Reading} → r ≡ refusedWith 9 0 → st .at ≡ end → st .tree .len ≡ 0 → ending r
+  no-element is e z = rw (eq-eqb (st .at) end e, no-elements f table places (st .tree .len), eq-eqb (st .tree .len) 0 z) (record { is = is; not-zero = lit≤ tt; low = lit≤ tt; small = zero-le })
 
   -- the policy
-  pub all-read : st .at ≡ end → (st .tree .len ≡ 0 → ⊥) → end ≡ length f → ending (told 0 0)
+  pub all-read : st .at ≡ end → (st .tree .len ≡ 0 → ⊥) → end ≡ length f → ending (record { number = 0; second = 0; attributes = st .attributes; space = st .space; elements = st .tree .len })
   all-read e n whole = rw (eq-eqb (st .at) end e, no-elements f table places (st .tree .len), ne-eqb (st .tree .len) 0 n) (record {
     number = refl;
+    second = refl;
     attributes = refl;
     elements = refl;
     space-is = ready .begun .space-is;

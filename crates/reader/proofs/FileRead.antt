@@ -22,21 +22,21 @@ module _ (f table places : List ℕ) (r : Reading) (is-read : ReadAs f table pla
   small-numbers h = go (read f) is-read
     where
       go : (x : Result Policy) → ReadAs f table places r x → (r .number ≤ 9) × (r .second ≤ 16385)
-      go (refused n m) t = (omega (arith, t .number, t .low), omega (arith, t .second, t .small))
+      go (refused n m) t = rw (t .is) (t .low, t .small)
       go (given p) t = absurd (h (t .number))
 
   pub file-refused : (r .number ≡ 0 → ⊥) → read f ≡ refused (r .number) (r .second)
   file-refused h = go (read f) refl is-read
     where
       go : (x : Result Policy) → read f ≡ x → ReadAs f table places r x → read f ≡ refused (r .number) (r .second)
-      go (refused n m) e t = rw (t .number, t .second) e
+      go (refused n m) e t = rw (t .is) e
       go (given p) e t = absurd (h (t .number))
 
   pub file-read : r .number ≡ 0 → (p : Policy) × (read f ≡ given p) × Holds f table places r p
   file-read z = go (read f) refl is-read
     where
       go : (x : Result Policy) → read f ≡ x → ReadAs f table places r x → (p : Policy) × (read f ≡ given p) × Holds f table places r p
-      go (refused n m) e t = absurd (omega (arith, t .number, t .not-zero))
+      go (refused n m) e t = absurd (omega (arith, ap (λ x. x .number) (t .is), t .not-zero))
       go (given p) e t = (p, e, t)
 
 -- The elements of a file that was read

@@ -15,7 +15,7 @@ use Rattle.layout.specs.Places.{part}
 use Rattle.reader.specs.declared.State.{State}
 use Rattle.reader.specs.declared.Reading.{Reading}
 use Rattle.reader.specs.Sofar.{refusalBy, refusalOf}
-use Rattle.reader.specs.Steps.{Ready, Next, readSofar, ReadAs}
+use Rattle.reader.specs.Steps.{Ready, Next, readSofar, refusedWith, ReadAs}
 use Rattle.reader.proofs.Remaining.{linesFrom, none-left, one-refused, one-read, lowest-within}
 
 -- the file from place `at` on, the first of whose lines has number n, behind s
@@ -65,9 +65,9 @@ Keeps f table places st = read f ≡ remaining f (st .at) (st .line) (readSofar 
 pub keeps-first : (f table places : List ℕ) (st : State) → length f ≤ 16384 → (st .at ≡ 0) × (st .line ≡ 1) → readSofar f table places st ≡ nothing → Keeps f table places st
 keeps-first f table places st l (a, n) e = all-remains f l ∙ sym (rw (a, n, e))
 
--- a refusal's two numbers
-pub refusal-told : (f table places : List ℕ) (r : Reading) (n m : ℕ) → read f ≡ refused n m → r .number ≡ n → r .second ≡ m → 1 ≤ n → n ≤ 9 → m ≤ 16385 → ReadAs f table places r (read f)
-refusal-told f table places r n m e a b p low l = subst⁻¹ (ReadAs f table places r) e (record { number = a; second = b; not-zero = p; low = low; small = l })
+-- what is told of a refusal
+pub refusal-told : (f table places : List ℕ) (r : Reading) (n m : ℕ) → read f ≡ refused n m → r ≡ refusedWith n m → 1 ≤ n → n ≤ 9 → m ≤ 16385 → ReadAs f table places r (read f)
+refusal-told f table places r n m e is p low l = subst⁻¹ (ReadAs f table places r) e (record { is = is; not-zero = p; low = low; small = l })
 
 module _ (f table places : List ℕ) (st : State) (ready : Ready f table places st) (size : length f ≤ 16384) (keeps : Keeps f table places st)
     (end : ℕ) (ends : end ≡ st .at + length (getD (cut newline (drop (st .at) f)) 0 [])) where
@@ -80,9 +80,9 @@ module _ (f table places : List ℕ) (st : State) (ready : Ready f table places 
 
   -- a line that is refused, and one that is not
   module _ (inside : end < length f) (refusal : ℕ) (is-refusal : refusal ≡ refusalOf (readSofar f table places st) (cut tab (part f (st .at) end))) where
-    pub refused-here : (t p : List ℕ) (r : Reading) → (refusal ≡ 0 → ⊥) → r .number ≡ refusal → r .second ≡ st .line → ReadAs f t p r (read f)
-    refused-here t p r h a b =
-        refusal-told f t p r refusal (st .line) (keeps ∙ line-refused f (st .at) (st .line) (readSofar f table places st) end ends inside (λ z. h (is-refusal ∙ z)) ∙ ap (λ k. refused k (st .line)) (sym is-refusal)) a b (not-zero refusal h) (omega (arith, is-refusal, refusal-low (readSofar f table places st) (cut tab (part f (st .at) end)))) few-lines
+    pub refused-here : (t p : List ℕ) (r : Reading) → (refusal ≡ 0 → ⊥) → r ≡ refusedWith refusal (st .line) → ReadAs f t p r (read f)
+    refused-here t p r h is =
+        refusal-told f t p r refusal (st .line) (keeps ∙ line-refused f (st .at) (st .line) (readSofar f table places st) end ends inside (λ z. h (is-refusal ∙ z)) ∙ ap (λ k. refused k (st .line)) (sym is-refusal)) is (not-zero refusal h) (omega (arith, is-refusal, refusal-low (readSofar f table places st) (cut tab (part f (st .at) end)))) few-lines
       where
         not-zero : (k : ℕ) → (k ≡ 0 → ⊥) → 1 ≤ k
         not-zero k h = omega arith

@@ -9,7 +9,7 @@ use Rattle.meaning.specs.Text.{Bytes, cut, tab, newline}
 use Rattle.meaning.specs.Model.{Policy, space, Result, refused, given}
 use Rattle.meaning.specs.Reading.{depthOf, lineOf, Sofar, extended}
 use Rattle.layout.specs.declared.Attributes.{Attributes}
-use Rattle.layout.specs.Places.{part, attributesOf, AllStanding, elementsTo, Named, lineStart, Lined}
+use Rattle.layout.specs.Places.{part, attributesOf, AllStanding, noAttributes, elementsTo, Named, lineStart, Lined}
 use Rattle.layout.specs.Nearest.{Stands}
 use Rattle.reader.specs.declared.State.{State}
 use Rattle.reader.specs.declared.Step.{Step}
@@ -88,16 +88,19 @@ pub record StepIs (f table₀ places₀ table places : List ℕ) (st : State) (e
   pub refusal : r .refusal ≡ refusalOf (readSofar f table₀ places₀ st) (cut tab (part f (st .at) end))
   pub next : r .refusal ≡ 0 → Next f table places (readSofar f table₀ places₀ st) (cut tab (part f (st .at) end)) end (st .line) (r .state)
 
--- A file: its refusal, with small numbers; or the policy, by the places and the table
+-- A file: its refusal, with small numbers and nothing read; or the policy, by the places and the table
+abbrev pub refusedWith : ℕ → ℕ → Reading
+refusedWith n m = record { number = n; second = m; attributes = noAttributes; space = 1; elements = 0 }
+
 pub record Refused (n m : ℕ) (r : Reading) : Type 0 where
-  pub number : r .number ≡ n
-  pub second : r .second ≡ m
+  pub is : r ≡ refusedWith n m
   pub not-zero : 1 ≤ n
   pub low : n ≤ 9
   pub small : m ≤ 16385
 
 pub record Holds (f table places : List ℕ) (r : Reading) (p : Policy) : Type 0 where
   pub number : r .number ≡ 0
+  pub second : r .second ≡ 0
   pub attributes : p .attributes ≡ attributesOf f (r .attributes)
   pub elements : p .elements ≡ reverse (elementsTo f table places (r .elements))
   pub space-is : r .space ≡ space (attributesOf f (r .attributes))

@@ -18,7 +18,7 @@ ghost use Rattle.meaning.specs.Model.{refused};
 ghost use Rattle.meaning.specs.Reading.{nothing, finished, read as readFile};
 ghost use Rattle.layout.specs.Places.{part};
 ghost use Rattle.reader.specs.Sofar.{Tested, AttributeRefusal, AttributeLine, CountIs, ShapeIs};
-ghost use Rattle.reader.specs.Steps.{Begun, Ready, Line, LineAt, readSofar, StepIs, ReadAs};
+ghost use Rattle.reader.specs.Steps.{Begun, Ready, Line, LineAt, readSofar, StepIs, refusedWith, ReadAs};
 
 // Where the reader stands: the next line's start and number, what was read, and the space so far.
 pub struct State {
@@ -41,7 +41,7 @@ pub struct LineShape {
     pub fields: usize,
 }
 
-// A file as it was read: a refusal's two numbers, or 0, 0 and what was read.
+// A file as it was read: a refusal's two numbers and nothing read, or 0, 0 and what was read.
 pub struct Reading {
     pub number: usize,
     pub second: usize,
@@ -178,13 +178,7 @@ pub fn start() -> State
     ensures { λ r. ⌜ ((f table places : List ℕ) → 512 ≤ length table → 128 ≤ length places → Ready f table places r × (readSofar f table places r ≡ nothing)) ⌝ }
     ensures at { λ r. ⌜ (r .at ≡ 0) × (r .line ≡ 1) ⌝ }
 {
-    let attributes = Attributes {
-        names: [0; 6],
-        values: [0; 6],
-        ends: [0; 6],
-        counts: [0; 6],
-        len: 0,
-    };
+    let attributes = layout::no_attributes();
     let tree = Tree {
         len: 0,
         depth: 0,
@@ -199,6 +193,20 @@ pub fn start() -> State
     }
 }
 
+// A file that is refused: nothing of it counts as read.
+fn refuse(number: usize, second: usize) -> Reading
+    ensures { λ r. ⌜ r ≡ refusedWith number second ⌝ }
+{
+    let attributes = layout::no_attributes();
+    Reading {
+        number,
+        second,
+        attributes,
+        space: 1,
+        elements: 0,
+    }
+}
+
 // What stands behind the last newline, and the end of the file.
 fn finish(st: State, end: usize) -> Reading
     ensures { λ r. ⌜ ((f table places : List ℕ) → Ready f table places st → st .line ≤ 16385 → end ≡ length f
@@ -209,22 +217,10 @@ fn finish(st: State, end: usize) -> Reading
     let elements = tree.len;
     let space = st.space;
     if st.at != end {
-        return Reading {
-            number: 2,
-            second: st.line,
-            attributes,
-            space,
-            elements,
-        };
+        return refuse(2, st.line);
     }
     if elements == 0 {
-        return Reading {
-            number: 9,
-            second: 0,
-            attributes,
-            space,
-            elements,
-        };
+        return refuse(9, 0);
     }
     Reading {
         number: 0,
@@ -242,14 +238,7 @@ pub fn read(file: &[u8], table: &mut [u16], places: &mut [usize]) -> Reading
 {
     let mut st = start();
     if 16384 < file.len() {
-        let attributes = st.attributes;
-        return Reading {
-            number: 1,
-            second: 0,
-            attributes,
-            space: 1,
-            elements: 0,
-        };
+        return refuse(1, 0);
     }
     loop {
         let at = st.at;
@@ -262,14 +251,7 @@ pub fn read(file: &[u8], table: &mut [u16], places: &mut [usize]) -> Reading
         let step = read_line(file, st, end, found.fields, table, places);
         let refusal = step.refusal;
         if refusal != 0 {
-            let attributes = st.attributes;
-            return Reading {
-                number: refusal,
-                second: line,
-                attributes,
-                space: 1,
-                elements: 0,
-            };
+            return refuse(refusal, line);
         }
         st = step.state;
     }

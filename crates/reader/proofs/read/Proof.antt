@@ -24,7 +24,7 @@ abbrev μ-loop : tie.MeasureT-loop
 -- src/lib.rt:121:9
 -- src/lib.rt:124:9
 returns : tie.Need-returns Inv-loop μ-loop
-returns c = refusal-told _ _ _ _ 1 0 (too-long _ (c .before .if1 .taken)) refl refl (lit≤ tt) (lit≤ tt) zero-le
+returns c = refusal-told _ _ _ _ 1 0 (too-long _ (c .before .if1 .taken)) (c .refuse .ensures) (lit≤ tt) (lit≤ tt) zero-le
 
 -- src/lib.rt:131:5
 loop-holds : tie.Need-loop-holds Inv-loop μ-loop
@@ -63,7 +63,7 @@ returns-3 : tie.Need-returns-3 Inv-loop μ-loop
 returns-3 c =
     let inv = c .before .before .before .before .before .before .before .before .before .before .before .loop .inv in
     let step = c .before .before .before .before .before .before .read-line .ensures in
-    refused-here _ _ _ _ (inv .2) (inv .3) (inv .4) _ (c .before .before .before .before .before .before .before .before .before .before .line-at .ensures .all-of-it) (omega arith) _ (step .refusal) _ _ _ (c .before .if3 .taken) refl refl
+    refused-here _ _ _ _ (inv .2) (inv .3) (inv .4) _ (c .before .before .before .before .before .before .before .before .before .before .line-at .ensures .all-of-it) (omega arith) _ (step .refusal) _ _ _ (c .before .if3 .taken) (c .refuse2 .ensures)
 
 -- src/lib.rt:131:5
 loop-less : tie.Need-loop-less Inv-loop μ-loop
@@ -86,6 +86,7 @@ read-spec =
     Inv-loop
     μ-loop
     (λ c κs. search needs)
+    (λ c κs. search needs)
     returns
     loop-holds
     line-at-requires
@@ -94,6 +95,7 @@ read-spec =
     (λ c. search needs)
     returns-2
     read-line-requires
+    (λ c κs. search needs)
     (λ c. search needs)
     (λ c. search needs)
     returns-3
