@@ -12,7 +12,6 @@ use Rattle.meaning.specs.Model.{Result, refused, given, _then_}
 use Rattle.meaning.specs.Reading.{Line, attributeLine, treeLine, otherLine, lineOf, Sofar, wrongFields, nothing, readText, short}
 use Rattle.meaning.specs.Writing.{headerTests}
 use Rattle.meaning.specs.Claims.Texts.{All}
-use Rattle.layout.specs.declared.Attributes.{Attributes}
 use Rattle.layout.specs.Places.{part}
 use Rattle.reader.specs.declared.State.{State}
 use Rattle.reader.specs.Sofar.{refusalBy}
@@ -20,7 +19,7 @@ use Rattle.reader.specs.Steps.{Ready, Next, readSofar}
 use Rattle.reader.proofs.Remaining.{linesFrom, none-left, one-refused, one-read, lowest-within}
 use Rattle.header.specs.declared.Header.{Header}
 use Rattle.header.specs.Among.{blank, sofarAt, Among}
-use Rattle.header.specs.Told.{HeaderAs}
+use Rattle.header.specs.Told.{refusedWith, HeaderAs}
 use Rattle.header.proofs.HeaderLines.{among-next}
 
 -- what the writer reads in attribute lines
@@ -32,8 +31,8 @@ unfolding blank
 blank-room = omega (arith, length-replicate {A = ℕ} 512 0)
 
 -- 1: they are too long
-pub too-long : (h : Bytes) (a : Attributes) → 16384 < length h → HeaderAs h (record { number = 1; second = 0; attributes = a }) (readHeader h)
-too-long h a l = rw (lt-ltb 16384 (length h) l) (record { number = refl; second = refl; not-zero = lit≤ tt; low = lit≤ tt; small = zero-le })
+pub too-long : (h : Bytes) {r : Header} → r ≡ refusedWith 1 0 → 16384 < length h → HeaderAs h r (readHeader h)
+too-long h is l = rw (lt-ltb 16384 (length h) l) (record { is = is; not-zero = lit≤ tt; low = lit≤ tt; small = zero-le })
 
 -- What the loop keeps: they read as the lines that remain behind what was read so far
 pub record Keeps (h : Bytes) (st : State) : Type 0 where
@@ -63,17 +62,17 @@ module _ (h : Bytes) (st : State) (keeps : Keeps h st) (end : ℕ) (ends : end �
   few-lines : st .line ≤ 16385
   few-lines = omega (arith, keeps .size, keeps .among .ready .begun .inside, keeps .among .ready .begun .lines-passed)
 
-  -- a refusal's two numbers
-  told : (n : ℕ) (r : Header) → readHeader h ≡ refused n (st .line) → r .number ≡ n → r .second ≡ st .line → 1 ≤ n → n ≤ 6 → HeaderAs h r (readHeader h)
-  told n r e a b some low = subst⁻¹ (HeaderAs h r) e (record { number = a; second = b; not-zero = some; low = low; small = few-lines })
+  -- what is told of a refusal
+  told : (n : ℕ) {r : Header} → readHeader h ≡ refused n (st .line) → r ≡ refusedWith n (st .line) → 1 ≤ n → n ≤ 6 → HeaderAs h r (readHeader h)
+  told n {r} e is some low = subst⁻¹ (HeaderAs h r) e (record { is = is; not-zero = some; low = low; small = few-lines })
 
   module _ (whole : end ≡ length h) where
     ended : readHeader h ≡ cond (eqb (st .at) end) (given (sofarAt h st)) (refused 2 (st .line))
     ended = keeps .reads ∙ none-left headerTests h (st .at) (st .line) (sofarAt h st) end ends (keeps .among .ready .begun .inside) whole
 
     -- bytes behind the last newline
-    pub left-over : (a : Attributes) → (st .at ≡ end → ⊥) → HeaderAs h (record { number = 2; second = st .line; attributes = a }) (readHeader h)
-    left-over a more = told 2 (record { number = 2; second = st .line; attributes = a }) (ended ∙ rw (ne-eqb (st .at) end more)) refl refl (lit≤ tt) (lit≤ tt)
+    pub left-over : {r : Header} → r ≡ refusedWith 2 (st .line) → (st .at ≡ end → ⊥) → HeaderAs h r (readHeader h)
+    left-over is more = told 2 (ended ∙ rw (ne-eqb (st .at) end more)) is (lit≤ tt) (lit≤ tt)
 
     -- the attributes
     pub all-read : st .at ≡ end → HeaderAs h (record { number = 0; second = 0; attributes = st .attributes }) (readHeader h)
@@ -81,6 +80,7 @@ module _ (h : Bytes) (st : State) (keeps : Keeps h st) (end : ℕ) (ends : end �
         let reads : readHeader h ≡ given (sofarAt h st) = ended ∙ rw (eq-eqb (st .at) end none) in
         subst⁻¹ (HeaderAs h (record { number = 0; second = 0; attributes = st .attributes })) reads (record {
           number = refl;
+          second = refl;
           attributes = refl;
           no-element = keeps .among .no-element;
           spaced = keeps .among .ready .begun .attributes;
@@ -89,11 +89,11 @@ module _ (h : Bytes) (st : State) (keeps : Keeps h st) (end : ℕ) (ends : end �
 
   -- a line that is refused, and one that is not
   module _ (inside : end < length h) (refusal : ℕ) (is-refusal : refusal ≡ refusalBy headerTests (sofarAt h st) (cut tab (part h (st .at) end))) where
-    pub refused-here : (a : Attributes) → (refusal ≡ 0 → ⊥) → HeaderAs h (record { number = refusal; second = st .line; attributes = a }) (readHeader h)
-    refused-here a some =
+    pub refused-here : {r : Header} → r ≡ refusedWith refusal (st .line) → (refusal ≡ 0 → ⊥) → HeaderAs h r (readHeader h)
+    refused-here is some =
         let fs = cut tab (part h (st .at) end) in
         let reads = keeps .reads ∙ one-refused headerTests h (st .at) (st .line) (sofarAt h st) end ends inside (λ z. some (is-refusal ∙ z)) ∙ ap (λ k. refused k (st .line)) (sym is-refusal) in
-        told refusal (record { number = refusal; second = st .line; attributes = a }) reads refl refl (omega arith) (omega (arith, is-refusal, refusal-low (sofarAt h st) fs))
+        told refusal reads is (omega arith) (omega (arith, is-refusal, refusal-low (sofarAt h st) fs))
 
     pub keeps-next : (next : State) → refusal ≡ 0 → Next h blank blank (sofarAt h st) (cut tab (part h (st .at) end)) end (st .line) next → Keeps h next
     keeps-next next z n =

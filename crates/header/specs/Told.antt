@@ -6,20 +6,23 @@ use lib.ListN.{length}
 use Rattle.meaning.specs.Text.{Bytes}
 use Rattle.meaning.specs.Model.{Result, refused, given}
 use Rattle.meaning.specs.Reading.{Sofar}
-use Rattle.layout.specs.Places.{attributesOf}
+use Rattle.layout.specs.Places.{attributesOf, noAttributes}
 use Rattle.reader.specs.Steps.{Spaced}
 use Rattle.header.specs.declared.Header.{Header}
 
--- Attribute lines: their refusal, with small numbers; or the attributes, by their places
+-- Attribute lines: their refusal, with small numbers and no attribute; or the attributes, by their places
+abbrev pub refusedWith : ℕ → ℕ → Header
+refusedWith n m = record { number = n; second = m; attributes = noAttributes }
+
 pub record HeaderRefused (n m : ℕ) (r : Header) : Type 0 where
-  pub number : r .number ≡ n
-  pub second : r .second ≡ m
+  pub is : r ≡ refusedWith n m
   pub not-zero : 1 ≤ n
   pub low : n ≤ 6
   pub small : m ≤ 16385
 
 pub record HeaderHolds (h : Bytes) (r : Header) (s : Sofar) : Type 0 where
   pub number : r .number ≡ 0
+  pub second : r .second ≡ 0
   pub attributes : s .attributes ≡ attributesOf h (r .attributes)
   pub no-element : s .before ≡ []
   pub spaced : Spaced h (r .attributes)

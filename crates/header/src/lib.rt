@@ -14,9 +14,9 @@ ghost use Rattle.meaning.specs.Writing.{headerTests};
 ghost use Rattle.reader.specs.Sofar.{TreeLine, refusalBy};
 ghost use Rattle.reader.specs.Steps.{Line};
 ghost use Rattle.header.specs.Among.{Among, Past};
-ghost use Rattle.header.specs.Told.{HeaderAs};
+ghost use Rattle.header.specs.Told.{refusedWith, HeaderAs};
 
-// What attribute lines hold, or the refusal's number and line; number 0 is none.
+// What attribute lines hold, or the refusal's number and line and no attribute; number 0 is none.
 pub struct Header {
     pub number: usize,
     pub second: usize,
@@ -61,32 +61,35 @@ fn header_line(header: &[u8], st: State, end: usize) -> Step
     }
 }
 
+// Attribute lines that are refused.
+fn refuse(number: usize, second: usize) -> Header
+    ensures { λ r. ⌜ r ≡ refusedWith number second ⌝ }
+{
+    let attributes = layout::no_attributes();
+    Header {
+        number,
+        second,
+        attributes,
+    }
+}
+
 // Reads attribute lines.
 pub fn read_header(header: &[u8]) -> Header
     ensures { λ r. ⌜ HeaderAs (now (header .entry)) r (short (now (header .entry)) then (readText headerTests)) ⌝ }
 {
     let mut st = reader::start();
     if 16384 < header.len() {
-        let attributes = st.attributes;
-        return Header {
-            number: 1,
-            second: 0,
-            attributes,
-        };
+        return refuse(1, 0);
     }
     loop {
         let at = st.at;
         let line = st.line;
-        let attributes = st.attributes;
         let end = text::end_of(header, at, 10);
         if end == header.len() {
             if at != end {
-                return Header {
-                    number: 2,
-                    second: line,
-                    attributes,
-                };
+                return refuse(2, line);
             }
+            let attributes = st.attributes;
             return Header {
                 number: 0,
                 second: 0,
@@ -96,11 +99,7 @@ pub fn read_header(header: &[u8]) -> Header
         let step = header_line(header, st, end);
         let refusal = step.refusal;
         if refusal != 0 {
-            return Header {
-                number: refusal,
-                second: line,
-                attributes,
-            };
+            return refuse(refusal, line);
         }
         st = step.state;
     }

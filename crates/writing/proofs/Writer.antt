@@ -54,7 +54,7 @@ module _ (header : Bytes) (r : Header) (is : HeaderAs header r (short header the
   small-header h = go (short header then (readText headerTests)) is
     where
       go : (x : Result Sofar) → HeaderAs header r x → (r .number < 4294967296) × (r .second < 4294967296)
-      go (refused n m) t = (omega (arith, t .number, t .low), omega (arith, t .second, t .small))
+      go (refused n m) t = rw (t .is) (omega (arith, t .low), omega (arith, t .small))
       go (given s) t = absurd (h (t .number))
 
   -- attribute lines that are refused
@@ -62,7 +62,7 @@ module _ (header : Bytes) (r : Header) (is : HeaderAs header r (short header the
   header-refused es h = (ap (answered length) (sym all), ap (lent old) (sym all))
     where
       go : (x : Result Sofar) → HeaderAs header r x → (x then behind (length old) header es) ≡ refused (r .number) (r .second)
-      go (refused n m) t = λ i. refused (sym (t .number) i) (sym (t .second) i)
+      go (refused n m) t = λ i. refused (sym (t .is) i .number) (sym (t .is) i .second)
       go (given s) t = absurd (h (t .number))
 
       all : writeFile (length old) header es ≡ refused (r .number) (r .second)
@@ -73,7 +73,7 @@ module _ (header : Bytes) (r : Header) (is : HeaderAs header r (short header the
     header-read = go (short header then (readText headerTests)) refl is
       where
         go : (x : Result Sofar) → (short header then (readText headerTests)) ≡ x → HeaderAs header r x → (s : Sofar) × ((short header then (readText headerTests)) ≡ given s) × HeaderHolds header r s
-        go (refused n m) e t = absurd (omega (arith, t .number, t .not-zero))
+        go (refused n m) e t = absurd (omega (arith, ap (λ x. x .number) (t .is), t .not-zero))
         go (given s) e t = (s, e, t)
 
     pub holds : HeaderHolds header r (header-read .0)

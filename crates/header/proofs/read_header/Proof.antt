@@ -15,7 +15,7 @@ abbrev μ-loop : tie.MeasureT-loop
 μ-loop header st₀ st = length header - st .at
 
 returns : tie.Need-returns Inv-loop μ-loop
-returns c = too-long (c .before .before .before .before .args .header .now) (c .before .before .start .result .attributes) (c .before .if1 .taken)
+returns c = too-long (c .before .before .before .before .args .header .now) (c .refuse .ensures) (c .before .if1 .taken)
 
 loop-holds : tie.Need-loop-holds Inv-loop μ-loop
 loop-holds c =
@@ -23,21 +23,21 @@ loop-holds c =
     keeps-first header _ (omega arith) (c .before .start .ensures .1) (c .before .start .ensures .0 header blank blank blank-room (omega (arith, blank-room)))
 
 end-of-requires : tie.Need-end-of-requires Inv-loop μ-loop
-end-of-requires c κs = c .before .loop .inv .among .ready .begun .inside
+end-of-requires c κs = c .loop .inv .among .ready .begun .inside
 
 returns-2 : tie.Need-returns-2 Inv-loop μ-loop
-returns-2 c = left-over _ _ (c .before .before .before .before .loop .inv) _ (c .before .before .end-of .ensures .0) (c .before .if2 .taken) _ (c .if3 .taken)
+returns-2 c = left-over _ _ (c .before .before .before .before .loop .inv) _ (c .before .before .before .end-of .ensures .0) (c .before .before .if2 .taken) (c .refuse2 .ensures) (c .before .if3 .taken)
 
 returns-3 : tie.Need-returns-3 Inv-loop μ-loop
-returns-3 c = all-read _ _ (c .before .before .before .before .loop .inv) _ (c .before .before .end-of .ensures .0) (c .before .if2 .taken) (c .if3 .left)
+returns-3 c = all-read _ _ (c .before .before .before .before .loop .inv) _ (c .before .before .before .end-of .ensures .0) (c .before .before .if2 .taken) (c .before .if3 .left)
 
 header-line-requires : tie.Need-header-line-requires Inv-loop μ-loop
 header-line-requires c κs =
     let end = c .before .end-of .ensures in
-    (c .before .before .before .loop .inv .among, record { starts = end .1 .0; ends = omega arith; all-of-it = end .0 })
+    (c .before .before .loop .inv .among, record { starts = end .1 .0; ends = omega arith; all-of-it = end .0 })
 
 returns-4 : tie.Need-returns-4 Inv-loop μ-loop
-returns-4 c = refused-here _ _ (c .before .before .before .before .before .loop .inv) _ (c .before .before .before .end-of .ensures .0) (omega arith) _ (c .before .header-line .ensures .refusal) _ (c .if4 .taken)
+returns-4 c = refused-here _ _ (c .before .before .before .before .before .loop .inv) _ (c .before .before .before .before .end-of .ensures .0) (omega arith) _ (c .before .before .header-line .ensures .refusal) (c .refuse3 .ensures) (c .before .if4 .taken)
 
 loop-less : tie.Need-loop-less Inv-loop μ-loop
 loop-less c =
@@ -48,7 +48,7 @@ loop-again : tie.Need-loop-again Inv-loop μ-loop
 loop-again c =
     let past = c .before .before .header-line .ensures in
     let none = c .before .if4 .left in
-    keeps-next _ _ (c .before .before .before .before .before .before .loop .inv) _ (c .before .before .before .before .end-of .ensures .0) (omega arith) _ (past .refusal) _ none (past .next none)
+    keeps-next _ _ (c .before .before .before .before .before .loop .inv) _ (c .before .before .before .before .end-of .ensures .0) (omega arith) _ (past .refusal) _ none (past .next none)
 
 pub read-header-spec : {M : Type 1} → statement M
 read-header-spec =
@@ -57,12 +57,15 @@ read-header-spec =
     Inv-loop
     μ-loop
     (λ c κs. search needs)
+    (λ c κs. search needs)
     returns
     loop-holds
     end-of-requires
+    (λ c κs. search needs)
     returns-2
     returns-3
     header-line-requires
+    (λ c κs. search needs)
     returns-4
     loop-less
     loop-again)
