@@ -82,6 +82,7 @@ module _ (h : Bytes) (st : State) (keeps : Keeps h st) (end : â„•) (ends : end â
           number = refl;
           second = refl;
           attributes = refl;
+          places-are = keeps .among .ready .places-are;
           no-element = keeps .among .no-element;
           spaced = keeps .among .ready .begun .attributes;
           size = keeps .size;

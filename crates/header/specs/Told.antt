@@ -6,7 +6,7 @@ use lib.ListN.{length}
 use Rattle.meaning.specs.Text.{Bytes}
 use Rattle.meaning.specs.Model.{Result, refused, given}
 use Rattle.meaning.specs.Reading.{Sofar}
-use Rattle.layout.specs.Places.{attributesOf, noAttributes}
+use Rattle.layout.specs.Places.{attributesOf, noAttributes, placed}
 use Rattle.reader.specs.Steps.{Spaced}
 use Rattle.header.specs.declared.Header.{Header}
 
@@ -24,6 +24,7 @@ pub record HeaderHolds (h : Bytes) (r : Header) (s : Sofar) : Type 0 where
   pub number : r .number ≡ 0
   pub second : r .second ≡ 0
   pub attributes : s .attributes ≡ attributesOf h (r .attributes)
+  pub places-are : r .attributes ≡ placed h (r .attributes .len)
   pub no-element : s .before ≡ []
   pub spaced : Spaced h (r .attributes)
   pub size : length h ≤ 16384

@@ -9,7 +9,7 @@ use lib.ListN.{length, getD}
 use lib.Seq.{getD-set-same, getD-set-other}
 use Rattle.meaning.specs.Text.{Bytes, cut, tab}
 use Rattle.layout.specs.declared.Attributes.{Attributes}
-use Rattle.layout.specs.Places.{part, attributeAt, attributesFrom, attributesOf, Standing, AllStanding, added}
+use Rattle.layout.specs.Places.{part, attributeAt, attributesFrom, attributesOf, Standing, AllStanding, added, lineStart, placed}
 
 -- one attribute more of those that are there
 from-more : (f : Bytes) (a : Attributes) (i n : ℕ) → attributesFrom f a i (suc n) ≡ attributesFrom f a i n ++ (attributeAt f a (i + n) ∷ [])
@@ -89,3 +89,11 @@ module _ (a : Attributes) (name value end count : ℕ) where
       where
         last : (k : ℕ) → k < a .len + 1 → k ≤ a .len
         last k l = omega arith
+
+-- the attribute of the next line of a file, of these fields
+pub placed-more : (f : Bytes) (k at end fields : ℕ) (name : Bytes) (a : Attributes) → a ≡ placed f k → at ≡ lineStart f k → end + 1 ≡ lineStart f (suc k) → name ≡ getD (cut tab (part f at end)) 1 []
+    → fields ≡ length (cut tab (part f at end)) → added a (at + 2) (at + 3 + length name) end (fields - 2) ≡ placed f (suc k)
+unfolding placed
+placed-more f k at end fields name a is starts ends named count =
+    let last : end ≡ lineStart f (suc k) - 1 = omega arith in
+    rw (is, named, count, starts, last)

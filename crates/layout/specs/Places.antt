@@ -113,6 +113,16 @@ unfoldable pub lineStart : Bytes → ℕ → ℕ
 lineStart f zero = 0
 lineStart f (suc k) = lineStart f k + length (getD (cut newline (drop (lineStart f k) f)) 0 []) + 1
 
+-- where the attributes of the first n lines of a file stand
+unfoldable pub placed : Bytes → ℕ → Attributes
+placed f zero = noAttributes
+placed f (suc n) =
+    let before = placed f n in
+    let at = lineStart f n in
+    let end = lineStart f (suc n) - 1 in
+    let fields = cut tab (part f at end) in
+    added before (at + 2) (at + 3 + length (getD fields 1 [])) end (length fields - 2)
+
 -- So many attributes have a line each and n elements behind them too; the next line starts at `at`
 pub record Lined (start : ℕ → ℕ) (places : List ℕ) (attributes n at : ℕ) : Type 0 where
   pub next : at ≡ start (attributes + n)

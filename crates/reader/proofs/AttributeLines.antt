@@ -4,6 +4,7 @@ use mathlib.Core.Path.{_≡_, refl, sym, ap, ap₂, _∙_}
 use mathlib.Core.Bool.{true, false, not, _||_}
 use mathlib.Core.List.{List, [], _∷_, _++_, map}
 use native.Mathlib.Nat.{mul-one, one-mul, mul-assoc}
+use native.Mathlib.Numerals.{add-one}
 use native.Mathlib.Omega.{arith}
 use lib.ListN.{length, drop, getD, length-drop}
 use lib.Seq.{drop-cons}
@@ -14,8 +15,8 @@ use Rattle.meaning.specs.Model.{Attribute, choices, space as spaceOf}
 use Rattle.meaning.specs.Reading.{attributeLine, lineOf, Sofar, Tests, lowest, attributeTests}
 use Rattle.laws.proofs.Lines.{attribute-fields}
 use Rattle.layout.specs.declared.Attributes.{Attributes}
-use Rattle.layout.specs.Places.{part, attributesOf, elementsTo, lineStart}
-use Rattle.layout.proofs.Adding.{Added}
+use Rattle.layout.specs.Places.{part, attributesOf, added as addedPlaces, elementsTo, lineStart, placed}
+use Rattle.layout.proofs.Adding.{Added, placed-more}
 use Rattle.layout.proofs.Laws.{attributes-length}
 use Rattle.reader.specs.Sofar.{refusalBy, refusalOf, attributeIn, Tested, AttributeRefusal, AttributeLine}
 use Rattle.reader.specs.Steps.{Ready, Line, readSofar, Next}
@@ -145,15 +146,18 @@ module _ {f : Bytes} {st : State} {end fields : ℕ} {table places : List ℕ} (
       let s = readSofar f table places st in
       refusal .is-lowest s refl (no-elements f table places (st .tree .len)) ∙ sym (refusal-is s (cut tab (part f (st .at) end)) is)
 
-  pub line-next : (name : Bytes) (b : Attributes) → name ≡ getD (cut tab (part f (st .at) end)) 1 [] → Added (st .attributes) (st .at + 2) (st .at + 3 + length name) end (fields - 2) b → fields - 2 ≤ 16 → st .space * (fields - 2) ≤ 4096 → st .tree .len ≡ 0
+  pub line-next : (name : Bytes) (b : Attributes) → name ≡ getD (cut tab (part f (st .at) end)) 1 [] → b ≡ addedPlaces (st .attributes) (st .at + 2) (st .at + 3 + length name) end (fields - 2) → Added (st .attributes) (st .at + 2) (st .at + 3 + length name) end (fields - 2) b → fields - 2 ≤ 16 → st .space * (fields - 2) ≤ 4096 → st .tree .len ≡ 0
       → Next f table places (readSofar f table places st) (cut tab (part f (st .at) end)) end (st .line) (record { at = end + 1; line = st .line + 1; attributes = b; space = st .space * (fields - 2); tree = st .tree })
-  line-next name b named added few-values small none =
+  line-next name b named made added few-values small none =
       let fs = cut tab (part f (st .at) end) in
       let begun = ready .begun in
       let old = attributesOf f (st .attributes) in
       let parts = attribute-parts f (st .at) end name (omega (arith, here .ends)) is named in
       let count : fields - 2 ≡ length (drop 2 fs) = ap (λ n. n - 2) (is .count) ∙ sym (length-drop 2 fs) in
       let attributes-are : attributesOf f b ≡ old ++ (attributeIn fs ∷ []) = added .behind f ∙ rw (parts .name-is, parts .values-are, named) in
+      let size = st .attributes .len in
+      let no-line : size + st .tree .len ≡ size = omega arith in
+      let starts : st .at ≡ lineStart f size = ready .lined .next ∙ ap (lineStart f) no-line in
       let space-is : st .space * (fields - 2) ≡ spaceOf (attributesOf f b) = ap₂ (λ m n. m * n) (begun .space-is) count ∙ sym (ap spaceOf attributes-are ∙ space-more old (attributeIn fs)) in
       record {
         ready = record {
@@ -175,6 +179,7 @@ module _ {f : Bytes} {st : State} {end fields : ℕ} {table places : List ℕ} (
             next = next-start (st .attributes .len + st .tree .len) here (ready .lined .next) ∙ ap (lineStart f) (omega (arith, added .one-more));
             starts = λ i l. absurd (omega arith);
           };
+          places-are = made ∙ placed-more f size (st .at) end fields name (st .attributes) (ready .places-are) starts (next-start size here starts) named (is .count) ∙ ap (placed f) (sym (added .one-more ∙ add-one size));
         };
         at-next = refl;
         line-next = refl;

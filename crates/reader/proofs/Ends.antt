@@ -10,7 +10,7 @@ use borrow.Author.Tests.{eq-eqb, ne-eqb}
 use Rattle.meaning.specs.Model.{refused}
 use Rattle.meaning.specs.Reading.{nothing, finished}
 use Rattle.layout.specs.declared.Tree.{Tree}
-use Rattle.layout.specs.Places.{noAttributes, attributesFrom, elementsTo, Lined, lineStart}
+use Rattle.layout.specs.Places.{noAttributes, attributesFrom, elementsTo, Lined, lineStart, placed}
 use Rattle.layout.proofs.Laws.{empty-stands}
 use Rattle.reader.specs.declared.State.{State}
 use Rattle.reader.specs.declared.Reading.{Reading}
@@ -25,7 +25,7 @@ abbrev pub beginning : State
 beginning = record { at = 0; line = 1; attributes = noAttributes; space = 1; tree = no-tree }
 
 pub beginning-ready : (f table places : List ℕ) → 512 ≤ length table → 128 ≤ length places → Ready f table places beginning × (readSofar f table places beginning ≡ nothing)
-unfolding attributesFrom elementsTo lineStart
+unfolding attributesFrom elementsTo lineStart placed
 beginning-ready f table places rows pairs = (
   record {
     begun = record {
@@ -39,6 +39,7 @@ beginning-ready f table places rows pairs = (
     rooms = record { rows = rows; pairs = pairs; named = record { room = zero-le; starts = λ i l. absurd (omega arith); ends = λ i l. absurd (omega arith) } };
     tree = empty-stands;
     lined = record { next = refl; starts = λ i l. absurd (omega arith) };
+    places-are = refl;
   },
   refl,
 )
@@ -67,4 +68,5 @@ module _ (f table places : List ℕ) (st : State) (end : ℕ) (ready : Ready f t
     some = omega arith;
     rooms = ready .rooms;
     lined = subst (Lined (lineStart f) places (st .attributes .len) (st .tree .len)) (e ∙ whole) (ready .lined);
+    places-are = ready .places-are;
   })

@@ -250,6 +250,7 @@ module _ (f table places : List ℕ) (st : State) (end : ℕ) (k : Kind) (n : �
               });
               tree = subst⁻¹ (λ m. Stands (r .tree) (elementsTo f table′ places′ m)) one-more stands;
               lined = rw (put .same-attributes, one-more, put .at-next) (lined-more f places size (st .at) name-end (omega (arith, ready .rooms .pairs, few)) (lineStart f) (st .attributes .len) (end + 1) (ready .lined) (next-start (st .attributes .len + size) at (ready .lined .next)));
+              places-are = rw (put .same-attributes) (ready .places-are);
             };
             at-next = put .at-next;
             line-next = put .line-next;

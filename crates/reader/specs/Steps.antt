@@ -9,7 +9,7 @@ use Rattle.meaning.specs.Text.{Bytes, cut, tab, newline}
 use Rattle.meaning.specs.Model.{Policy, space, Result, refused, given}
 use Rattle.meaning.specs.Reading.{depthOf, lineOf, Sofar, extended}
 use Rattle.layout.specs.declared.Attributes.{Attributes}
-use Rattle.layout.specs.Places.{part, attributesOf, AllStanding, noAttributes, elementsTo, Named, lineStart, Lined}
+use Rattle.layout.specs.Places.{part, attributesOf, AllStanding, noAttributes, elementsTo, Named, lineStart, placed, Lined}
 use Rattle.layout.specs.Nearest.{Stands}
 use Rattle.reader.specs.declared.State.{State}
 use Rattle.reader.specs.declared.Step.{Step}
@@ -42,6 +42,7 @@ pub record Ready (f : Bytes) (table places : List ℕ) (st : State) : Type 0 whe
   pub rooms : Rooms f table places (st .tree .len)
   pub tree : Stands (st .tree) (elementsTo f table places (st .tree .len))
   pub lined : Lined (lineStart f) places (st .attributes .len) (st .tree .len) (st .at)
+  pub places-are : st .attributes ≡ placed f (st .attributes .len)
 
 -- the line at a state's place, which the newline at `end` ends
 pub record Line (f : Bytes) (st : State) (end : ℕ) : Type 0 where
@@ -108,6 +109,7 @@ pub record Holds (f table places : List ℕ) (r : Reading) (p : Policy) : Type 0
   pub some : 1 ≤ r .elements
   pub rooms : Rooms f table places (r .elements)
   pub lined : Lined (lineStart f) places (r .attributes .len) (r .elements) (length f)
+  pub places-are : r .attributes ≡ placed f (r .attributes .len)
 
 abbrev pub ReadAs : List ℕ → List ℕ → List ℕ → Reading → Result Policy → Type 0
 ReadAs f table places r (refused n m) = Refused n m r

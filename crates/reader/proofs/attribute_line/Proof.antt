@@ -48,7 +48,7 @@ returns-2 c =
     let added = added-behind a (start .args .st .at + 2) (start .args .st .at + 3 + length (field .result .now)) (start .args .end) (start .args .fields - 2) (omega arith) (omega arith) (omega arith) (omega arith) few (c .before .with-attribute .ensures) in
     λ table places ready. record {
       refusal = line-refusal ready (start .pre .1) (start .pre .2) tested;
-      next = λ none. line-next ready (start .pre .1) (start .pre .2) (field .result .now) _ (field .ensures) added (tested .few-values none) (tested .small-space none) (tested .no-element none);
+      next = λ none. line-next ready (start .pre .1) (start .pre .2) (field .result .now) _ (field .ensures) (c .before .with-attribute .ensures) added (tested .few-values none) (tested .small-space none) (tested .no-element none);
     }
 
 pub attribute-line-spec : {M : Type 1} → statement M
