@@ -1,7 +1,7 @@
--- Laws that the proofs of the operations cite.
+-- Laws that the proofs of the operations cite; those of a policy's shape serve the vectors program too.
 mod Answering
 mod Deciding
-mod Shaping
+pub mod Shaping
 mod Trimming
 mod Demand3
 mod Reporting

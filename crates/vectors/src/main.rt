@@ -1,6 +1,7 @@
-// Prints what the program prints of each file that the arguments name, behind the file's name. An accepted file is read into elements and written again; a line says so if other bytes come out. Of the file `lists` it prints what the writer answers for each of its lists.
+// Prints what the program prints of each file that the arguments name, behind the file's name. An accepted file is read into elements and written again, and each of its requests is stepped to; a line says so if other bytes or decisions come out. Of the file `lists` it prints what the writer answers for each of its lists.
 mod doors;
 mod encoded;
+mod stepping;
 
 use doors::Lent;
 use libc::STDOUT_FILENO;
@@ -59,6 +60,9 @@ fn print_report(fd: i32) {
     io::write_all(STDOUT_FILENO, &out[0..printed]);
     if !written_again(&file[..n]) {
         io::write_all(STDOUT_FILENO, b"written otherwise\n");
+    }
+    if !stepping::stepped(&file[..n], &out[0..printed]) {
+        io::write_all(STDOUT_FILENO, b"stepped otherwise\n");
     }
 }
 
