@@ -1,7 +1,7 @@
 -- A local that holds an array of 66 elements is its elements in memory, side by side; and those are the first of them and the others.
 --     out-of-local, into-local     from the local to its elements, and back
 --     front-out, front-in          from the elements to the first k and the others, and back
-use Rattle.fields.proofs.Walk.{_≡_, refl, sym, subst, List, [], _∷_, ℕ, length, URA, fullShare, Ty, Val, SProp, ent, sep, Fml, fat, Heap, Atoms, sem, Given, ‵, _⊛_, _$_, _∵_, !, qed, by, move, use1, use2, split, rewrite, fsplit, fjoin, done, RattleType, Is, shows, only, peeks}
+use Rattle.fields.proofs.Walk.{_≡_, refl, sym, subst, List, [], _∷_, ℕ, length, URA, fullShare, Ty, Val, ent, sep, Fml, fat, Heap, Atoms, sem, Given, ‵, _⊛_, _$_, _∵_, !, qed, by, move, use1, use2, split, rewrite, fsplit, fjoin, done, RattleType, Is, shows, only, peeks}
 use Rattle.lists.proofs.Walk.{take, fsep, fpick, fpack, row, shares, arr-parts}
 use mathlib.Core.List.{_++_}
 use lib.ListN.{drop as drop-list, take-append-drop}

@@ -1,6 +1,6 @@
 -- `listed` meets its contract: a walk of its MIR, by hand. The array that `blanks` gives is a local of the function. It is lent as a slice for a lifetime that the walk makes, `read_list` is called at that lifetime, the lifetime is ended, and the array is taken back with the list that `read_list` says.
-use Rattle.fields.proofs.Walk.{_≡_, refl, sym, _∙_, ap, subst, List, [], _∷_, ℕ, Holds, lit<, length, URA, fullShare, Ty, named, Val, WT, hasTy, SProp, ent, sep, emp, via, fst∗, snd∗, exE, id⊢, Lft, Share, Fml, ftrue, fat, flft, Memory, Routine, Heap, Calls, Loops, WpFn, Tables, Atoms, sem, Fun, fact, givenOf, tables, tablesOf, Given, Item, ‵, raw, _⊛_, ⋆, some, later, _$_, _∵_, !, qed, by, move, drop, use1, use2, split, join, rewrite, pick, fsplit, fjoin, suffices, frame, await, done, agg, look, init, forget, stop, from, load, lit, of-opd, and-then, no-more, assigns, land, returns, enter, alloc1, alloc0, params1, pass1, pass0, free1, free0, FmC, fmOf, WpFn-mono, RattleType, owns, Is, shows, u8, RefT, now, plain, sliceVal, ShrSlice, slice-vals, shr-slice-tells, shr-slice-copy, only, peeks, heard, nothing, Contract, Triple, calls-at, ensured, lasts, Vals, onEntry, Meets, tripleOf, entered, cited, says, Stays, stay-none-slice, walkOf, goes-none-slice, Walks, ends-at, walked, walk-meets, yes}
-use Rattle.lists.proofs.Walk.{replicate, GName, fsep, flent, keep, feqL, use3, fpick, fpack, addr, MutSlice, Room, Held, row, shares, arr-parts}
+use Rattle.fields.proofs.Walk.{_≡_, refl, sym, _∙_, ap, subst, List, [], _∷_, ℕ, Holds, lit<, length, URA, fullShare, Ty, named, Val, WT, hasTy, SProp, ent, emp, via, fst∗, snd∗, exE, id⊢, Lft, Share, Fml, ftrue, fat, flft, Memory, Routine, Heap, Calls, Loops, WpFn, Tables, Atoms, sem, Fun, fact, givenOf, tables, tablesOf, Given, Item, ‵, raw, _⊛_, ⋆, some, later, _$_, _∵_, !, qed, by, move, drop, use1, use2, split, join, rewrite, pick, fsplit, fjoin, suffices, frame, await, done, agg, look, init, forget, stop, from, load, lit, of-opd, and-then, no-more, assigns, land, returns, enter, alloc1, alloc0, params1, pass1, pass0, free1, free0, FmC, fmOf, WpFn-mono, owns, Is, shows, u8, RefT, now, plain, sliceVal, ShrSlice, slice-vals, shr-slice-tells, shr-slice-copy, peeks, heard, nothing, Contract, Triple, calls-at, ensured, lasts, Vals, onEntry, Meets, tripleOf, entered, cited, says, Stays, stay-none-slice, walkOf, goes-none-slice, Walks, ends-at, walked, walk-meets, yes}
+use Rattle.lists.proofs.Walk.{replicate, GName, flent, keep, feqL, use3, addr, MutSlice, Room, Held, row, shares, arr-parts}
 use types.Tokens.{lft-new, lft-end}
 use types.SemTy.{cells, Arr}
 use denote.Memory.{mem as in-memory}

@@ -1,7 +1,7 @@
 -- `written` meets its contract: a walk of its MIR, by hand. The array that `all_places` gives is a local of the function. Its first elements are lent as a slice for a lifetime that the walk makes, `write_list` is called at that lifetime, the lifetime is ended, and the array is put together again.
 -- The lines and the buffer go to `write_list` at their own lifetimes, shares and names: the borrow of the buffer is given up for good, and of what the lines own, which is Copy, a copy is kept for the exit.
-use Rattle.fields.proofs.Walk.{_≡_, refl, sym, _∙_, ap, subst, List, [], _∷_, ℕ, _≤_, _<_, _^_, Holds, length, URA, fullShare, Ty, named, Val, WT, hasTy, SProp, ent, sep, snd∗, exE, id⊢, Lft, Share, Fml, ftrue, fat, flft, Memory, Routine, Heap, Calls, Loops, WpFn, Tables, Atoms, sem, Lfts, Fun, fact, givenOf, tables, tablesOf, Given, Item, ‵, raw, _⊛_, ⋆, some, later, _$_, _∵_, !, qed, by, move, drop, use1, use2, split, join, rewrite, pick, fsplit, fjoin, suffices, frame, await, done, agg, whole, sub, look-in, look, init, forget, stop, fld, from, load, of-opd, and-then, no-more, assigns, land, returns, enter, alloc1, alloc0, params1, pass1, pass0, free1, free0, FmC, fmOf, WpFn-mono, RattleType, owns, Is, shows, u8, RefT, now, plain, sliceVal, ShrSlice, slice-vals, shr-slice-tells, shr-slice-copy, only, owned, peeks, heard, nothing, Contract, Triple, calls-at, ensured, lasts, Vals, onEntry, Meets, tripleOf, entered, cited, says, Stays, stay-none, stay-none-slice, walkOf, goes-none, goes-none-slice, Walks, ends-at, walked, walk-meets, yes}
-use Rattle.lists.proofs.Walk.{_*_, arith, take, GName, fsep, flent, feqI, feqL, fpick, fpack, hop, addr, MutSlice, Room, mut-slice-tells, finally, row, shares, arr-parts, needs, gave-slice, goes-gave-slice}
+use Rattle.fields.proofs.Walk.{_≡_, refl, sym, _∙_, ap, subst, List, [], _∷_, ℕ, _≤_, _<_, _^_, Holds, length, URA, fullShare, Ty, named, Val, WT, hasTy, SProp, ent, snd∗, exE, id⊢, Lft, Share, Fml, ftrue, fat, flft, Memory, Routine, Heap, Calls, Loops, WpFn, Tables, Atoms, sem, Lfts, Fun, fact, givenOf, tables, tablesOf, Given, Item, ‵, raw, _⊛_, ⋆, some, later, _$_, _∵_, !, qed, by, move, drop, use1, use2, split, join, rewrite, pick, fsplit, fjoin, suffices, frame, await, done, agg, whole, sub, look-in, look, init, forget, stop, fld, from, load, of-opd, and-then, no-more, assigns, land, returns, enter, alloc1, alloc0, params1, pass1, pass0, free1, free0, FmC, fmOf, WpFn-mono, RattleType, owns, Is, shows, u8, RefT, now, plain, sliceVal, ShrSlice, slice-vals, shr-slice-tells, shr-slice-copy, owned, peeks, heard, nothing, Contract, Triple, calls-at, ensured, lasts, Vals, onEntry, Meets, tripleOf, entered, cited, says, Stays, stay-none, stay-none-slice, walkOf, goes-none, goes-none-slice, Walks, ends-at, walked, walk-meets, yes}
+use Rattle.lists.proofs.Walk.{arith, take, GName, flent, feqI, feqL, hop, addr, MutSlice, Room, mut-slice-tells, finally, row, shares, arr-parts, needs, gave-slice, goes-gave-slice}
 use lib.ListN.{drop as drop-list}
 use lib.Seq.{length-take-le}
 use types.Tokens.{lft-new, lft-end, lent-back}
