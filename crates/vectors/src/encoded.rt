@@ -1,6 +1,6 @@
 // Lists for the writer, as tests/reference/make_lists.c stores them in a file.
-use crate::doors;
-use crate::doors::Lent;
+use crate::lending;
+use crate::lending::Lent;
 use libc::STDOUT_FILENO;
 use meaning::Element;
 use meaning::Kind;
@@ -81,7 +81,7 @@ fn read_element(fd: i32) -> Element {
 
 // The next n elements, behind them blank ones.
 fn read_elements(fd: i32, n: usize) -> [Element; 66] {
-    let mut list = doors::blanks();
+    let mut list = lending::blanks();
     let mut i = 0;
     while i < 66 {
         if n <= i {
@@ -126,7 +126,7 @@ fn mixed(total: u64, b: u8) -> u64
 fn print_written(header: &[u8], list: Lent, out: &mut [u8])
     requires { ⌜ list .len ≤ 66 ⌝ }
 {
-    let answer = doors::written(header, list, out);
+    let answer = lending::written(header, list, out);
     io::print_decimal(STDOUT_FILENO, answer.number as u64);
     io::write_all(STDOUT_FILENO, b"\t");
     io::print_decimal(STDOUT_FILENO, answer.second as u64);

@@ -1,9 +1,9 @@
 // Prints what the program prints of each file that the arguments name, behind the file's name. An accepted file is read into elements and written again, and each of its requests is stepped to; a line says so if other bytes or decisions come out. Of the file `lists` it prints what the writer answers for each of its lists.
-mod doors;
 mod encoded;
+mod lending;
 mod stepping;
 
-use doors::Lent;
+use lending::Lent;
 use libc::STDOUT_FILENO;
 ghost use Prim.Native.Nat.{_≤_};
 ghost use lib.ListN.{length};
@@ -36,11 +36,11 @@ fn written_again(file: &[u8]) -> bool {
     if 66 < n {
         return false;
     }
-    let all = doors::listed(file);
+    let all = lending::listed(file);
     let list = Lent { all, len: n };
     let header = attribute_lines_end(file);
     let mut out = [0u8; 16384];
-    let written = doors::written(&file[0..header], list, &mut out);
+    let written = lending::written(&file[0..header], list, &mut out);
     if written.number != 0 {
         return false;
     }

@@ -1,22 +1,22 @@
 // Steps through every request of a policy file: each has its number, and the decision that the report gives its segment.
-use flags::Shape;
+use outcomes::Shape;
 use requests::Request;
 ghost use Prim.Native.Nat.{_*_, _≤_, _<_};
 ghost use lib.ListN.{length};
-ghost use Rattle.flags.specs.Ready.{Ready};
+ghost use Rattle.outcomes.specs.Ready.{Ready};
 
 // The number of a decision by its word, 4 for another word.
 fn decision_of(word: &[u8]) -> u8 {
-    if text::same(word, b"permit") {
+    if comparing::same(word, b"permit") {
         return 0;
     }
-    if text::same(word, b"deny") {
+    if comparing::same(word, b"deny") {
         return 1;
     }
-    if text::same(word, b"not-applicable") {
+    if comparing::same(word, b"not-applicable") {
         return 2;
     }
-    if text::same(word, b"indeterminate") {
+    if comparing::same(word, b"indeterminate") {
         return 3;
     }
     4
@@ -44,7 +44,7 @@ fn number_of(digits: &[u8]) -> usize {
 
 // Lays down what a `G` line says: the decision of its segment, at the segment's first request.
 fn lay_decision(line: &[u8], told: &mut [u8]) {
-    if !text::same(fields::field(line, 0), b"G") {
+    if !comparing::same(fields::field(line, 0), b"G") {
         return;
     }
     let first = number_of(fields::field(line, 1));
@@ -77,7 +77,7 @@ fn applies(table: &[u16], n: usize, q: Request, word: u64, i: usize) -> bool
     if n <= up {
         return true;
     }
-    segments::has(word, up)
+    rows::has(word, up)
 }
 
 // The elements that apply to a request, a bit for each.
@@ -158,6 +158,6 @@ pub(crate) fn stepped(file: &[u8], report: &[u8]) -> bool {
     let struck = [0u8; 64];
     let mut told = [4u8; 4096];
     lay_decisions(report, &mut told);
-    let shown = !text::same(fields::field(report, 0), b"E");
+    let shown = !comparing::same(fields::field(report, 0), b"E");
     step_all(&table, &struck, shape, &told, shown)
 }

@@ -1,9 +1,9 @@
 -- `blanks` meets its contract: the first place of no elements is blank.
 use borrow.Author.Needs.{needs}
-use Rattle.vectors.proofs.doors.blanks.Statement.{statement}
-use Rattle.vectors.proofs.doors.blanks.Tie as tie
-use Rattle.vectors.proofs.doors.blanks.Reads as reads
-use Rattle.vectors.proofs.doors.blanks.Lts as lts
+use Rattle.vectors.proofs.lending.blanks.Statement.{statement}
+use Rattle.vectors.proofs.lending.blanks.Tie as tie
+use Rattle.vectors.proofs.lending.blanks.Reads as reads
+use Rattle.vectors.proofs.lending.blanks.Lts as lts
 use Rattle.elements.proofs.none.Reads as none-reads
 
 returns : tie.Need-returns

@@ -23,19 +23,19 @@ use Rattle.lists.proofs.write_list.Symbol as write-list-def
 use Rattle.lists.proofs.write_list.Symbol.{name as #lists·write-list}
 use Rattle.lists.proofs.write_list.Met as write-list-thm
 use Rattle.fields.proofs.Answers.{answers}
-use Rattle.vectors.specs.declared.doors.Lent.{Lent}
-use Rattle.vectors.proofs.doors.all_places as all-places
-use Rattle.vectors.proofs.doors.all_places.Symbol as all-places-def
-use Rattle.vectors.proofs.doors.all_places.Symbol.{name as #vectors·doors·all-places}
-use Rattle.vectors.proofs.doors.all_places.Met as all-places-thm
+use Rattle.vectors.specs.declared.lending.Lent.{Lent}
+use Rattle.vectors.proofs.lending.all_places as all-places
+use Rattle.vectors.proofs.lending.all_places.Symbol as all-places-def
+use Rattle.vectors.proofs.lending.all_places.Symbol.{name as #vectors·lending·all-places}
+use Rattle.vectors.proofs.lending.all_places.Met as all-places-thm
 use Rattle.vectors.proofs.Arrays.{E, N, mach, past, out-of-local, into-local, front-out, front-in}
-use Rattle.vectors.proofs.doors.Lent as B
-use Rattle.vectors.proofs.doors.Lent.Laws as B′
-use Rattle.vectors.proofs.doors.written.Key.{name as #vectors·doors·written}
-use Rattle.vectors.proofs.doors.written as written
-use Rattle.vectors.proofs.doors.written.Statement as stated
-use Rattle.vectors.proofs.doors.written.Code as code
-use Rattle.vectors.proofs.doors.written.Code.Mir as code-mir
+use Rattle.vectors.proofs.lending.Lent as B
+use Rattle.vectors.proofs.lending.Lent.Laws as B′
+use Rattle.vectors.proofs.lending.written.Key.{name as #vectors·lending·written}
+use Rattle.vectors.proofs.lending.written as written
+use Rattle.vectors.proofs.lending.written.Statement as stated
+use Rattle.vectors.proofs.lending.written.Code as code
+use Rattle.vectors.proofs.lending.written.Code.Mir as code-mir
 
 -- the types of the list by value and of the local that is lent
 abbrev R : RattleType
@@ -159,7 +159,7 @@ module _ {M : Type 1} (𝓤 : URA M) (H : Heap 𝓤) (A : Atoms 𝓤) (W : Given
   size-of : (xs : List Element) → length xs ≡ 66 → length (take n xs) ≡ n
   size-of xs len = length-take-le n xs (subst (λ (k : ℕ). n ≤ k) (sym len) few)
 
-  module _ (C : Calls 𝓤 H) (Λ : Loops 𝓤 H) (fm : FmC 𝓤 H (W .laws) C) (known-all : Triple 𝓤 (C #vectors·doors·all-places) (AllPlaces 𝓤 H A mem run)) (known-write : Triple 𝓤 (C #lists·write-list) (WriteList 𝓤 H A mem run)) where
+  module _ (C : Calls 𝓤 H) (Λ : Loops 𝓤 H) (fm : FmC 𝓤 H (W .laws) C) (known-all : Triple 𝓤 (C #vectors·lending·all-places) (AllPlaces 𝓤 H A mem run)) (known-write : Triple 𝓤 (C #lists·write-list) (WriteList 𝓤 H A mem run)) where
     walk : ent 𝓤 (onEntry 𝓤 H A written.signature κs qs (src, (list, (y, tt))) at) (WpFn 𝓤 H C Λ code.function (vh ∷ vl ∷ vo ∷ []) Post)
     walk =
         qed W ((‵ (flft κ q) ⊛ Tok′) ∷ ‵ (owns (ShrSlice (named 0) κ u8 ∷ R ∷ MutSlice (named 1) κ′ u8 ∷ []) (src, (list, (y, tt))) at) ∷ []) ∵ enter ! C Λ code.function (vh ∷ vl ∷ vo ∷ []) _ $
@@ -208,7 +208,7 @@ module _ {M : Type 1} (𝓤 : URA M) (H : Heap 𝓤) (A : Atoms 𝓤) (W : Given
         by ! (exits r w (ws .1 .1 .0) (e .0 ∙ ap (λ (zs : List Element). writeAnswer hs (take n zs) os) all-is, e .1 ∙ ap (λ (zs : List Element). writeLent hs (take n zs) os) all-is) long)))))))))))))))))))))))
 
 module _ {M : Type 1} (𝓤 : URA M) (H : Heap 𝓤) (A : Atoms 𝓤) (W : Given 𝓤 H A) (mem : Memory → SProp 𝓤) (run : Routine → Fun 𝓤) where
-  written-walks : (C : Calls 𝓤 H) (Λ : Loops 𝓤 H) → FmC 𝓤 H (W .laws) C → Triple 𝓤 (C #vectors·doors·all-places) (AllPlaces 𝓤 H A mem run) → Triple 𝓤 (C #lists·write-list) (WriteList 𝓤 H A mem run)
+  written-walks : (C : Calls 𝓤 H) (Λ : Loops 𝓤 H) → FmC 𝓤 H (W .laws) C → Triple 𝓤 (C #vectors·lending·all-places) (AllPlaces 𝓤 H A mem run) → Triple 𝓤 (C #lists·write-list) (WriteList 𝓤 H A mem run)
       → Walks 𝓤 H A written.ended stayed (WpFn 𝓤 H C Λ code.function) (written.clauses 𝓤 H A mem run)
   written-walks C Λ fm known-all known-write = walked 𝓤 H A written.ended stayed (written.clauses 𝓤 H A mem run) (WpFn 𝓤 H C Λ code.function)
       (λ κs. (slice-vals, (LL.vals B.the-type B′.the-laws, (slice-vals, tt)))) (λ κs. (shr-slice-tells (named 0) (κs .0) u8, (LL.tells B.the-type B′.the-laws, (mut-slice-tells (named 1) (κs .1 .0) u8, tt))))
@@ -216,7 +216,7 @@ module _ {M : Type 1} (𝓤 : URA M) (H : Heap 𝓤) (A : Atoms 𝓤) (W : Given
       walk 𝓤 H A W mem run (κs .0) (κs .1 .0) (qs .0) (qs .1 .0) (a .0) (a .1 .0) (a .1 .1 .0 .ptr .0) (a .1 .1 .0 .ptr .1) (a .1 .1 .0 .name) (a .1 .1 .0 .now) (are .0 .0 .1) (are .1 .0) (are .1 .1 .0 .0 .1) few C Λ fm known-all known-write))
 
 written-meets : {M : Type 1} (𝓤 : URA M) (H : Heap 𝓤) (A : Atoms 𝓤) (W : Given 𝓤 H A) (mem : Memory → SProp 𝓤) (run : Routine → Fun 𝓤) (𝓣 : Tables 𝓤 H)
-    → Triple 𝓤 (𝓣 .C #vectors·doors·all-places) (AllPlaces 𝓤 H A mem run) → Triple 𝓤 (𝓣 .C #lists·write-list) (WriteList 𝓤 H A mem run)
+    → Triple 𝓤 (𝓣 .C #vectors·lending·all-places) (AllPlaces 𝓤 H A mem run) → Triple 𝓤 (𝓣 .C #lists·write-list) (WriteList 𝓤 H A mem run)
     → Meets 𝓤 H A written.signature (WpFn 𝓤 H (𝓣 .C) (𝓣 .Λ) code.function) (written.spec 𝓤 H A mem run)
 written-meets 𝓤 H A W mem run 𝓣 known-all known-write =
     walk-meets 𝓤 H A written.ended stayed W
@@ -227,7 +227,7 @@ pub written-spec : {M : Type 1} → stated.statement M
 unfolding code.routine tablesOf
 written-spec 𝓤 H 𝓜 𝓖 𝓡 =
     entered 𝓤 H (tripleOf 𝓤 H (𝓖 .A) written.signature (written.spec 𝓤 H (𝓖 .A) (𝓜 .mem) (𝓡 .run)))
-    (tables 𝓤 H 𝓜 𝓡 code.env .C) (tables 𝓤 H 𝓜 𝓡 code.env .Λ) #vectors·doors·written code.function (code.unfolded 𝓤 H 𝓜 𝓡)
+    (tables 𝓤 H 𝓜 𝓡 code.env .C) (tables 𝓤 H 𝓜 𝓡 code.env .Λ) #vectors·lending·written code.function (code.unfolded 𝓤 H 𝓜 𝓡)
     (written-meets 𝓤 H (𝓖 .A) (givenOf 𝓤 H 𝓜 𝓖) (𝓜 .mem) (𝓡 .run) (tablesOf 𝓤 H 𝓜 (tables 𝓤 H 𝓜 𝓡 code.env))
-    (cited 𝓤 H (AllPlaces 𝓤 H (𝓖 .A) (𝓜 .mem) (𝓡 .run)) 𝓜 𝓡 code.env #vectors·doors·all-places all-places-def.routine code.calls-vectors·doors·all-places (all-places-thm.met 𝓤 H 𝓜 𝓖 𝓡))
+    (cited 𝓤 H (AllPlaces 𝓤 H (𝓖 .A) (𝓜 .mem) (𝓡 .run)) 𝓜 𝓡 code.env #vectors·lending·all-places all-places-def.routine code.calls-vectors·lending·all-places (all-places-thm.met 𝓤 H 𝓜 𝓖 𝓡))
     (cited 𝓤 H (WriteList 𝓤 H (𝓖 .A) (𝓜 .mem) (𝓡 .run)) 𝓜 𝓡 code.env #lists·write-list write-list-def.routine code.calls-lists·write-list (write-list-thm.met 𝓤 H 𝓜 𝓖 𝓡)))

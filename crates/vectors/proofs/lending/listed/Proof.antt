@@ -23,15 +23,15 @@ use Rattle.lists.proofs.read_list.Symbol as read-list-def
 use Rattle.lists.proofs.read_list.Symbol.{name as #lists·read-list}
 use Rattle.lists.proofs.read_list.Met as read-list-thm
 use Rattle.vectors.proofs.Arrays.{E, N, mach, out-of-local, into-local}
-use Rattle.vectors.proofs.doors.blanks as blanks
-use Rattle.vectors.proofs.doors.blanks.Symbol as blanks-def
-use Rattle.vectors.proofs.doors.blanks.Symbol.{name as #vectors·doors·blanks}
-use Rattle.vectors.proofs.doors.blanks.Met as blanks-thm
-use Rattle.vectors.proofs.doors.listed.Key.{name as #vectors·doors·listed}
-use Rattle.vectors.proofs.doors.listed as listed
-use Rattle.vectors.proofs.doors.listed.Statement as stated
-use Rattle.vectors.proofs.doors.listed.Code as code
-use Rattle.vectors.proofs.doors.listed.Code.Mir as code-mir
+use Rattle.vectors.proofs.lending.blanks as blanks
+use Rattle.vectors.proofs.lending.blanks.Symbol as blanks-def
+use Rattle.vectors.proofs.lending.blanks.Symbol.{name as #vectors·lending·blanks}
+use Rattle.vectors.proofs.lending.blanks.Met as blanks-thm
+use Rattle.vectors.proofs.lending.listed.Key.{name as #vectors·lending·listed}
+use Rattle.vectors.proofs.lending.listed as listed
+use Rattle.vectors.proofs.lending.listed.Statement as stated
+use Rattle.vectors.proofs.lending.listed.Code as code
+use Rattle.vectors.proofs.lending.listed.Code.Mir as code-mir
 
 -- the type of the local that is lent
 abbrev arrTy : Ty
@@ -96,7 +96,7 @@ module _ {M : Type 1} (𝓤 : URA M) (H : Heap 𝓤) (A : Atoms 𝓤) (W : Given
   goes-read l ν γ xs =
       qed W (toks ν ∷ ‵ (owns (ShrSlice (named 0) κ u8 ∷ MutSlice (named 1) (ν ∷ []) E ∷ []) (src, (x l γ xs, tt)) (vf ∷ [], (sliceVal (l, 0) 66 ∷ [], tt))) ∷ []) ∵ join ! $ frame ! $ done !
 
-  module _ (C : Calls 𝓤 H) (Λ : Loops 𝓤 H) (fm : FmC 𝓤 H (W .laws) C) (known-blanks : Triple 𝓤 (C #vectors·doors·blanks) (Blanks 𝓤 H A mem run)) (known-read : Triple 𝓤 (C #lists·read-list) (ReadList 𝓤 H A mem run)) where
+  module _ (C : Calls 𝓤 H) (Λ : Loops 𝓤 H) (fm : FmC 𝓤 H (W .laws) C) (known-blanks : Triple 𝓤 (C #vectors·lending·blanks) (Blanks 𝓤 H A mem run)) (known-read : Triple 𝓤 (C #lists·read-list) (ReadList 𝓤 H A mem run)) where
     walk : ent 𝓤 (onEntry 𝓤 H A listed.signature (κ, tt) (q, tt) (src, tt) at) (WpFn 𝓤 H C Λ code.function (vf ∷ []) Post)
     walk =
         qed W ((‵ (flft κ q) ⊛ ‵ ftrue) ∷ ‵ (owns (ShrSlice (named 0) κ u8 ∷ []) (src, tt) at) ∷ []) ∵ enter ! C Λ code.function (vf ∷ []) _ $
@@ -143,13 +143,13 @@ module _ {M : Type 1} (𝓤 : URA M) (H : Heap 𝓤) (A : Atoms 𝓤) (W : Given
         by ! (exits (ws .1 .0) (e₂ .1 ∙ ap (readLent fs) e)))))))))))))))))))))
 
 module _ {M : Type 1} (𝓤 : URA M) (H : Heap 𝓤) (A : Atoms 𝓤) (W : Given 𝓤 H A) (mem : Memory → SProp 𝓤) (run : Routine → Fun 𝓤) where
-  listed-walks : (C : Calls 𝓤 H) (Λ : Loops 𝓤 H) → FmC 𝓤 H (W .laws) C → Triple 𝓤 (C #vectors·doors·blanks) (Blanks 𝓤 H A mem run) → Triple 𝓤 (C #lists·read-list) (ReadList 𝓤 H A mem run)
+  listed-walks : (C : Calls 𝓤 H) (Λ : Loops 𝓤 H) → FmC 𝓤 H (W .laws) C → Triple 𝓤 (C #vectors·lending·blanks) (Blanks 𝓤 H A mem run) → Triple 𝓤 (C #lists·read-list) (ReadList 𝓤 H A mem run)
       → Walks 𝓤 H A listed.ended stayed (WpFn 𝓤 H C Λ code.function) (listed.clauses 𝓤 H A mem run)
   listed-walks C Λ fm known-blanks known-read = walked 𝓤 H A listed.ended stayed (listed.clauses 𝓤 H A mem run) (WpFn 𝓤 H C Λ code.function) (λ κs. (slice-vals, tt)) (λ κs. (shr-slice-tells (named 0) (κs .0) u8, tt))
       (λ κs qs bounds a g are. via 𝓤 _ (fst∗ 𝓤 _ (emp 𝓤)) (walk 𝓤 H A W mem run (κs .0) (qs .0) (a .0) (are .0 .0 .1) C Λ fm known-blanks known-read))
 
 listed-meets : {M : Type 1} (𝓤 : URA M) (H : Heap 𝓤) (A : Atoms 𝓤) (W : Given 𝓤 H A) (mem : Memory → SProp 𝓤) (run : Routine → Fun 𝓤) (𝓣 : Tables 𝓤 H)
-    → Triple 𝓤 (𝓣 .C #vectors·doors·blanks) (Blanks 𝓤 H A mem run) → Triple 𝓤 (𝓣 .C #lists·read-list) (ReadList 𝓤 H A mem run)
+    → Triple 𝓤 (𝓣 .C #vectors·lending·blanks) (Blanks 𝓤 H A mem run) → Triple 𝓤 (𝓣 .C #lists·read-list) (ReadList 𝓤 H A mem run)
     → Meets 𝓤 H A listed.signature (WpFn 𝓤 H (𝓣 .C) (𝓣 .Λ) code.function) (listed.spec 𝓤 H A mem run)
 listed-meets 𝓤 H A W mem run 𝓣 known-blanks known-read =
     walk-meets 𝓤 H A listed.ended stayed W (goes-none-slice 𝓤 H A W 1 (0 ∷ []) tt (plain (λ _. u8)) yes, tt) (listed.clauses 𝓤 H A mem run)
@@ -159,7 +159,7 @@ pub listed-spec : {M : Type 1} → stated.statement M
 unfolding code.routine tablesOf
 listed-spec 𝓤 H 𝓜 𝓖 𝓡 =
     entered 𝓤 H (tripleOf 𝓤 H (𝓖 .A) listed.signature (listed.spec 𝓤 H (𝓖 .A) (𝓜 .mem) (𝓡 .run)))
-    (tables 𝓤 H 𝓜 𝓡 code.env .C) (tables 𝓤 H 𝓜 𝓡 code.env .Λ) #vectors·doors·listed code.function (code.unfolded 𝓤 H 𝓜 𝓡)
+    (tables 𝓤 H 𝓜 𝓡 code.env .C) (tables 𝓤 H 𝓜 𝓡 code.env .Λ) #vectors·lending·listed code.function (code.unfolded 𝓤 H 𝓜 𝓡)
     (listed-meets 𝓤 H (𝓖 .A) (givenOf 𝓤 H 𝓜 𝓖) (𝓜 .mem) (𝓡 .run) (tablesOf 𝓤 H 𝓜 (tables 𝓤 H 𝓜 𝓡 code.env))
-    (cited 𝓤 H (Blanks 𝓤 H (𝓖 .A) (𝓜 .mem) (𝓡 .run)) 𝓜 𝓡 code.env #vectors·doors·blanks blanks-def.routine code.calls-vectors·doors·blanks (blanks-thm.met 𝓤 H 𝓜 𝓖 𝓡))
+    (cited 𝓤 H (Blanks 𝓤 H (𝓖 .A) (𝓜 .mem) (𝓡 .run)) 𝓜 𝓡 code.env #vectors·lending·blanks blanks-def.routine code.calls-vectors·lending·blanks (blanks-thm.met 𝓤 H 𝓜 𝓖 𝓡))
     (cited 𝓤 H (ReadList 𝓤 H (𝓖 .A) (𝓜 .mem) (𝓡 .run)) 𝓜 𝓡 code.env #lists·read-list read-list-def.routine code.calls-lists·read-list (read-list-thm.met 𝓤 H 𝓜 𝓖 𝓡)))

@@ -1,4 +1,4 @@
-// Doors to the operations on a lent list: a list by value is lent here, so that whoever calls needs no walk by hand.
+// Lends a list by value to the operations on a lent list, so that whoever calls needs no walk by hand.
 use meaning::Answer;
 use meaning::Element;
 ghost use mathlib.Core.Path.{_≡_};
