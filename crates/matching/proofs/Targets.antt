@@ -17,7 +17,8 @@ use Rattle.laws.proofs.Requests.{Positive, product-pos}
 use Rattle.requests.proofs.Laws.{rest-cons, rest-none, counts-positive}
 use Rattle.decisions.specs.Table.{elementAt}
 use Rattle.matching.specs.Hits.{Hits}
-use Rattle.matching.specs.Planes.{laid, Clear, Plane, Put}
+use Rattle.matching.specs.Planes.{laid, Clear, Plane}
+use Rattle.matching.proofs.Putting.{Put}
 use Rattle.matching.proofs.Spreading.{spreads}
 
 -- the requests of the later attributes are some, and no more than all
@@ -101,23 +102,6 @@ module _ (masks : List ℕ) (at : ℕ) (counts : List ℕ) (len : ℕ) where
               ap (λ b. bit (getD masks (at + (a - 1)) 0) (m / size) && b) (so-far .bits .bits (m % size) (mod-lt m size-some))
               ∙ rw (counts-at, masks-at, so-far .all)
 
-module _ (plane : List ℕ) (at : ℕ) (old : List ℕ) where
-  pub put-none : Put plane 0 at old old
-  put-none = record { here = λ k l. absurd (omega arith); before = λ k l. refl }
-
-  pub put-next : (new : List ℕ) (k : ℕ) → at + k < length new → Put plane k at old new → Put plane (k + 1) at old (set new (at + k) (getD plane k 0))
-  put-next new k room so-far =
-      record {
-        here = λ j l. go j l (test (eqb j k));
-        before = λ j l. getD-set-other new (at + k) j (getD plane k 0) 0 (λ e. omega arith) ∙ so-far .before j l;
-      }
-    where
-      go : (j : ℕ) → j < k + 1 → Test (eqb j k) → getD (set new (at + k) (getD plane k 0)) (at + j) 0 ≡ getD plane j 0
-      go j l (passed t) = rw (eqb-true j k t) (getD-set-same new (at + k) (getD plane k 0) 0 room)
-      go j l (failed t) =
-          let other = eqb-false j k t in
-          getD-set-other new (at + k) (at + j) (getD plane k 0) 0 (λ e. other (omega arith)) ∙ so-far .here j (omega (arith, other))
-
 module _ (t counts : List ℕ) where
   pub hits-none : (hits : List ℕ) → Hits t 0 counts hits
   hits-none hits i m l k = absurd (omega arith)
@@ -132,4 +116,4 @@ module _ (t counts : List ℕ) where
       go (passed e) = rw (eqb-true j i e) (ap (λ x. bit x (m % 64)) (copied .here (m / 64) (omega arith)) ∙ here m k)
       go (failed e) =
           let other = eqb-false j i e in
-          ap (λ x. bit x (m % 64)) (copied .before (64 * j + m / 64) (omega (arith, other))) ∙ so-far j m (omega (arith, other)) k
+          ap (λ x. bit x (m % 64)) (copied .others (64 * j + m / 64) (λ a. omega (arith, other))) ∙ so-far j m (omega (arith, other)) k

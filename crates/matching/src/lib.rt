@@ -3,9 +3,10 @@ ghost use mathlib.Core.Path.{_≡_};
 ghost use mathlib.Core.Bool.{_&&_, _||_};
 ghost use Prim.Native.Nat.{ℕ, _+_, _*_, _/_, _%_, _≤_, _<_};
 ghost use lib.ListN.{length, take, drop};
+ghost use lib.Seq.{paste};
 ghost use Rattle.meaning.specs.Model.{product};
 ghost use Rattle.meaning.specs.Deciding.{bit, within, requestOf};
-ghost use Rattle.matching.specs.Planes.{laid, raised, Moved, Clear, Plane, Put};
+ghost use Rattle.matching.specs.Planes.{laid, raised, Moved, Clear, Plane};
 ghost use Rattle.matching.specs.Hits.{Hits, Matchable};
 
 // A word moved up by s bits, the highest bits of the word before it coming in.
@@ -81,10 +82,10 @@ fn match_masks(masks: &[u16], at: usize, counts: [usize; 6], len: usize) -> [u64
     plane
 }
 
-// Copies the first `words` words of a plane to those from `at` on; the words before them stay.
+// Copies the first `words` words of a plane to those from `at` on; all other words stay.
 pub fn put(plane: &[u64; 64], words: usize, at: usize, hits: &mut [u64])
-    requires { ⌜ (words ≤ 64) × (at + words ≤ length (now hits)) ⌝ }
-    ensures { λ _. ⌜ Put (now (plane .entry)) words at (now (hits .entry)) (now (hits .exit)) ⌝ }
+    requires { ⌜ (words ≤ 64) × (words ≤ length (now plane)) × (at + words ≤ length (now hits)) ⌝ }
+    ensures { λ _. ⌜ now (hits .exit) ≡ paste (now (hits .entry)) at (now (plane .entry)) words ⌝ }
 {
     let mut k = 0;
     while k < words {

@@ -19,7 +19,7 @@ use Rattle.laws.proofs.Bools.{Test, passed, failed, test}
 use Rattle.decisions.specs.Table.{elementAt, before, depthOf, parentOf, placeOr}
 use Rattle.decisions.specs.Replies.{replyAt}
 use Rattle.decisions.proofs.Above.{Parent, top}
-use Rattle.matching.specs.Planes.{Put}
+use Rattle.matching.proofs.Putting.{Put}
 use Rattle.blocks.specs.declared.Replies.{Replies}
 use Rattle.blocks.specs.Bits.{decisionBy, replyBit, Answers}
 use Rattle.outcomes.specs.declared.Shape.{Shape}
@@ -118,7 +118,7 @@ module _ (F : (Element → Bool) → ℕ → Bool) (t hits : List ℕ) (n blocks
         go j b v hit l u x a answers (passed e) = rw (eqb-true j i e) (ap (λ y. bit y v) (copied .here b u) ∙ here b v hit u x answers)
         go j b v hit l u x a answers (failed e) =
             let other = eqb-false j i e in
-            ap (λ y. bit y v) (copied .before (64 * j + b) (omega (arith, other))) ∙ so-far .bits j b v hit l u x (omega (arith, other)) answers
+            ap (λ y. bit y v) (copied .others (64 * j + b) (λ a. omega (arith, other))) ∙ so-far .bits j b v hit l u x (omega (arith, other)) answers
 
 -- all of them, of requests
 pub told-requests : (F : (Element → Bool) → ℕ → Bool) (t : List ℕ) (s : Shape) (hits : List ℕ) {old rows : List ℕ} {k : ℕ} → Marked t s hits → 64 * s .n ≤ k → Told F t hits (s .n) ((s .space + 63) / 64) old rows k

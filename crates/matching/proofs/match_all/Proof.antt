@@ -1,10 +1,11 @@
 -- `match_all`: the words of the first i elements are right. Assumes nothing.
-use Prim.Native.Nat.{_-_, _≤_}
+use Prim.Native.Nat.{_+_, _-_, _*_, _/_, _≤_}
 use mathlib.Core.Path.{_≡_, refl, _∙_}
 use native.Mathlib.Omega.{arith}
 use borrow.Author.Needs.{needs}
 use lib.ListN.{length, take}
 use Rattle.matching.specs.Hits.{Hits}
+use Rattle.matching.proofs.Putting.{put-is}
 use Rattle.matching.proofs.Targets.{hits-none, hits-next}
 use Rattle.matching.proofs.match_all.Statement.{statement}
 use Rattle.matching.proofs.match_all.Tie as tie
@@ -24,10 +25,13 @@ loop-again c =
     let turn = c .before .before .before .before .before .before .before .loop in
     let put = c .before .before .put in
     let t = start .args .table .now in
-    let counts = take (start .args .len) (start .args .counts) in (
+    let counts = take (start .args .len) (start .args .counts) in
+    let plane = c .before .before .before .before .before .match-masks .result in
+    let wide : length plane ≡ 64 = search needs in
+    let copied = put-is plane ((start .args .space + 63) / 64) (64 * turn .i) (turn .hits) (put .last .1 .1 .1 .0) (put .ensures) (omega arith) (omega arith) in (
       omega arith,
       put .kept .1 .1 .1 .0 ∙ turn .inv .1,
-      hits-next t counts {old = turn .hits} (omega arith) (omega arith) (turn .inv .2) (c .before .before .before .before .before .match-masks .ensures) (put .ensures),
+      hits-next t counts (omega arith) (omega arith) (turn .inv .2) (c .before .before .before .before .before .match-masks .ensures) copied,
     )
 
 returns : tie.Need-returns Inv-loop μ-loop

@@ -1,7 +1,9 @@
 -- `apply_all`: the rows of the first i elements. Assumes nothing.
-use Prim.Native.Nat.{_-_, _*_, _≤_}
-use mathlib.Core.Path.{refl}
+use Prim.Native.Nat.{_+_, _-_, _*_, _/_, _≤_}
+use mathlib.Core.Path.{_≡_, refl}
 use native.Mathlib.Omega.{arith}
+use lib.ListN.{length}
+use Rattle.matching.proofs.Putting.{put-is}
 use Rattle.rows.proofs.Rows.{applying, Told, told-none, told-row, applied-all}
 use borrow.Author.Needs.{needs}
 use Rattle.rows.proofs.apply_all.Statement.{statement}
@@ -20,13 +22,21 @@ row-of-requires : tie.Need-row-of-requires Inv-loop μ-loop
 row-of-requires c κs = let start = c .before .before .before .before .before .before in let turn = c .before .loop in (record { rows = start .pre .0 .rows; few = start .pre .0 .few; words = omega (arith, start .pre .0 .few, start .pre .0 .room); most = turn .inv .1 }, search needs)
 
 put-requires : tie.Need-put-requires Inv-loop μ-loop
-put-requires c κs = let start = c .before .before .before .before .before .before .before .before .before in let turn = c .before .before .before .before .loop in (turn .inv .1, omega (arith, start .pre .0 .few, turn .inv .2 .size))
+put-requires c κs =
+    let start = c .before .before .before .before .before .before .before .before .before in
+    let turn = c .before .before .before .before .loop in
+    let wide : length (c .before .before .row-of .result) ≡ 64 = search needs in
+    (turn .inv .1, omega (arith, turn .inv .1), omega (arith, start .pre .0 .few, turn .inv .2 .size))
 
 loop-again : tie.Need-loop-again Inv-loop μ-loop
 loop-again c =
+    let start = c .before .before .before .before .before .before .before .before .before .before .before .before in
     let turn = c .before .before .before .before .before .before .before .loop in
+    let made = c .before .before .before .before .before .row-of in
     let put = c .before .before .put in
-    (search needs, turn .inv .1, told-row _ _ _ _ _ (turn .inv .2) (turn .inv .1) _ (put .last .1 .1 .1 .0) refl (put .kept .1 .1 .1 .0) (c .before .before .before .before .before .row-of .ensures) (put .ensures))
+    let wide : length (made .result) ≡ 64 = search needs in
+    let copied = put-is (made .result) ((start .args .shape .space + 63) / 64) (64 * turn .i) (turn .applied) (put .last .1 .1 .1 .0) (put .ensures) (omega (arith, start .pre .0 .few, turn .inv .2 .size)) (omega (arith, turn .inv .1)) in
+    (search needs, turn .inv .1, told-row _ _ _ _ _ (turn .inv .2) (turn .inv .1) (made .result) _ refl (put .kept .1 .1 .1 .0) (made .ensures) copied)
 
 returns : tie.Need-returns Inv-loop μ-loop
 returns c =

@@ -1,0 +1,50 @@
+-- Words copied to a place: what stands there, and elsewhere.
+use Prim.Native.Nat.{ℕ, _+_, _-_, _≤_, _<_}
+use mathlib.Core.Path.{_≡_, sym, ap, _∙_}
+use mathlib.Core.List.{List, _++_}
+use native.Mathlib.Omega.{arith}
+use lib.Dec.{leb}
+use lib.ListN.{length, take, drop, getD, List·getD-append}
+use lib.Seq.{paste, take-paste, drop-paste, getD-take, getD-drop, getD-append-add, length-take-le}
+use borrow.Author.Tests.{leb-true, leb-false}
+use Rattle.laws.proofs.Bools.{Test, passed, failed, test}
+
+-- the words from `at` on are the first ones of the plane, and all others are as they were
+pub record Put (plane : List ℕ) (words at : ℕ) (old new : List ℕ) : Type 0 where
+  pub here : (k : ℕ) → k < words → getD new (at + k) 0 ≡ getD plane k 0
+  pub others : (k : ℕ) → (at ≤ k → at + words ≤ k) → getD new k 0 ≡ getD old k 0
+
+module _ (plane : List ℕ) (words at : ℕ) (old new : List ℕ) (is : new ≡ paste old at plane words) (room : at + words ≤ length old) (enough : words ≤ length plane) where
+  -- a word before the end of those copied
+  front : (k : ℕ) → k < at + words → getD new k 0 ≡ getD (take at old ++ take words plane) k 0
+  front k l =
+      sym (getD-take (at + words) new k 0 l)
+      ∙ ap (λ xs. getD xs k 0) (ap (take (at + words)) is ∙ take-paste old at plane words (omega arith) enough)
+
+  size : length (take at old) ≡ at
+  size = length-take-le at old (omega arith)
+
+  before : (k : ℕ) → k < at → getD new k 0 ≡ getD old k 0
+  before k l = front k (omega arith) ∙ List·getD-append (take at old) (take words plane) 0 k (omega (arith, size)) ∙ getD-take at old k 0 l
+
+  behind : (k : ℕ) → at + words ≤ k → getD new k 0 ≡ getD old k 0
+  behind k l =
+      let place : at + words + (k - (at + words)) ≡ k = omega arith in
+      rw place at
+      (sym (getD-drop (at + words) new (k - (at + words)) 0)
+      ∙ ap (λ xs. getD xs (k - (at + words)) 0) (ap (drop (at + words)) is ∙ drop-paste old at plane words (omega arith) enough)
+      ∙ getD-drop (at + words) old (k - (at + words)) 0)
+
+  copied : (k : ℕ) → k < words → getD new (at + k) 0 ≡ getD plane k 0
+  copied k l =
+      front (at + k) (omega arith)
+      ∙ ap (λ n. getD (take at old ++ take words plane) (n + k) 0) (sym size)
+      ∙ getD-append-add (take at old) (take words plane) k 0
+      ∙ getD-take words plane k 0 l
+
+  pub put-is : Put plane words at old new
+  put-is = record { here = copied; others = λ k apart. go k apart (test (leb at k)) }
+    where
+      go : (k : ℕ) → (at ≤ k → at + words ≤ k) → Test (leb at k) → getD new k 0 ≡ getD old k 0
+      go k apart (passed t) = behind k (apart (leb-true at k t))
+      go k apart (failed t) = before k (leb-false at k t)
