@@ -1,13 +1,17 @@
--- Words copied to a place: what stands there, and elsewhere.
-use Prim.Native.Nat.{ℕ, _+_, _-_, _≤_, _<_}
-use mathlib.Core.Path.{_≡_, sym, ap, _∙_}
+-- Words copied to a place: what stands there, and elsewhere. Rows laid down so, one after the other.
+use Prim.Native.Nat.{ℕ, _+_, _-_, _*_, _/_, _%_, _≤_, _<_}
+use mathlib.Core.Path.{_≡_, refl, sym, ap, _∙_}
+use mathlib.Core.Bool.{false}
 use mathlib.Core.List.{List, _++_}
 use native.Mathlib.Omega.{arith}
-use lib.Dec.{leb}
+use lib.Dec.{leb, eqb}
 use lib.ListN.{length, take, drop, getD, List·getD-append}
 use lib.Seq.{paste, take-paste, drop-paste, getD-take, getD-drop, getD-append-add, length-take-le}
-use borrow.Author.Tests.{leb-true, leb-false}
+use borrow.Author.Tests.{leb-true, leb-false, eqb-true, eqb-false}
+use Rattle.meaning.specs.Deciding.{bit}
 use Rattle.laws.proofs.Bools.{Test, passed, failed, test}
+use Rattle.matching.specs.Planes.{Clear}
+use Rattle.matching.specs.Hits.{bitOf, wordsOf, Rest}
 
 -- the words from `at` on are the first ones of the plane, and all others are as they were
 pub record Put (plane : List ℕ) (words at : ℕ) (old new : List ℕ) : Type 0 where
@@ -48,3 +52,26 @@ module _ (plane : List ℕ) (words at : ℕ) (old new : List ℕ) (is : new ≡ 
       go : (k : ℕ) → (at ≤ k → at + words ≤ k) → Test (leb at k) → getD new k 0 ≡ getD old k 0
       go k apart (passed t) = behind k (apart (leb-true at k t))
       go k apart (failed t) = before k (leb-false at k t)
+
+module _ (space : ℕ) (old : List ℕ) where
+  pub rest-none : Rest 0 space old old
+  rest-none = record { same-length = refl; clear = λ i m l a b. absurd (omega arith); others = λ k h. refl }
+
+  -- one row more
+  pub rest-next : {i : ℕ} {plane mid new : List ℕ} → space ≤ 4096 → Clear plane space → length new ≡ length mid → Put plane (wordsOf space) (64 * i) mid new → Rest i space old mid → Rest (i + 1) space old new
+  rest-next {i} {plane} {mid} {new} small bare same copied so-far =
+      record {
+        same-length = same ∙ so-far .same-length;
+        clear = λ j m l a b. go j m l a b (test (eqb j i));
+        others = λ k h. copied .others k (λ a. apart k h a (test (leb (64 * (i + 1)) k))) ∙ so-far .others k (λ l. h (omega arith));
+      }
+    where
+      go : (j m : ℕ) → j < i + 1 → space ≤ m → m < 64 * wordsOf space → Test (eqb j i) → bitOf new j m ≡ false
+      go j m l a b (passed e) = rw (eqb-true j i e) (ap (λ x. bit x (m % 64)) (copied .here (m / 64) (omega arith)) ∙ bare m a (omega arith))
+      go j m l a b (failed e) =
+          let other = eqb-false j i e in
+          ap (λ x. bit x (m % 64)) (copied .others (64 * j + m / 64) (λ h. omega (arith, other))) ∙ so-far .clear j m (omega (arith, other)) a b
+
+      apart : (k : ℕ) → (k < 64 * (i + 1) → wordsOf space ≤ k % 64) → 64 * i ≤ k → Test (leb (64 * (i + 1)) k) → 64 * i + wordsOf space ≤ k
+      apart k h a (passed e) = let past = leb-true (64 * (i + 1)) k e in omega arith
+      apart k h a (failed e) = let free = h (leb-false (64 * (i + 1)) k e) in omega arith

@@ -1,15 +1,34 @@
 -- Which requests match each element's own target, 64 requests in a word.
 use Prim.Native.Nat.{ℕ, _+_, _*_, _/_, _%_, _≤_, _<_}
 use mathlib.Core.Path.{_≡_}
+use mathlib.Core.Bool.{Bool, false}
 use mathlib.Core.List.{List}
 use lib.ListN.{length, take, getD}
 use Rattle.meaning.specs.Model.{product}
 use Rattle.meaning.specs.Deciding.{bit, requestOf, matches}
 use Rattle.decisions.specs.Table.{elementAt}
 
--- bit m % 64 of word 64 i + m / 64 says whether request m matches element i's own target
+-- rows of 64 words: row i's bit for request m is bit m % 64 of its word m / 64
+abbrev pub bitOf : List ℕ → ℕ → ℕ → Bool
+bitOf rows i m = bit (getD rows (64 * i + m / 64) 0) (m % 64)
+
+-- how many words of a row have a bit for one of `space` requests
+abbrev pub wordsOf : ℕ → ℕ
+wordsOf space = (space + 63) / 64
+
+-- those words of n rows have no bit from `space` on
+abbrev pub ClearFrom : ℕ → ℕ → List ℕ → Type 0
+ClearFrom n space rows = (i m : ℕ) → i < n → space ≤ m → m < 64 * wordsOf space → bitOf rows i m ≡ false
+
+-- what laying down n rows of `space` bits leaves besides those bits: no other is set in their words, and all other words are as they were
+pub record Rest (n space : ℕ) (old new : List ℕ) : Type 0 where
+  pub same-length : length new ≡ length old
+  pub clear : ClearFrom n space new
+  pub others : (k : ℕ) → (k < 64 * n → wordsOf space ≤ k % 64) → getD new k 0 ≡ getD old k 0
+
+-- element i's bit for request m says whether it matches the element's own target
 abbrev pub Hits : List ℕ → ℕ → List ℕ → List ℕ → Type 0
-Hits t n counts hits = (i m : ℕ) → i < n → m < product counts → bit (getD hits (64 * i + m / 64) 0) (m % 64) ≡ matches (requestOf counts m) (elementAt t i)
+Hits t n counts hits = (i m : ℕ) → i < n → m < product counts → bitOf hits i m ≡ matches (requestOf counts m) (elementAt t i)
 
 -- a table of at most 64 elements, at most six attributes and 4,096 requests, and room for a bit of each element and request
 pub record Matchable (t : List ℕ) (n : ℕ) (counts : List ℕ) (len space : ℕ) (hits : List ℕ) : Type 0 where

@@ -7,7 +7,7 @@ ghost use lib.Seq.{paste};
 ghost use Rattle.meaning.specs.Model.{product};
 ghost use Rattle.meaning.specs.Deciding.{bit, within, requestOf};
 ghost use Rattle.matching.specs.Planes.{laid, raised, Moved, Clear, Plane};
-ghost use Rattle.matching.specs.Hits.{Hits, Matchable};
+ghost use Rattle.matching.specs.Hits.{Hits, Rest, Matchable};
 
 // A word moved up by s bits, the highest bits of the word before it coming in.
 fn moved(word: u64, before: u64, s: usize) -> u64
@@ -67,7 +67,7 @@ fn spread(plane: &[u64; 64], size: usize, mask: u16, count: usize) -> [u64; 64]
 // The requests that match the masks from `at` on, from the last attribute to the first.
 fn match_masks(masks: &[u16], at: usize, counts: [usize; 6], len: usize) -> [u64; 64]
     requires { ⌜ (at + 6 ≤ length (now masks)) × (len ≤ 6) × (0 < product (take len counts)) × (product (take len counts) ≤ 4096) ⌝ }
-    ensures { λ r. ⌜ ((m : ℕ) → m < product (take len counts) → laid r m ≡ within (take 6 (drop at (now (masks .entry)))) (requestOf (take len counts) m)) ⌝ }
+    ensures { λ r. ⌜ Plane r (product (take len counts)) (λ m. within (take 6 (drop at (now (masks .entry)))) (requestOf (take len counts) m)) ⌝ }
 {
     let mut plane = [0u64; 64];
     plane[0] = 1;
@@ -94,7 +94,7 @@ pub fn put(plane: &[u64; 64], words: usize, at: usize, hits: &mut [u64])
     }
 }
 
-// Lays down which requests match each element's own target.
+// Lays down which requests match each element's own target. All other words stay.
 pub fn match_all(
     table: &[u16],
     n: usize,
@@ -104,7 +104,7 @@ pub fn match_all(
     hits: &mut [u64],
 )
     requires { ⌜ Matchable (now table) n counts len space (now hits) ⌝ }
-    ensures { λ _. ⌜ Hits (now (table .entry)) n (take len counts) (now (hits .exit)) ⌝ }
+    ensures { λ _. ⌜ Hits (now (table .entry)) n (take len counts) (now (hits .exit)) × Rest n space (now (hits .entry)) (now (hits .exit)) ⌝ }
 {
     let words = (space + 63) / 64;
     let mut i = 0;

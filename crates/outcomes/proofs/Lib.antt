@@ -2,3 +2,4 @@
 pub mod Laying
 pub mod Searching
 pub mod Blocks
+pub mod Telling

@@ -5,7 +5,7 @@ use mathlib.Core.List.{List}
 use lib.ListN.{length, take, getD}
 use Rattle.meaning.specs.Model.{product}
 use Rattle.decisions.specs.Table.{Leaves, RulesStruck}
-use Rattle.matching.specs.Hits.{Hits}
+use Rattle.matching.specs.Hits.{Hits, ClearFrom}
 use Rattle.outcomes.specs.declared.Shape.{Shape}
 use Rattle.outcomes.specs.Decided.{toldAt, decidedAt}
 
@@ -28,10 +28,11 @@ pub record Ready (t struck : List ℕ) (s : Shape) : Type 0 where
   pub positive : 0 < s .space
   pub small : s .space ≤ 4096
 
--- the words that tell which requests match each element's own target
+-- the words that tell which requests match each element's own target, and nothing else
 pub record Matched (t hits : List ℕ) (s : Shape) : Type 0 where
   pub room : 64 * s .n ≤ length hits
   pub hits-are : Hits t (s .n) (countsOf s) hits
+  pub clear : ClearFrom (s .n) (s .space) hits
 
 -- the words that tell what each request gets under these flags
 pub record Holds (t struck told : List ℕ) (s : Shape) : Type 0 where

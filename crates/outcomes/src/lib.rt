@@ -6,7 +6,7 @@ ghost use Prim.Native.Nat.{_*_, _≤_, _<_};
 ghost use lib.ListN.{length, drop};
 ghost use Rattle.meaning.specs.Text.{counting};
 ghost use Rattle.meaning.specs.Deciding.{decisionNumber};
-ghost use Rattle.matching.specs.Hits.{Matchable};
+ghost use Rattle.matching.specs.Hits.{Rest, Matchable};
 ghost use Rattle.outcomes.specs.Decided.{toldAt, differsAt};
 ghost use Rattle.outcomes.specs.Ready.{countsOf, Ready, Matched, Holds};
 ghost use Rattle.outcomes.specs.Changes.{Other, InBlock};
@@ -19,19 +19,19 @@ pub struct Shape {
     pub space: usize,
 }
 
-// Lays down which requests match each element's own target.
+// Lays down which requests match each element's own target. All other words stay.
 pub fn match_elements(table: &[u16], shape: Shape, hits: &mut [u64])
     requires { ⌜ Matchable (now table) (shape .n) (shape .counts) (shape .len) (shape .space) (now hits) ⌝ }
-    ensures { λ _. ⌜ Matched (now (table .entry)) (now (hits .exit)) shape ⌝ }
+    ensures { λ _. ⌜ Matched (now (table .entry)) (now (hits .exit)) shape × Rest (shape .n) (shape .space) (now (hits .entry)) (now (hits .exit)) ⌝ }
 {
     let counts = shape.counts;
     matching::match_all(table, shape.n, counts, shape.len, shape.space, hits);
 }
 
-// Lays down what each request gets, a block of 64 at a time: the words of those permitted, and 64 places on of those denied.
+// Lays down what each request gets, a block of 64 at a time: the words of those permitted, and 64 places on of those denied. All other words stay.
 pub fn decide_all(table: &[u16], struck: &[u8], hits: &[u64], shape: Shape, told: &mut [u64])
     requires { ⌜ Ready (now table) (now struck) shape × Matched (now table) (now hits) shape × (128 ≤ length (now told)) ⌝ }
-    ensures { λ _. ⌜ Holds (now (table .entry)) (now (struck .entry)) (now (told .exit)) shape ⌝ }
+    ensures { λ _. ⌜ Holds (now (table .entry)) (now (struck .entry)) (now (told .exit)) shape × Rest 2 (shape .space) (now (told .entry)) (now (told .exit)) ⌝ }
 {
     let space = shape.space;
     let mut block = 0;

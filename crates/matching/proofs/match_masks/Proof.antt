@@ -51,7 +51,7 @@ returns c =
     let turn = c .before .loop in
     let first : turn .a ≡ 0 = omega arith in
     let all = rw first at (turn .inv) in
-    λ m l. all .bits .bits m (rw (all .all) l)
+    record { bits = λ m l. all .bits .bits m (rw (all .all) l); clear = λ m a b. all .bits .clear m (rw (all .all) a) b }
 
 pub match-masks-spec : {M : Type 1} → statement M
 match-masks-spec =

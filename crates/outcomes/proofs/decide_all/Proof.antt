@@ -3,22 +3,21 @@ use Prim.Native.Nat.{ℕ, _+_, _-_, _*_, _<_}
 use mathlib.Core.Path.{_≡_, refl}
 use native.Mathlib.Omega.{arith}
 use lib.ListN.{length, length-set}
-use Rattle.outcomes.specs.Decided.{toldAt, decidedAt}
-use Rattle.outcomes.specs.Ready.{countsOf}
-use Rattle.outcomes.proofs.Blocks.{block-room, given-at, told-next}
+use Rattle.outcomes.proofs.Blocks.{toTell, block-room, given-tells}
+use Rattle.outcomes.proofs.Telling.{Tells, tells-none, tells-next, tells-holds, tells-rest}
 use borrow.Author.Needs.{needs}
 use Rattle.outcomes.proofs.decide_all.Statement.{statement}
 use Rattle.outcomes.proofs.decide_all.Tie as tie
 
 abbrev Inv-loop : tie.InvT-loop
 Inv-loop table struck hits shape told₀ space block₀ told block =
-    (64 * block < space + 64) × (length told ≡ length told₀) × ((m : ℕ) → m < space → m < 64 * block → toldAt told m ≡ decidedAt table (shape .n) (countsOf shape) struck m)
+    (64 * block < space + 64) × (length told ≡ length told₀) × Tells (toTell table struck shape) told₀ told block
 
 abbrev μ-loop : tie.MeasureT-loop
 μ-loop table struck hits shape told₀ space block₀ told block = space + 64 - 64 * block
 
 loop-holds : tie.Need-loop-holds Inv-loop μ-loop
-loop-holds c = (omega arith, refl, λ m l none. absurd (omega arith))
+loop-holds c = (omega arith, refl, tells-none _ _)
 
 mul-loop : tie.Need-mul-loop Inv-loop μ-loop
 mul-loop c = omega (arith, c .before .before .before .before .before .pre .0 .small)
@@ -40,16 +39,20 @@ loop-again c =
     let struck = start .args .struck .now in
     let shape = start .args .shape in
     let ready = start .pre .0 in
-    let given = given-at t struck (start .args .hits .now) shape ready (start .pre .1) (turn .block) (c .before .reply .result) (c .before .reply .ensures) in (
+    let given = given-tells t struck (start .args .hits .now) shape ready (start .pre .1) (turn .block) (c .before .reply .result) (c .before .reply .ensures) (omega arith) in (
       omega arith,
       rw (length-set, length-set) (turn .inv .1),
-      told-next (decidedAt t (shape .n) (countsOf shape) struck) (shape .space) (turn .block) _ given (turn .told) (omega (arith, ready .small)) (omega arith) (turn .inv .2),
+      tells-next _ given (omega (arith, ready .small)) (omega arith) (turn .inv .2),
     )
 
 returns : tie.Need-returns Inv-loop μ-loop
 returns c =
+    let start = c .before .before .before .before .before .before in
     let turn = c .before .loop in
-    record { enough = omega arith; tells = λ m l. turn .inv .2 m l (omega arith) }
+    let t = start .args .table .now in
+    let struck = start .args .struck .now in
+    let shape = start .args .shape in
+    (tells-holds t struck shape _ (turn .told) (turn .block) (turn .inv .2) (omega arith) (omega arith) (omega arith), tells-rest t struck shape _ (turn .told) (turn .block) (turn .inv .2) (omega arith) (omega arith))
 
 pub decide-all-spec : {M : Type 1} → statement M
 decide-all-spec =
