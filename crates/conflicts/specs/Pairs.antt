@@ -9,7 +9,7 @@ use Rattle.meaning.specs.Text.{firstFrom}
 use Rattle.meaning.specs.Deciding.{requestOf, bit}
 use Rattle.decisions.specs.Table.{placeOr}
 use Rattle.rows.specs.Words.{appliesAt, givesAt}
-use Rattle.rows.specs.Rows.{bitOf}
+use Rattle.matching.specs.Hits.{bitOf}
 
 -- bit r is set, and none below it
 pub record Lowest (word r : ℕ) : Type 0 where

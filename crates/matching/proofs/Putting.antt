@@ -53,6 +53,14 @@ module _ (plane : List ℕ) (words at : ℕ) (old new : List ℕ) (is : new ≡ 
       go k apart (passed t) = behind k (apart (leb-true at k t))
       go k apart (failed t) = before k (leb-false at k t)
 
+-- a word that is none of the first ones of row i
+pub outside : {words : ℕ} (i k : ℕ) → words ≤ 64 → (k < 64 * (i + 1) → words ≤ k % 64) → 64 * i ≤ k → 64 * i + words ≤ k
+outside {words} i k few h a = go (test (leb (64 * (i + 1)) k))
+  where
+    go : Test (leb (64 * (i + 1)) k) → 64 * i + words ≤ k
+    go (passed e) = let past = leb-true (64 * (i + 1)) k e in omega arith
+    go (failed e) = let free = h (leb-false (64 * (i + 1)) k e) in omega arith
+
 module _ (space : ℕ) (old : List ℕ) where
   pub rest-none : Rest 0 space old old
   rest-none = record { same-length = refl; clear = λ i m l a b. absurd (omega arith); others = λ k h. refl }
@@ -60,10 +68,11 @@ module _ (space : ℕ) (old : List ℕ) where
   -- one row more
   pub rest-next : {i : ℕ} {plane mid new : List ℕ} → space ≤ 4096 → Clear plane space → length new ≡ length mid → Put plane (wordsOf space) (64 * i) mid new → Rest i space old mid → Rest (i + 1) space old new
   rest-next {i} {plane} {mid} {new} small bare same copied so-far =
+      let enough : wordsOf space ≤ 64 = omega arith in
       record {
         same-length = same ∙ so-far .same-length;
         clear = λ j m l a b. go j m l a b (test (eqb j i));
-        others = λ k h. copied .others k (λ a. apart k h a (test (leb (64 * (i + 1)) k))) ∙ so-far .others k (λ l. h (omega arith));
+        others = λ k h. copied .others k (outside i k enough h) ∙ so-far .others k (λ l. h (omega arith));
       }
     where
       go : (j m : ℕ) → j < i + 1 → space ≤ m → m < 64 * wordsOf space → Test (eqb j i) → bitOf new j m ≡ false
@@ -71,7 +80,3 @@ module _ (space : ℕ) (old : List ℕ) where
       go j m l a b (failed e) =
           let other = eqb-false j i e in
           ap (λ x. bit x (m % 64)) (copied .others (64 * j + m / 64) (λ h. omega (arith, other))) ∙ so-far .clear j m (omega (arith, other)) a b
-
-      apart : (k : ℕ) → (k < 64 * (i + 1) → wordsOf space ≤ k % 64) → 64 * i ≤ k → Test (leb (64 * (i + 1)) k) → 64 * i + wordsOf space ≤ k
-      apart k h a (passed e) = let past = leb-true (64 * (i + 1)) k e in omega arith
-      apart k h a (failed e) = let free = h (leb-false (64 * (i + 1)) k e) in omega arith

@@ -57,7 +57,7 @@ module _ (t : List ℕ) (s : Shape) where
     within l = omega (arith, ready .all)
 
     pub marked : (hits : List ℕ) → Matched t hits s → 4096 ≤ length hits → Marked t s hits
-    marked hits matched room = record { rows = ready .rows; few = ready .few; all = ready .all; small = ready .small; room = room; each = matched .hits-are }
+    marked hits matched room = record { rows = ready .rows; few = ready .few; all = ready .all; small = ready .small; room = room; each = matched .hits-are; clear = matched .clear }
 
     -- segments, from the words of all requests
     pub segments-found : (words sizes decided rows a b : List ℕ) → Applied t (s .n) (countsOf s) rows → words ≡ map (wordAcross rows (s .n)) (counting 0 (s .space)) ++ a

@@ -10,6 +10,7 @@ use lib.ListN.{length, getD, set, length-set, replicate, getD-replicate}
 use lib.Seq.{getD-set-same, getD-set-other}
 use borrow.Author.Tests.{eqb-true, eqb-false}
 use Rattle.meaning.specs.declared.Decision.{Decision}
+use Rattle.meaning.specs.declared.Decision.the-variants.{NotApplicable}
 use Rattle.meaning.specs.declared.Element.{Element}
 use Rattle.meaning.specs.Model.{product}
 use Rattle.meaning.specs.Deciding.{Reply as ChildReply, requestOf, bit, matches, applies, is}
@@ -19,13 +20,14 @@ use Rattle.laws.proofs.Bools.{Test, passed, failed, test}
 use Rattle.decisions.specs.Table.{elementAt, before, depthOf, parentOf, placeOr}
 use Rattle.decisions.specs.Replies.{replyAt}
 use Rattle.decisions.proofs.Above.{Parent, top}
-use Rattle.matching.proofs.Putting.{Put}
+use Rattle.matching.specs.Hits.{bitOf, wordsOf, Rest}
+use Rattle.matching.proofs.Putting.{Put, outside}
 use Rattle.blocks.specs.declared.Replies.{Replies}
 use Rattle.blocks.specs.Bits.{decisionBy, replyBit, Answers}
 use Rattle.outcomes.specs.declared.Shape.{Shape}
 use Rattle.outcomes.specs.Ready.{countsOf}
 use Rattle.rows.specs.Words.{appliesAt, givesAt}
-use Rattle.rows.specs.Rows.{bitOf, Applied, Given, Narrowed, AppliedRow, Marked}
+use Rattle.rows.specs.Rows.{Applied, Given, Narrowed, AppliedRow, Marked}
 
 -- Row `new` is `old` with the words of `hits` from `at` on, up to word b
 pub record Narrows (hits : List ℕ) (at : ℕ) (old new : List ℕ) (b : ℕ) : Type 0 where
@@ -82,23 +84,29 @@ pub row-applied : (t hits : List ℕ) (n blocks i : ℕ) (row : List ℕ) → bl
 row-applied t hits n blocks i row few narrowed b v hit l u answers =
     narrowed b v hit l answers ∙ rw (getD-replicate {A = ℕ} 64 b 18446744073709551615 0 (omega arith), full v u)
 
--- What each bit of the rows says, by the test of targets that it answers: of the elements and blocks before word k
+-- What each bit of the rows says, by the test of targets that it answers: of the elements and blocks before word k; all other words are as they were
 module _ (F : (Element → Bool) → ℕ → Bool) (t hits : List ℕ) (n blocks : ℕ) where
   pub record Told (old rows : List ℕ) (k : ℕ) : Type 0 where
     pub size : length rows ≡ length old
     pub bits : (i b v : ℕ) (hit : Element → Bool) → i < n → b < blocks → v < 64 → 64 * i + b < k → Answers t hits n b v hit → bit (getD rows (64 * i + b) 0) v ≡ F hit i
+    pub others : (j : ℕ) → (j < k → blocks ≤ j % 64) → getD rows j 0 ≡ getD old j 0
 
   pub told-none : (old : List ℕ) → Told old old 0
-  told-none old = record { size = refl; bits = λ i b v hit l u w a answers. absurd (omega arith) }
+  told-none old = record { size = refl; bits = λ i b v hit l u w a answers. absurd (omega arith); others = λ j h. refl }
 
   module _ {old rows : List ℕ} {k : ℕ} (so-far : Told old rows k) (few : blocks ≤ 64) where
     -- word k is of no block
     pub told-skip : blocks ≤ k % 64 → Told old rows (k + 1)
-    told-skip past = record { size = so-far .size; bits = λ i b v hit l u w a answers. so-far .bits i b v hit l u w (omega arith) answers }
+    told-skip past = record { size = so-far .size; bits = λ i b v hit l u w a answers. so-far .bits i b v hit l u w (omega arith) answers; others = λ j h. so-far .others j (λ l. h (omega arith)) }
 
     -- word k is laid down
-    pub told-next : (w : ℕ) → k < length rows → ((v : ℕ) (hit : Element → Bool) → v < 64 → Answers t hits n (k % 64) v hit → bit w v ≡ F hit (k / 64)) → Told old (set rows k w) (k + 1)
-    told-next w room word = record { size = length-set rows k w ∙ so-far .size; bits = λ i b v hit l u x a answers. go i b v hit l u x a answers (test (eqb (64 * i + b) k)) }
+    pub told-next : (w : ℕ) → k < length rows → k % 64 < blocks → ((v : ℕ) (hit : Element → Bool) → v < 64 → Answers t hits n (k % 64) v hit → bit w v ≡ F hit (k / 64)) → Told old (set rows k w) (k + 1)
+    told-next w room block word =
+        record {
+          size = length-set rows k w ∙ so-far .size;
+          bits = λ i b v hit l u x a answers. go i b v hit l u x a answers (test (eqb (64 * i + b) k));
+          others = λ j h. getD-set-other rows k j w 0 (λ e. let no = h (omega arith) in omega arith) ∙ so-far .others j (λ l. h (omega arith));
+        }
       where
         go : (i b v : ℕ) (hit : Element → Bool) → i < n → b < blocks → v < 64 → 64 * i + b < k + 1 → Answers t hits n b v hit → Test (eqb (64 * i + b) k) → bit (getD (set rows k w) (64 * i + b) 0) v ≡ F hit i
         go i b v hit l u x a answers (passed e) =
@@ -112,13 +120,28 @@ module _ (F : (Element → Bool) → ℕ → Bool) (t hits : List ℕ) (n blocks
 
     -- a row is laid down
     pub told-row : {i : ℕ} (row new : List ℕ) → k ≡ 64 * i → length new ≡ length rows → ((b v : ℕ) (hit : Element → Bool) → b < blocks → v < 64 → Answers t hits n b v hit → bit (getD row b 0) v ≡ F hit i) → Put row blocks (64 * i) rows new → Told old new (64 * (i + 1))
-    told-row {i} row new from same here copied = record { size = same ∙ so-far .size; bits = λ j b v hit l u x a answers. go j b v hit l u x a answers (test (eqb j i)) }
+    told-row {i} row new from same here copied =
+        record {
+          size = same ∙ so-far .size;
+          bits = λ j b v hit l u x a answers. go j b v hit l u x a answers (test (eqb j i));
+          others = λ j h. copied .others j (outside i j few h) ∙ so-far .others j (λ l. h (omega arith));
+        }
       where
         go : (j b v : ℕ) (hit : Element → Bool) → j < n → b < blocks → v < 64 → 64 * j + b < 64 * (i + 1) → Answers t hits n b v hit → Test (eqb j i) → bit (getD new (64 * j + b) 0) v ≡ F hit j
         go j b v hit l u x a answers (passed e) = rw (eqb-true j i e) (ap (λ y. bit y v) (copied .here b u) ∙ here b v hit u x answers)
         go j b v hit l u x a answers (failed e) =
             let other = eqb-false j i e in
             ap (λ y. bit y v) (copied .others (64 * j + b) (λ a. omega (arith, other))) ∙ so-far .bits j b v hit l u x (omega (arith, other)) answers
+
+-- no bit of them behind the requests, where the test fails if no target matches
+pub told-rest : (F : (Element → Bool) → ℕ → Bool) (t : List ℕ) (s : Shape) (hits : List ℕ) {old rows : List ℕ} {k : ℕ} → ((i : ℕ) → F (λ e. false) i ≡ false) → Marked t s hits → k ≡ 64 * s .n
+    → Told F t hits (s .n) (wordsOf (s .space)) old rows k → Rest (s .n) (s .space) old rows
+told-rest F t s hits none matched end told =
+    record {
+      same-length = told .size;
+      clear = λ i m l past u. told .bits i (m / 64) (m % 64) (λ e. false) l (omega arith) (omega arith) (omega (arith, matched .small)) (λ j a. matched .clear j m a past u) ∙ none i;
+      others = λ j h. told .others j (λ l. h (omega arith));
+    }
 
 -- all of them, of requests
 pub told-requests : (F : (Element → Bool) → ℕ → Bool) (t : List ℕ) (s : Shape) (hits : List ℕ) {old rows : List ℕ} {k : ℕ} → Marked t s hits → 64 * s .n ≤ k → Told F t hits (s .n) ((s .space + 63) / 64) old rows k
@@ -139,9 +162,16 @@ module _ (t : List ℕ) (s : Shape) (hits : List ℕ) {old rows : List ℕ} {k :
   unfolding appliesAt
   applied-all = told-requests (applying t) t s hits matched all
 
+  pub applied-rest : k ≡ 64 * s .n → Told (applying t) t hits (s .n) (wordsOf (s .space)) old rows k → Rest (s .n) (s .space) old rows
+  applied-rest = told-rest (applying t) t s hits (λ i. refl) matched
+
   pub given-all : (d : Decision) (struck : List ℕ) → Told (giving d t struck (s .n)) t hits (s .n) ((s .space + 63) / 64) old rows k → Given d t struck (s .n) (countsOf s) rows
   unfolding givesAt
   given-all d struck = told-requests (giving d t struck (s .n)) t s hits matched all
+
+  pub given-rest : (d : Decision) (struck : List ℕ) → is d NotApplicable ≡ false → k ≡ 64 * s .n → Told (giving d t struck (s .n)) t hits (s .n) (wordsOf (s .space)) old rows k → Rest (s .n) (s .space) old rows
+  unfolding replyAt
+  given-rest d struck none = told-rest (giving d t struck (s .n)) t s hits (λ i. none) matched
 
 -- one of two decisions alone
 permit-alone : (p d : Bool) → (p && not d) ≡ is Decision.Permit (decisionBy p d)

@@ -1,5 +1,5 @@
 -- Rows of bits: 64 words for each element, bit m % 64 of word m / 64 for request m.
-use Prim.Native.Nat.{ℕ, _+_, _*_, _/_, _%_, _≤_, _<_}
+use Prim.Native.Nat.{ℕ, _*_, _≤_, _<_}
 use mathlib.Core.Path.{_≡_}
 use mathlib.Core.Bool.{Bool, _&&_}
 use mathlib.Core.List.{List}
@@ -9,15 +9,11 @@ use Rattle.meaning.specs.declared.Element.{Element}
 use Rattle.meaning.specs.Model.{product}
 use Rattle.meaning.specs.Deciding.{requestOf, bit, applies}
 use Rattle.decisions.specs.Table.{elementAt, before}
-use Rattle.matching.specs.Hits.{Hits}
+use Rattle.matching.specs.Hits.{bitOf, Hits, ClearFrom}
 use Rattle.blocks.specs.Bits.{Answers}
 use Rattle.outcomes.specs.declared.Shape.{Shape}
 use Rattle.outcomes.specs.Ready.{countsOf}
 use Rattle.rows.specs.Words.{appliesAt, givesAt}
-
--- element i's bit for request m
-abbrev pub bitOf : List ℕ → ℕ → ℕ → Bool
-bitOf rows i m = bit (getD rows (64 * i + m / 64) 0) (m % 64)
 
 -- the rows say which requests each element applies to, and on which it gives a decision
 abbrev pub Applied : List ℕ → ℕ → List ℕ → List ℕ → Type 0
@@ -42,7 +38,7 @@ pub record Rowed (t hits : List ℕ) (n blocks : ℕ) : Type 0 where
   pub words : 64 * n ≤ length hits
   pub most : blocks ≤ 64
 
--- a table, its shape, and which requests match each element's own target
+-- a table, its shape, and which requests match each element's own target, and nothing else
 pub record Marked (t : List ℕ) (s : Shape) (hits : List ℕ) : Type 0 where
   pub rows : 8 * s .n ≤ length t
   pub few : s .n ≤ 64
@@ -50,3 +46,4 @@ pub record Marked (t : List ℕ) (s : Shape) (hits : List ℕ) : Type 0 where
   pub small : s .space ≤ 4096
   pub room : 4096 ≤ length hits
   pub each : Hits t (s .n) (countsOf s) hits
+  pub clear : ClearFrom (s .n) (s .space) hits

@@ -9,6 +9,7 @@ ghost use lib.Bits.{bitAnd};
 ghost use Rattle.meaning.specs.Text.{counting};
 ghost use Rattle.meaning.specs.Deciding.{bit};
 ghost use Rattle.decisions.specs.Table.{parentOf, placeOr};
+ghost use Rattle.matching.specs.Hits.{Rest};
 ghost use Rattle.outcomes.specs.Ready.{countsOf};
 ghost use Rattle.rows.specs.Rows.{Applied, Given, Narrowed, AppliedRow, Rowed, Marked};
 
@@ -55,10 +56,10 @@ fn row_of(table: &[u16], hits: &[u64], n: usize, blocks: usize, i: usize) -> [u6
     row
 }
 
-// Lays down the requests to which each element applies.
+// Lays down the requests to which each element applies. All other words stay.
 pub fn apply_all(table: &[u16], hits: &[u64], shape: Shape, applied: &mut [u64])
     requires { ⌜ Marked (now table) shape (now hits) × (4096 ≤ length (now applied)) ⌝ }
-    ensures { λ _. ⌜ Applied (now (table .entry)) (shape .n) (countsOf shape) (now (applied .exit)) ⌝ }
+    ensures { λ _. ⌜ Applied (now (table .entry)) (shape .n) (countsOf shape) (now (applied .exit)) × Rest (shape .n) (shape .space) (now (applied .entry)) (now (applied .exit)) ⌝ }
 {
     let n = shape.n;
     let blocks = (shape.space + 63) / 64;
@@ -70,7 +71,7 @@ pub fn apply_all(table: &[u16], hits: &[u64], shape: Shape, applied: &mut [u64])
     }
 }
 
-// Lays down the requests on which each element gives permit, and those on which it gives deny.
+// Lays down the requests on which each element gives permit, and those on which it gives deny. All other words stay.
 pub fn give_all(
     table: &[u16],
     struck: &[u8],
@@ -80,7 +81,7 @@ pub fn give_all(
     denies: &mut [u64],
 )
     requires { ⌜ Marked (now table) shape (now hits) × (shape .n ≤ length (now struck)) × (4096 ≤ length (now permits)) × (4096 ≤ length (now denies)) ⌝ }
-    ensures { λ _. ⌜ Given Decision.Permit (now (table .entry)) (now (struck .entry)) (shape .n) (countsOf shape) (now (permits .exit)) × Given Decision.Deny (now (table .entry)) (now (struck .entry)) (shape .n) (countsOf shape) (now (denies .exit)) ⌝ }
+    ensures { λ _. ⌜ Given Decision.Permit (now (table .entry)) (now (struck .entry)) (shape .n) (countsOf shape) (now (permits .exit)) × Given Decision.Deny (now (table .entry)) (now (struck .entry)) (shape .n) (countsOf shape) (now (denies .exit)) × Rest (shape .n) (shape .space) (now (permits .entry)) (now (permits .exit)) × Rest (shape .n) (shape .space) (now (denies .entry)) (now (denies .exit)) ⌝ }
 {
     let n = shape.n;
     let blocks = (shape.space + 63) / 64;

@@ -14,7 +14,8 @@ use Rattle.meaning.specs.Deciding.{bit}
 use Rattle.laws.proofs.Bits.{bit-zero, bit-above}
 use Rattle.laws.proofs.Bools.{Test, passed, failed, test}
 use Rattle.rows.specs.Words.{wordFrom, applyingAt}
-use Rattle.rows.specs.Rows.{bitOf, Applied}
+use Rattle.matching.specs.Hits.{bitOf}
+use Rattle.rows.specs.Rows.{Applied}
 use Rattle.segments.specs.Across.{wordAcross, Column}
 use Rattle.segments.specs.Turning.{Turned}
 use Rattle.rows.proofs.Marks.{bit-lowest, bit-higher, bit-word}

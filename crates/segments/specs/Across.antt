@@ -4,7 +4,7 @@ use mathlib.Core.Path.{_≡_}
 use mathlib.Core.List.{List}
 use lib.ListN.{getD}
 use Rattle.rows.specs.Words.{wordFrom}
-use Rattle.rows.specs.Rows.{bitOf}
+use Rattle.matching.specs.Hits.{bitOf}
 
 -- the word of request m: bit i is element i's
 abbrev pub wordAcross : List ℕ → ℕ → ℕ → ℕ

@@ -4,7 +4,7 @@ use mathlib.Core.Path.{_≡_, refl}
 use native.Mathlib.Omega.{arith}
 use lib.ListN.{length}
 use Rattle.matching.proofs.Putting.{put-is}
-use Rattle.rows.proofs.Rows.{applying, Told, told-none, told-row, applied-all}
+use Rattle.rows.proofs.Rows.{applying, Told, told-none, told-row, applied-all, applied-rest}
 use borrow.Author.Needs.{needs}
 use Rattle.rows.proofs.apply_all.Statement.{statement}
 use Rattle.rows.proofs.apply_all.Tie as tie
@@ -42,7 +42,7 @@ returns : tie.Need-returns Inv-loop μ-loop
 returns c =
     let start = c .before .before .before .before .before .before in
     let turn = c .before .loop in
-    applied-all _ _ _ (start .pre .0) (omega arith) (turn .inv .2)
+    (applied-all _ _ _ (start .pre .0) (omega arith) (turn .inv .2), applied-rest _ _ _ (start .pre .0) (omega arith) (omega arith) (turn .inv .2))
 
 pub apply-all-spec : {M : Type 1} → statement M
 apply-all-spec =
