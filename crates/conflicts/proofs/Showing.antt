@@ -118,6 +118,6 @@ module _ (t struck : List ℕ) (n : ℕ) (counts applied permits denies : List �
 
   pub pairs-by-table : (parents pairs : List ℕ) → Pairs parents (shownBy applied permits denies) n (product counts) pairs → Pairs parents (showsAt t struck n counts) n (product counts) pairs
   unfolding shownFor
-  pairs-by-table parents pairs paired j k a b same up =
-      paired j k a b same up
-      ∙ ap (placeOr (product counts)) (first-alike _ _ 0 (product counts) (λ m l u. shown-alike (getD parents j 0) j k m up (omega arith) b (omega arith)))
+  pairs-by-table parents pairs paired j k child =
+      paired j k child
+      ∙ ap (placeOr (product counts)) (first-alike _ _ 0 (product counts) (λ m l u. shown-alike (getD parents j 0) j k m (child .some) (omega (arith, child .after, child .within)) (child .within) (omega arith)))

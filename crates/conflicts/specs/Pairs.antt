@@ -1,5 +1,5 @@
 -- Conflicts of pairs: by the elements' parents and rows, the request that shows each.
-use Prim.Native.Nat.{ℕ, _+_, _*_, _≤_, _<_}
+use Prim.Native.Nat.{ℕ, _+_, _*_, _/_, _%_, _≤_, _<_}
 use mathlib.Core.Path.{_≡_}
 use mathlib.Core.Bool.{Bool, true, false, _&&_, _||_}
 use mathlib.Core.List.{List}
@@ -28,15 +28,26 @@ showsAt t struck n counts i j k m =
 unfoldable pub shownBy : (applied permits denies : List ℕ) → (i j k m : ℕ) → Bool
 shownBy applied permits denies i j k m = bitOf applied i m && ((bitOf permits j m && bitOf denies k m) || (bitOf denies j m && bitOf permits k m))
 
+-- k is a later child of j's parent
+pub record Later (parents : List ℕ) (n j k : ℕ) : Type 0 where
+  pub after : j < k
+  pub within : k < n
+  pub siblings : getD parents j 0 ≡ getD parents k 0
+  pub some : getD parents j 0 < n
+
+-- the places that are of no such pair are as they were
+abbrev pub OthersStay : List ℕ → ℕ → List ℕ → List ℕ → Type 0
+OthersStay parents n old new = (i : ℕ) → (Later parents n (i / 64) (i % 64) → ⊥) → getD new i 0 ≡ getD old i 0
+
 -- A policy's parents (n where there is none), and whether i, j and k show a conflict on request m
 module _ (parents : List ℕ) (shows : ℕ → ℕ → ℕ → ℕ → Bool) (n space : ℕ) where
   -- the first request that shows the conflict of j and k under j's parent, or the number of requests
   unfoldable pub shownFor : ℕ → ℕ → ℕ
   shownFor j k = placeOr space (firstFrom (shows (getD parents j 0) j k) 0 space)
 
-  -- that request stands at 64 j + k if k is a later child of j's parent: k, and each up to n
+  -- that request stands at 64 j + k if k is a later child of j's parent
   abbrev pub PairIs : List ℕ → ℕ → ℕ → Type 0
-  PairIs pairs j k = j < k → k < n → getD parents j 0 ≡ getD parents k 0 → getD parents j 0 < n → getD pairs (64 * j + k) 0 ≡ shownFor j k
+  PairIs pairs j k = Later parents n j k → getD pairs (64 * j + k) 0 ≡ shownFor j k
 
   abbrev pub PairsOf : List ℕ → ℕ → Type 0
   PairsOf pairs j = (k : ℕ) → PairIs pairs j k

@@ -1,10 +1,10 @@
 // Conflicts: the first request that shows each, by the rows of a parent and two of its children.
 ghost use mathlib.Core.Path.{_≡_};
-ghost use Prim.Native.Nat.{ℕ, _*_, _≤_, _<_};
+ghost use Prim.Native.Nat.{ℕ, _*_, _/_, _%_, _≤_, _<_};
 ghost use lib.ListN.{getD};
 ghost use Rattle.meaning.specs.Text.{firstFrom};
 ghost use Rattle.decisions.specs.Table.{placeOr};
-ghost use Rattle.conflicts.specs.Pairs.{Lowest, shownBy, PairsOf, Pairs, Laid, Pairing};
+ghost use Rattle.conflicts.specs.Pairs.{Lowest, shownBy, Later, PairsOf, Pairs, OthersStay, Laid, Pairing};
 
 // The lowest bit that is set.
 fn lowest(word: u64) -> usize
@@ -45,7 +45,7 @@ fn first_shown(
     space
 }
 
-// Lays down at 64 j + k, for each later child k of j's parent, the first request that shows a conflict of j and k, or the number of requests. The places before 64 j stay.
+// Lays down at 64 j + k, for each later child k of j's parent, the first request that shows a conflict of j and k, or the number of requests. All other places stay.
 fn pair_later(
     parents: &[usize],
     applied: &[u64],
@@ -57,7 +57,7 @@ fn pair_later(
     pairs: &mut [u16],
 )
     requires { ⌜ Pairing (now parents) (now applied) (now permits) (now denies) n space (now pairs) × (j < n) ⌝ }
-    ensures { λ _. ⌜ PairsOf (now (parents .entry)) (shownBy (now (applied .entry)) (now (permits .entry)) (now (denies .entry))) n space (now (pairs .exit)) j × ((i : ℕ) → i < 64 * j → getD (now (pairs .exit)) i 0 ≡ getD (now (pairs .entry)) i 0) ⌝ }
+    ensures { λ _. ⌜ PairsOf (now (parents .entry)) (shownBy (now (applied .entry)) (now (permits .entry)) (now (denies .entry))) n space (now (pairs .exit)) j × ((i : ℕ) → (i / 64 ≡ j → Later (now (parents .entry)) n j (i % 64) → ⊥) → getD (now (pairs .exit)) i 0 ≡ getD (now (pairs .entry)) i 0) ⌝ }
 {
     let parent = parents[j];
     if n <= parent {
@@ -74,7 +74,7 @@ fn pair_later(
     }
 }
 
-// The same for each j.
+// The same for each j. Only places of later children are set.
 pub fn pair_all(
     parents: &[usize],
     applied: &[u64],
@@ -85,7 +85,7 @@ pub fn pair_all(
     pairs: &mut [u16],
 )
     requires { ⌜ Pairing (now parents) (now applied) (now permits) (now denies) n space (now pairs) ⌝ }
-    ensures { λ _. ⌜ Pairs (now (parents .entry)) (shownBy (now (applied .entry)) (now (permits .entry)) (now (denies .entry))) n space (now (pairs .exit)) ⌝ }
+    ensures { λ _. ⌜ Pairs (now (parents .entry)) (shownBy (now (applied .entry)) (now (permits .entry)) (now (denies .entry))) n space (now (pairs .exit)) × OthersStay (now (parents .entry)) n (now (pairs .entry)) (now (pairs .exit)) ⌝ }
 {
     let mut j = 0;
     while j < n {

@@ -20,7 +20,7 @@ use Rattle.decisions.specs.Table.{parentOf, placeOr}
 use Rattle.outcomes.proofs.Searching.{first-alike}
 use Rattle.layout.specs.Places.{nameIn, elementsTo}
 use Rattle.rows.specs.Words.{givesAt}
-use Rattle.conflicts.specs.Pairs.{showsAt}
+use Rattle.conflicts.specs.Pairs.{showsAt, Later}
 use Rattle.trimmed_text.proofs.Table.{name-at}
 use Rattle.report_lines.specs.Lines.{conflictLine, isChild, laterLine, laterLines, pairLines, conflictText}
 use Rattle.reporting.proofs.Applying.{applies-at}
@@ -66,8 +66,7 @@ module _ (f : Bytes) (table places : List ℕ) (n : ℕ) (p : Policy) (is : p .e
   module _ (parents struck : List ℕ) (clear : (k : ℕ) → getD struck k 0 ≡ 0)
       (found : (j : ℕ) → j < n → getD parents j 0 ≡ placeOr n (parentOf table j))
       (pairs : List ℕ)
-      (paired : (j k : ℕ) → j < k → k < n → getD parents j 0 ≡ getD parents k 0 → getD parents j 0 < n
-      → getD pairs (64 * j + k) 0 ≡ placeOr (product counts) (firstFrom (showsAt table struck n counts (getD parents j 0) j k) 0 (product counts))) where
+      (paired : (j k : ℕ) → Later parents n j k → getD pairs (64 * j + k) 0 ≡ placeOr (product counts) (firstFrom (showsAt table struck n counts (getD parents j 0) j k) 0 (product counts))) where
     gives : (d : Decision) (m j : ℕ) → j < n → givesAt d table struck n (requestOf counts m) j ≡ isOf d (decisionAt p m j)
     gives = gives-is f table places n p is counts sized struck clear
 
@@ -83,7 +82,7 @@ module _ (f : Bytes) (table places : List ℕ) (n : ℕ) (p : Policy) (is : p .e
     -- the request of a pair of children
     pair-is : (i j k : ℕ) → i < n → j < k → k < n → getD parents j 0 ≡ i → getD parents k 0 ≡ i → getD pairs (64 * j + k) 0 ≡ placeOr (product counts) (firstFrom (shows p i j k) 0 (product counts))
     pair-is i j k a b c x y =
-        paired j k b c (x ∙ sym y) (omega arith)
+        paired j k record { after = b; within = c; siblings = x ∙ sym y; some = omega arith }
         ∙ ap (placeOr (product counts)) (ap (λ i. firstFrom (showsAt table struck n counts i j k) 0 (product counts)) x ∙ first-is i j k a (omega arith) c)
 
     -- the line of a pair

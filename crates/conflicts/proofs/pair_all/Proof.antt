@@ -3,8 +3,8 @@ use Prim.Native.Nat.{ℕ, _-_, _≤_, _<_}
 use native.Mathlib.Omega.{arith}
 use lib.ListN.{length}
 use borrow.Author.Needs.{needs}
-use Rattle.conflicts.specs.Pairs.{shownBy, PairsOf}
-use Rattle.conflicts.proofs.PairSteps.{pairs-more}
+use Rattle.conflicts.specs.Pairs.{shownBy, PairsOf, OthersStay}
+use Rattle.conflicts.proofs.PairSteps.{pairs-more, others-more}
 use Rattle.conflicts.proofs.pair_all.Statement.{statement}
 use Rattle.conflicts.proofs.pair_all.Tie as tie
 use Rattle.conflicts.proofs.pair_all.Reads as reads
@@ -12,13 +12,13 @@ use Rattle.conflicts.proofs.pair_all.Lts as lts
 use Rattle.conflicts.proofs.pair_later.Reads as pair-later-reads
 
 abbrev Inv-loop : tie.InvT-loop
-Inv-loop parents applied permits denies n space pairs₀ j₀ pairs j = (j ≤ n) × ((i : ℕ) → i < j → PairsOf parents (shownBy applied permits denies) n space pairs i) × (length pairs ≡ length pairs₀)
+Inv-loop parents applied permits denies n space pairs₀ j₀ pairs j = (j ≤ n) × ((i : ℕ) → i < j → PairsOf parents (shownBy applied permits denies) n space pairs i) × (length pairs ≡ length pairs₀) × OthersStay parents n pairs₀ pairs
 
 abbrev μ-loop : tie.MeasureT-loop
 μ-loop parents applied permits denies n space pairs₀ j₀ pairs j = n - j
 
 loop-holds : tie.Need-loop-holds Inv-loop μ-loop
-loop-holds c = (search needs, λ i l. absurd (omega arith), refl)
+loop-holds c = (search needs, λ i l. absurd (omega arith), refl, λ i h. refl)
 
 pair-later-requires : tie.Need-pair-later-requires Inv-loop μ-loop
 pair-later-requires c κs =
@@ -30,8 +30,14 @@ loop-again : tie.Need-loop-again Inv-loop μ-loop
 loop-again c =
     let args = c .before .before .before .before .before .before .before .before .before .before .before .args in
     let l = c .before .before .before .before .before .loop in
-    let laid = c .before .before .pair-later .ensures in
-    (omega arith, pairs-more (args .parents .now) (shownBy (args .applied .now) (args .permits .now) (args .denies .now)) (args .n) (args .space) (c .before .before .before .before .before .before .before .before .before .before .before .pre .few) (l .j) (l .pairs) (c .before .before .pair-later .last .1 .1 .1 .1 .1 .1 .1 .0) (l .inv .1) (laid .0) (laid .1), search needs)
+    let few = c .before .before .before .before .before .before .before .before .before .before .before .pre .few in
+    let call = c .before .before .pair-later in
+    let new = call .last .1 .1 .1 .1 .1 .1 .1 .0 in (
+      omega arith,
+      pairs-more (args .parents .now) (shownBy (args .applied .now) (args .permits .now) (args .denies .now)) (args .n) (args .space) few (l .j) (l .pairs) new (l .inv .1) (call .ensures .0) (call .ensures .1),
+      search needs,
+      others-more (args .parents .now) (args .n) (l .j) (args .pairs .now) (l .pairs) new (l .inv .3) (call .ensures .1),
+    )
 
 same-length : tie.Need-same-length Inv-loop μ-loop
 same-length c = c .before .loop .inv .2
@@ -39,7 +45,7 @@ same-length c = c .before .loop .inv .2
 returns : tie.Need-returns Inv-loop μ-loop
 returns c =
     let l = c .before .loop in
-    λ j k a b. l .inv .1 j (omega arith) k a b
+    (λ j k child. l .inv .1 j (omega (arith, child .after, child .within)) k child, l .inv .3)
 
 pub pair-all-spec : {M : Type 1} → statement M
 pair-all-spec =

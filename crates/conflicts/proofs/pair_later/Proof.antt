@@ -1,9 +1,9 @@
-use mathlib.Core.Path.{_≡_, refl}
+use mathlib.Core.Path.{_≡_, refl, sym}
 use Prim.Native.Nat.{_+_, _-_, _*_, _≤_, _<_}
 use native.Mathlib.Omega.{arith}
 use lib.ListN.{length}
 use borrow.Author.Needs.{needs}
-use Rattle.conflicts.specs.Pairs.{shownBy}
+use Rattle.conflicts.specs.Pairs.{shownBy, Later}
 use Rattle.conflicts.proofs.PairSteps.{PairedTo, pairs-begun, pair-skipped, pair-laid, pairs-ended, no-pair}
 use Rattle.conflicts.proofs.pair_later.Statement.{statement}
 use Rattle.conflicts.proofs.pair_later.Tie as tie
@@ -20,7 +20,7 @@ abbrev μ-loop : tie.MeasureT-loop
 returns : tie.Need-returns Inv-loop μ-loop
 returns c =
     let args = c .before .before .before .before .before .before .before .args in
-    (no-pair (args .parents .now) (shownBy (args .applied .now) (args .permits .now) (args .denies .now)) (args .n) (args .space) (args .pairs .now) (args .j) (args .pairs .now) (c .if1 .taken), λ i l. refl)
+    (no-pair (args .parents .now) (shownBy (args .applied .now) (args .permits .now) (args .denies .now)) (args .n) (args .space) (args .pairs .now) (args .j) (args .pairs .now) (c .if1 .taken), λ i h. refl)
 
 loop-holds : tie.Need-loop-holds Inv-loop μ-loop
 loop-holds c =
@@ -47,7 +47,8 @@ loop-again-2 c =
     let l = c .before .before .before .before .loop in
     let pre = c .before .before .before .before .before .before .before .before .before .before .before .before .pre in
     let room : 64 * args .j + l .k < length (l .pairs) = omega (arith, pre .0 .few, pre .0 .pairs-room, l .inv .3) in
-    let laid = pair-laid (args .parents .now) (shownBy (args .applied .now) (args .permits .now) (args .denies .now)) (args .n) (args .space) (args .pairs .now) (args .j) (l .k) (l .pairs) (l .inv .2) _ _ refl (l .inv .0) room (c .first-shown .ensures .0) in
+    let later : Later (args .parents .now) (args .n) (args .j) (l .k) = record { after = l .inv .0; within = omega arith; siblings = sym (c .before .if2 .left); some = c .before .before .before .before .before .if1 .left } in
+    let laid = pair-laid (args .parents .now) (shownBy (args .applied .now) (args .permits .now) (args .denies .now)) (args .n) (args .space) (args .pairs .now) (args .j) (l .k) (l .pairs) (l .inv .2) _ _ refl (pre .0 .few) later room (c .first-shown .ensures .0) in
     (omega arith, omega arith, laid, laid .same-length)
 
 same-length : tie.Need-same-length Inv-loop μ-loop
@@ -57,7 +58,7 @@ returns-2 : tie.Need-returns-2 Inv-loop μ-loop
 returns-2 c =
     let args = c .before .before .before .before .before .before .before .before .before .args in
     let l = c .before .loop in
-    (pairs-ended (args .parents .now) (shownBy (args .applied .now) (args .permits .now) (args .denies .now)) (args .n) (args .space) (args .pairs .now) (args .j) (l .k) (l .pairs) (l .inv .2) (omega (arith, c .loop-test)), l .inv .2 .before)
+    (pairs-ended (args .parents .now) (shownBy (args .applied .now) (args .permits .now) (args .denies .now)) (args .n) (args .space) (args .pairs .now) (args .j) (l .k) (l .pairs) (l .inv .2) (omega (arith, c .loop-test)), l .inv .2 .others)
 
 pub pair-later-spec : {M : Type 1} → statement M
 pair-later-spec =
