@@ -12,7 +12,7 @@ use borrow.Author.Tests.{eqb-true, eqb-false}
 use Rattle.laws.proofs.Bools.{Test, passed, failed, test}
 use Rattle.meaning.specs.Text.{firstFrom}
 use Rattle.decisions.specs.Table.{placeOr}
-use Rattle.conflicts.specs.Pairs.{shownFor, Later, OthersStay, PairIs, PairsOf, Pairs}
+use Rattle.conflicts.specs.Pairs.{shownFor, Later, OthersStay, PairIs, PairsOf}
 
 module _ (parents : List ℕ) (shows : ℕ → ℕ → ℕ → ℕ → Bool) (n space : ℕ) (old : List ℕ) where
   -- the pairs of j with elements before k; all places that are of no pair of j are as they were

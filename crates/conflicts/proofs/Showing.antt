@@ -20,7 +20,6 @@ use Rattle.laws.proofs.Bools.{Test, passed, failed, test}
 use Rattle.laws.proofs.Search.{First, first-is, first-absent}
 use Rattle.decisions.specs.Table.{placeOr}
 use Rattle.outcomes.proofs.Searching.{first-alike}
-use Rattle.matching.specs.Hits.{bitOf}
 use Rattle.rows.specs.Rows.{Applied, Given}
 use Rattle.conflicts.specs.Pairs.{Lowest, showsAt, shownBy, shownFor, Pairs}
 use Rattle.rows.proofs.Marks.{bit-lowest, bit-higher}

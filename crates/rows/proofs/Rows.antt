@@ -144,7 +144,7 @@ told-rest F t s hits none matched end told =
     }
 
 -- all of them, of requests
-pub told-requests : (F : (Element → Bool) → ℕ → Bool) (t : List ℕ) (s : Shape) (hits : List ℕ) {old rows : List ℕ} {k : ℕ} → Marked t s hits → 64 * s .n ≤ k → Told F t hits (s .n) ((s .space + 63) / 64) old rows k
+pub told-requests : (F : (Element → Bool) → ℕ → Bool) (t : List ℕ) (s : Shape) (hits : List ℕ) {old rows : List ℕ} {k : ℕ} → Marked t s hits → 64 * s .n ≤ k → Told F t hits (s .n) (wordsOf (s .space)) old rows k
     → (i m : ℕ) → i < s .n → m < product (countsOf s) → bitOf rows i m ≡ F (matches (requestOf (countsOf s) m)) i
 told-requests F t s hits matched all told i m l u =
     let inside : m < s .space = omega (arith, matched .all) in
@@ -158,14 +158,14 @@ abbrev pub giving : Decision → List ℕ → List ℕ → ℕ → (Element → 
 giving d t struck n hit i = is d (replyAt hit t struck n i .decision)
 
 module _ (t : List ℕ) (s : Shape) (hits : List ℕ) {old rows : List ℕ} {k : ℕ} (matched : Marked t s hits) (all : 64 * s .n ≤ k) where
-  pub applied-all : Told (applying t) t hits (s .n) ((s .space + 63) / 64) old rows k → Applied t (s .n) (countsOf s) rows
+  pub applied-all : Told (applying t) t hits (s .n) (wordsOf (s .space)) old rows k → Applied t (s .n) (countsOf s) rows
   unfolding appliesAt
   applied-all = told-requests (applying t) t s hits matched all
 
   pub applied-rest : k ≡ 64 * s .n → Told (applying t) t hits (s .n) (wordsOf (s .space)) old rows k → Rest (s .n) (s .space) old rows
   applied-rest = told-rest (applying t) t s hits (λ i. refl) matched
 
-  pub given-all : (d : Decision) (struck : List ℕ) → Told (giving d t struck (s .n)) t hits (s .n) ((s .space + 63) / 64) old rows k → Given d t struck (s .n) (countsOf s) rows
+  pub given-all : (d : Decision) (struck : List ℕ) → Told (giving d t struck (s .n)) t hits (s .n) (wordsOf (s .space)) old rows k → Given d t struck (s .n) (countsOf s) rows
   unfolding givesAt
   given-all d struck = told-requests (giving d t struck (s .n)) t s hits matched all
 
