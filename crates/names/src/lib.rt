@@ -1,4 +1,7 @@
 // Names: what is one, which are equal, and where one stands among the fields of a line.
+mod many;
+mod marks;
+
 ghost use mathlib.Core.Path.{_≡_};
 ghost use mathlib.Core.Bool.{true, false, not};
 ghost use Prim.Native.Nat.{ℕ, _-_, _≤_, _<_};
@@ -115,8 +118,8 @@ fn has(fields: &[u8], name: &[u8]) -> bool
     }
 }
 
-// Whether no field stands twice.
-pub fn all_distinct(fields: &[u8]) -> bool
+// Whether no field stands twice, by comparing each with those behind it.
+fn few_distinct(fields: &[u8]) -> bool
     ensures { λ r. ⌜ r ≡ not (repeated (cut tab (now (fields .entry)))) ⌝ }
 {
     let mut at = 0;
@@ -131,4 +134,14 @@ pub fn all_distinct(fields: &[u8]) -> bool
         }
         at = next;
     }
+}
+
+// Whether no field stands twice. 16 names of 16 bytes are few: an attribute line that has more to compare is refused for something.
+pub fn all_distinct(fields: &[u8]) -> bool
+    ensures { λ r. ⌜ r ≡ not (repeated (cut tab (now (fields .entry)))) ⌝ }
+{
+    if fields.len() < 272 {
+        return few_distinct(fields);
+    }
+    many::many_distinct(fields)
 }

@@ -1,4 +1,4 @@
--- `names::all_distinct` meets its contract. The loop keeps the answer: that of the fields from `at` on.
+-- `names::few_distinct` meets its contract. The loop keeps the answer: that of the fields from `at` on.
 use Prim.Native.Nat.{_+_, _-_, _≤_}
 use mathlib.Core.Path.{_≡_, refl, sym, ap, _∙_}
 use mathlib.Core.Bool.{not}
@@ -7,8 +7,8 @@ use borrow.Author.Needs.{needs}
 use lib.ListN.{length, drop}
 use Rattle.meaning.specs.Text.{repeated, cut, tab}
 use Rattle.names.proofs.Fields.{repeated-end, repeated-hit, repeated-more}
-use Rattle.names.proofs.all_distinct.Statement.{statement}
-use Rattle.names.proofs.all_distinct.Tie as tie
+use Rattle.names.proofs.few_distinct.Statement.{statement}
+use Rattle.names.proofs.few_distinct.Tie as tie
 
 abbrev Inv-loop : tie.InvT-loop
 Inv-loop fields at₀ at = (at ≤ length fields) × (repeated (cut tab (drop at fields)) ≡ repeated (cut tab fields))
@@ -40,8 +40,8 @@ loop-again c =
     let e = c .before .before .before .before .before .end-of in
     (omega arith, sym (repeated-more s (g .loop .at) (e .result) (e .ensures .0) (omega arith) (sym (c .before .has .ensures) ∙ c .if2 .left)) ∙ g .loop .inv .1)
 
-pub all-distinct-spec : {M : Type 1} → statement M
-all-distinct-spec =
+pub few-distinct-spec : {M : Type 1} → statement M
+few-distinct-spec =
     tie.close
     (tie.spec
     Inv-loop
