@@ -45,6 +45,7 @@ one-more P p q (suc k) h = q k (omega arith)
 
 module _ (a b : Bytes) where
   word-bytes : (i : ℕ) → BytesAt a i → BytesAt b i → wordAt a i ≡ wordAt b i → (k : ℕ) → k < 8 → getD a (i + k) 0 ≡ getD b (i + k) 0
+  unfolding wordAt BytesAt
   word-bytes i (a0, a1, a2, a3, a4, a5, a6, a7) (b0, b1, b2, b3, b4, b5, b6, b7) e =
       let e0 = lowest-byte _ _ _ _ a0 b0 e in
       let e1 = lowest-byte _ _ _ _ a1 b1 (e0 .1) in
