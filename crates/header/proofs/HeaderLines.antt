@@ -46,20 +46,19 @@ module _ (h : Bytes) (st : State) (end : ℕ) where
   fields = cut tab (part h (st .at) end)
 
   pub past-attribute : {n : ℕ} (r : Step) → AttributeLine fields n → StepIs h blank blank blank blank st end r → Past h st end r
-  past-attribute r line step = record { refusal = step .refusal ∙ sym (attribute-alike (sofarAt h st) fields line); next = step .next }
+  past-attribute r line step = record { refusal = step .refusal ∙ sym (attribute-alike (sofarAt h st) fields line); next = step .next; stays = λ some. step .stays some .state }
 
-  pub past-tree : (k : Kind) (n a refusal : ℕ) → TreeLine fields k n → a ≡ st .attributes .len
-      → ((s : Sofar) (k : Kind) → length (s .attributes) ≡ a → TreeLine fields k n → refusal ≡ refusalBy headerTests s fields) × (1 ≤ refusal) → Past h st end (record { refusal = refusal; state = st })
-  past-tree k n a refusal line count (is-refusal, some) = record { refusal = is-refusal (sofarAt h st) k (attributes-length h (st .attributes) ∙ sym count) line; next = λ z. absurd (omega arith) }
+  pub past-tree : (a refusal : ℕ) → a ≡ st .attributes .len → ((s : Sofar) → length (s .attributes) ≡ a → refusal ≡ refusalBy headerTests s fields) × (1 ≤ refusal) → Past h st end (record { refusal = refusal; state = st })
+  past-tree a refusal count (is-refusal, some) = record { refusal = is-refusal (sofarAt h st) (attributes-length h (st .attributes) ∙ sym count); next = λ z. absurd (omega arith); stays = λ some. refl }
 
   pub past-other : wrongFields (sofarAt h st) fields (lineOf fields) ≡ true → Past h st end (record { refusal = 2; state = st })
-  past-other wrong = record { refusal = sym (wrong-refused headerTests (sofarAt h st) fields wrong); next = λ z. absurd (omega (arith, z)) }
+  past-other wrong = record { refusal = sym (wrong-refused headerTests (sofarAt h st) fields wrong); next = λ z. absurd (omega (arith, z)); stays = λ some. refl }
 
   -- behind a line that is not refused
-  pub among-next : (next : State) → Among h st → refusalBy headerTests (sofarAt h st) fields ≡ 0 → Next h blank blank (sofarAt h st) fields end (st .line) next → Among h next
+  pub among-next : (next : State) → Among h st → refusalBy headerTests (sofarAt h st) fields ≡ 0 → Next h blank blank blank blank st end next → Among h next
   unfolding refusalBy
   among-next next among z n =
       record {
         ready = n .ready;
-        no-element = ap (λ s. s .before) (n .extends) ∙ no-element (sofarAt h st) fields (lineOf fields) refl (lowest-zero ((2, wrongFields (sofarAt h st) fields (lineOf fields)) ∷ headerTests (sofarAt h st) (lineOf fields)) (lit≤ tt, header-numbered (sofarAt h st) (lineOf fields)) z) (among .no-element);
+        no-element = ap (λ x. x .sofar .before) (n .laid) ∙ no-element (sofarAt h st) fields (lineOf fields) refl (lowest-zero ((2, wrongFields (sofarAt h st) fields (lineOf fields)) ∷ headerTests (sofarAt h st) (lineOf fields)) (lit≤ tt, header-numbered (sofarAt h st) (lineOf fields)) z) (among .no-element);
       }

@@ -9,13 +9,14 @@ use lib.ListN.{length, getD, drop, length-replicate}
 use borrow.Author.Tests.{le-ltb, lt-ltb, eq-eqb, ne-eqb}
 use Rattle.meaning.specs.Text.{Bytes, cut, newline, tab}
 use Rattle.meaning.specs.Model.{Result, refused, given, _then_}
-use Rattle.meaning.specs.Reading.{Line, attributeLine, treeLine, otherLine, lineOf, Sofar, wrongFields, nothing, readText, short}
+use Rattle.meaning.specs.Reading.{Line, attributeLine, treeLine, otherLine, lineOf, Sofar, wrongFields, readText, short}
 use Rattle.meaning.specs.Writing.{headerTests}
 use Rattle.meaning.specs.Claims.Texts.{All}
 use Rattle.layout.specs.Places.{part}
 use Rattle.reader.specs.declared.State.{State}
 use Rattle.reader.specs.Sofar.{refusalBy}
-use Rattle.reader.specs.Steps.{Ready, Next, readSofar}
+use Rattle.reader.specs.Steps.{beginning, Next}
+use Rattle.reader.proofs.Ends.{beginning-ready}
 use Rattle.reader.proofs.Remaining.{linesFrom, none-left, one-refused, one-read, lowest-within}
 use Rattle.header.specs.declared.Header.{Header}
 use Rattle.header.specs.Among.{blank, sofarAt, Among}
@@ -26,7 +27,7 @@ use Rattle.header.proofs.HeaderLines.{among-next}
 abbrev pub readHeader : Bytes → Result Sofar
 readHeader h = short h then (readText headerTests)
 
-pub blank-room : 512 ≤ length blank
+blank-room : 512 ≤ length blank
 unfolding blank
 blank-room = omega (arith, length-replicate {A = ℕ} 512 0)
 
@@ -40,13 +41,10 @@ pub record Keeps (h : Bytes) (st : State) : Type 0 where
   pub size : length h ≤ 16384
   pub reads : readHeader h ≡ linesFrom headerTests h (st .at) (st .line) (sofarAt h st)
 
-pub keeps-first : (h : Bytes) (st : State) → length h ≤ 16384 → (st .at ≡ 0) × (st .line ≡ 1) → Ready h blank blank st × (readSofar h blank blank st ≡ nothing) → Keeps h st
-keeps-first h st l (a, n) (ready, none) =
-    record {
-      among = record { ready = ready; no-element = ap (λ s. s .before) none };
-      size = l;
-      reads = rw (le-ltb 16384 (length h) l, a, n, none);
-    }
+pub keeps-first : (h : Bytes) {st : State} → length h ≤ 16384 → st ≡ beginning → Keeps h st
+keeps-first h l is =
+    let (ready, none) = beginning-ready h blank blank blank-room (omega (arith, blank-room)) in
+    subst⁻¹ (Keeps h) is (record { among = record { ready = ready; no-element = ap (λ s. s .before) none }; size = l; reads = rw (le-ltb 16384 (length h) l, none) })
 
 -- a line's refusal is 6 at most
 refusal-low : (s : Sofar) (fs : List Bytes) → refusalBy headerTests s fs ≤ 6
@@ -96,10 +94,10 @@ module _ (h : Bytes) (st : State) (keeps : Keeps h st) (end : ℕ) (ends : end �
         let reads = keeps .reads ∙ one-refused headerTests h (st .at) (st .line) (sofarAt h st) end ends inside (λ z. some (is-refusal ∙ z)) ∙ ap (λ k. refused k (st .line)) (sym is-refusal) in
         told refusal reads is (omega arith) (omega (arith, is-refusal, refusal-low (sofarAt h st) fs))
 
-    pub keeps-next : (next : State) → refusal ≡ 0 → Next h blank blank (sofarAt h st) (cut tab (part h (st .at) end)) end (st .line) next → Keeps h next
+    pub keeps-next : (next : State) → refusal ≡ 0 → Next h blank blank blank blank st end next → Keeps h next
     keeps-next next z n =
         record {
           among = among-next h st end next (keeps .among) (sym is-refusal ∙ z) n;
           size = keeps .size;
-          reads = keeps .reads ∙ one-read headerTests h (st .at) (st .line) (sofarAt h st) end ends inside (sym is-refusal ∙ z) ∙ sym (rw (n .at-next, n .line-next, n .extends));
+          reads = keeps .reads ∙ one-read headerTests h (st .at) (st .line) (sofarAt h st) end ends inside (sym is-refusal ∙ z) ∙ sym (rw (n .at-next, n .line-next, ap (λ x. x .sofar) (n .laid)));
         }

@@ -23,7 +23,8 @@ pub record Among (h : Bytes) (st : State) : Type 0 where
   pub ready : Ready h blank blank st
   pub no-element : sofarAt h st .before ≡ []
 
--- One line, which a newline at `end` ends: its refusal; else the state behind it
+-- One line, which a newline at `end` ends: the state behind it, or its refusal and the same state
 pub record Past (h : Bytes) (st : State) (end : ℕ) (r : Step) : Type 0 where
   pub refusal : r .refusal ≡ refusalBy headerTests (sofarAt h st) (cut tab (part h (st .at) end))
-  pub next : r .refusal ≡ 0 → Next h blank blank (sofarAt h st) (cut tab (part h (st .at) end)) end (st .line) (r .state)
+  pub next : r .refusal ≡ 0 → Next h blank blank blank blank st end (r .state)
+  pub stays : (r .refusal ≡ 0 → ⊥) → r .state ≡ st

@@ -25,8 +25,8 @@ pub struct Header {
 
 // The number that refuses a tree line of so many fields behind so many attributes.
 fn tree_refusal(line: &[u8], attributes: usize, fields: usize) -> usize
-    requires { ⌜ attributes ≤ 6 ⌝ }
-    ensures { λ r. ⌜ ((s : Sofar) (k : Kind) → length (s .attributes) ≡ attributes → TreeLine (cut tab (now (line .entry))) k fields → r ≡ refusalBy headerTests s (cut tab (now (line .entry)))) × (1 ≤ r) ⌝ }
+    requires { ⌜ (attributes ≤ 6) × ((k : Kind) × TreeLine (cut tab (now line)) k fields) ⌝ }
+    ensures { λ r. ⌜ ((s : Sofar) → length (s .attributes) ≡ attributes → r ≡ refusalBy headerTests s (cut tab (now (line .entry)))) × (1 ≤ r) ⌝ }
 {
     if fields != 4 + attributes {
         return 2;

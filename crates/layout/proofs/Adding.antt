@@ -5,7 +5,7 @@ use mathlib.Core.Logic.{⊎-elim}
 use mathlib.Core.List.{[], _∷_, _++_}
 use native.Mathlib.Nat.{eq-or-lt-of-le}
 use native.Mathlib.Omega.{arith}
-use lib.ListN.{length, getD}
+use lib.ListN.{length, getD, length-set}
 use lib.Seq.{getD-set-same, getD-set-other}
 use Rattle.meaning.specs.Text.{Bytes, cut, tab}
 use Rattle.layout.specs.declared.Attributes.{Attributes}
@@ -89,6 +89,17 @@ module _ (a : Attributes) (name value end count : ℕ) where
       where
         last : (k : ℕ) → k < a .len + 1 → k ≤ a .len
         last k l = omega arith
+
+-- each array of attributes has six places
+abbrev pub SixEach : Attributes → Type 0
+SixEach a = (length (a .names) ≡ 6) × (length (a .values) ≡ 6) × (length (a .ends) ≡ 6) × (length (a .counts) ≡ 6)
+
+pub placed-six : (f : Bytes) (n : ℕ) → SixEach (placed f n)
+unfolding placed
+placed-six f zero = (refl, refl, refl, refl)
+placed-six f (suc n) =
+    let (names, values, ends, counts) = placed-six f n in
+    (simp length-set names, simp length-set values, simp length-set ends, simp length-set counts)
 
 -- the attribute of the next line of a file, of these fields
 pub placed-more : (f : Bytes) (k at end fields : ℕ) (name : Bytes) (a : Attributes) → a ≡ placed f k → at ≡ lineStart f k → end + 1 ≡ lineStart f (suc k) → name ≡ getD (cut tab (part f at end)) 1 []

@@ -162,7 +162,7 @@ attributes-length f a = attributes-from-length f a 0 (a .len)
 -- The empty tree
 pub empty-stands : Stands (record { len = 0; depth = 0; kinds = replicate 8 0 }) []
 unfolding nearest
-empty-stands = record { count = refl; last = refl; kinds = λ d l. getD-replicate 8 d 0 0 l }
+empty-stands = record { room = refl; count = refl; last = refl; kinds = λ d l. getD-replicate 8 d 0 0 l }
 
 -- A decision looks at neither kinds nor names: at elements as a table has them it is the same
 abbrev pub bare : Element → Element

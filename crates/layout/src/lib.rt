@@ -2,14 +2,14 @@
 use meaning::Kind;
 ghost use mathlib.Core.Path.{_≡_};
 ghost use mathlib.Core.List.{List, [], _∷_, map};
-ghost use Prim.Native.Nat.{ℕ, _+_, _*_, _≤_, _<_};
+ghost use Prim.Native.Nat.{_+_, _*_, _≤_, _<_};
 ghost use lib.ListN.{length};
 ghost use lib.Seq.{sets};
 ghost use Rattle.meaning.specs.declared.Element.{Element};
 ghost use Rattle.meaning.specs.Text.{amongNames};
 ghost use Rattle.meaning.specs.Reading.{wellPlaced};
 ghost use Rattle.layout.specs.Places.{attributesOf, AllStanding, noAttributes, added, namesTo, Named};
-ghost use Rattle.layout.specs.Nearest.{kindNumber, parentNumber, Stands};
+ghost use Rattle.layout.specs.Nearest.{kindNumber, parentNumber, grown, Stands};
 
 // Where each attribute stands: the start of its name, of its first value, the end of its line; and its value count.
 pub struct Attributes {
@@ -164,7 +164,7 @@ fn parent_number(kind: Kind) -> usize
 
 // Whether an element of this kind and depth may stand behind the others.
 pub fn well_placed(kind: Kind, depth: usize, tree: Tree) -> bool
-    requires { ⌜ tree .depth ≤ 7 ⌝ }
+    requires { ⌜ (tree .depth ≤ 7) × ((before : List Element) × Stands tree before) ⌝ }
     ensures { λ r. ⌜ ((before : List Element) → Stands tree before → r ≡ wellPlaced kind depth before) ⌝ }
 {
     if tree.len == 0 {
@@ -189,7 +189,7 @@ pub fn well_placed(kind: Kind, depth: usize, tree: Tree) -> bool
 // The tree with one element more.
 pub fn with_element(tree: Tree, kind: Kind, depth: usize) -> Tree
     requires { ⌜ (depth ≤ 7) × (tree .len < 64) ⌝ }
-    ensures { λ r. ⌜ ((before : List Element) (e : Element) → Stands tree before → e .kind ≡ kind → e .depth ≡ depth → Stands r (e ∷ before)) ⌝ }
+    ensures { λ r. ⌜ r ≡ grown tree kind depth ⌝ }
 {
     let mut kinds = tree.kinds;
     kinds[depth] = kind_number(kind);

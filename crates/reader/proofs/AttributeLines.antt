@@ -1,6 +1,6 @@
 -- Laws of an attribute line: its tests as code makes them, its parts, and the state behind it.
 use Prim.Native.Nat.{ℕ, zero, suc, _+_, _-_, _*_, _≤_, _<_, zero-le, suc-le-suc}
-use mathlib.Core.Path.{_≡_, refl, sym, ap, ap₂, _∙_}
+use mathlib.Core.Path.{_≡_, refl, sym, ap, ap₂, _∙_, subst⁻¹}
 use mathlib.Core.Bool.{true, false, not, _||_}
 use mathlib.Core.List.{List, [], _∷_, _++_, map}
 use native.Mathlib.Nat.{mul-one, one-mul, mul-assoc}
@@ -15,12 +15,13 @@ use Rattle.meaning.specs.Model.{Attribute, choices, space as spaceOf}
 use Rattle.meaning.specs.Reading.{attributeLine, lineOf, Sofar, Tests, lowest, attributeTests}
 use Rattle.laws.proofs.Lines.{attribute-fields}
 use Rattle.layout.specs.declared.Attributes.{Attributes}
-use Rattle.layout.specs.Places.{part, attributesOf, added as addedPlaces, elementsTo, lineStart, placed}
-use Rattle.layout.proofs.Adding.{Added, placed-more}
+use Rattle.layout.specs.Places.{part, attributesOf, elementsTo, lineStart, placed}
+use Rattle.layout.proofs.Adding.{added-behind, SixEach, placed-six, placed-more}
 use Rattle.layout.proofs.Laws.{attributes-length}
 use Rattle.reader.specs.Sofar.{refusalBy, refusalOf, attributeIn, Tested, AttributeRefusal, AttributeLine}
-use Rattle.reader.specs.Steps.{Ready, Line, readSofar, Next}
+use Rattle.reader.specs.Steps.{Ready, Line, behindAttribute, AttributeStep, readSofar, Next, StepIs}
 use Rattle.reader.specs.declared.State.{State}
+use Rattle.reader.specs.declared.Step.{Step}
 use Rattle.reader.proofs.Parts.{field-at, next-start}
 
 -- The space with one attribute more
@@ -141,24 +142,26 @@ attribute-parts f at end name inside l named =
 
 -- The step over it
 module _ {f : Bytes} {st : State} {end fields : ℕ} {table places : List ℕ} (ready : Ready f table places st) (here : Line f st end) (is : AttributeLine (cut tab (part f (st .at) end)) fields) where
-  pub line-refusal : {r : ℕ} → AttributeRefusal f (st .attributes) (st .space) (st .tree .len) (cut tab (part f (st .at) end)) fields r → r ≡ refusalOf (readSofar f table places st) (cut tab (part f (st .at) end))
+  line-refusal : {r : ℕ} → AttributeRefusal f (st .attributes) (st .space) (st .tree .len) (cut tab (part f (st .at) end)) fields r → r ≡ refusalOf (readSofar f table places st) (cut tab (part f (st .at) end))
   line-refusal refusal =
       let s = readSofar f table places st in
       refusal .is-lowest s refl (no-elements f table places (st .tree .len)) ∙ sym (refusal-is s (cut tab (part f (st .at) end)) is)
 
-  pub line-next : (name : Bytes) (b : Attributes) → name ≡ getD (cut tab (part f (st .at) end)) 1 [] → b ≡ addedPlaces (st .attributes) (st .at + 2) (st .at + 3 + length name) end (fields - 2) → Added (st .attributes) (st .at + 2) (st .at + 3 + length name) end (fields - 2) b → fields - 2 ≤ 16 → st .space * (fields - 2) ≤ 4096 → st .tree .len ≡ 0
-      → Next f table places (readSofar f table places st) (cut tab (part f (st .at) end)) end (st .line) (record { at = end + 1; line = st .line + 1; attributes = b; space = st .space * (fields - 2); tree = st .tree })
-  line-next name b named made added few-values small none =
+  line-next : st .attributes .len < 6 → fields - 2 ≤ 16 → st .space * (fields - 2) ≤ 4096 → st .tree .len ≡ 0 → Next f table places table places st end (behindAttribute st end (cut tab (part f (st .at) end)) fields)
+  line-next few few-values small none =
       let fs = cut tab (part f (st .at) end) in
       let begun = ready .begun in
-      let old = attributesOf f (st .attributes) in
-      let parts = attribute-parts f (st .at) end name (omega (arith, here .ends)) is named in
+      let a = st .attributes in
+      let old = attributesOf f a in
+      let parts = attribute-parts f (st .at) end (getD fs 1 []) (omega (arith, here .ends)) is refl in
+      let six : SixEach a = subst⁻¹ SixEach (ready .places-are) (placed-six f (a .len)) in
+      let added = added-behind a (st .at + 2) (st .at + 3 + length (getD fs 1 [])) end (fields - 2) (omega (arith, six .0)) (omega (arith, six .1)) (omega (arith, six .2)) (omega (arith, six .3)) few refl in
       let count : fields - 2 ≡ length (drop 2 fs) = ap (λ n. n - 2) (is .count) ∙ sym (length-drop 2 fs) in
-      let attributes-are : attributesOf f b ≡ old ++ (attributeIn fs ∷ []) = added .behind f ∙ rw (parts .name-is, parts .values-are, named) in
-      let size = st .attributes .len in
+      let attributes-are : attributesOf f (behindAttribute st end fs fields .attributes) ≡ old ++ (attributeIn fs ∷ []) = added .behind f ∙ rw (parts .name-is, parts .values-are) in
+      let size = a .len in
       let no-line : size + st .tree .len ≡ size = omega arith in
       let starts : st .at ≡ lineStart f size = ready .lined .next ∙ ap (lineStart f) no-line in
-      let space-is : st .space * (fields - 2) ≡ spaceOf (attributesOf f b) = ap₂ (λ m n. m * n) (begun .space-is) count ∙ sym (ap spaceOf attributes-are ∙ space-more old (attributeIn fs)) in
+      let space-is : st .space * (fields - 2) ≡ spaceOf (attributesOf f (behindAttribute st end fs fields .attributes)) = ap₂ (λ m n. m * n) (begun .space-is) count ∙ sym (ap spaceOf attributes-are ∙ space-more old (attributeIn fs)) in
       record {
         ready = record {
           begun = record {
@@ -176,12 +179,21 @@ module _ {f : Bytes} {st : State} {end fields : ℕ} {table places : List ℕ} (
           rooms = ready .rooms;
           tree = ready .tree;
           lined = record {
-            next = next-start (st .attributes .len + st .tree .len) here (ready .lined .next) ∙ ap (lineStart f) (omega (arith, added .one-more));
+            next = next-start (a .len + st .tree .len) here (ready .lined .next) ∙ ap (lineStart f) (omega arith);
             starts = λ i l. absurd (omega arith);
           };
-          places-are = made ∙ placed-more f size (st .at) end fields name (st .attributes) (ready .places-are) starts (next-start size here starts) named (is .count) ∙ ap (placed f) (sym (added .one-more ∙ add-one size));
+          places-are = placed-more f size (st .at) end fields (getD fs 1 []) a (ready .places-are) starts (next-start size here starts) refl (is .count) ∙ ap (placed f) (sym (add-one size));
         };
         at-next = refl;
         line-next = refl;
-        extends = rw (line-is fs is, attributes-are);
+        laid = rw (line-is fs is, attributes-are);
+      }
+
+  pub attribute-told : {r : Step} → AttributeStep f st end fields r → StepIs f table places table places st end r
+  attribute-told {r} step =
+      let tested = step .refusal in
+      record {
+        refusal = line-refusal tested;
+        next = λ z. subst⁻¹ (Next f table places table places st end) (step .state ∙ rw (eq-eqb (r .refusal) 0 z)) (line-next (tested .few z) (tested .few-values z) (tested .small-space z) (tested .no-element z));
+        stays = λ some. record { state = step .state ∙ rw (ne-eqb (r .refusal) 0 some); table-is = refl; places-are = refl };
       }

@@ -2,14 +2,14 @@
 use Prim.Native.Nat.{ℕ, zero, suc, _-_}
 use mathlib.Core.Path.{_≡_, refl, sym, ap, _∙_}
 use mathlib.Core.Bool.{Bool, true, false, not, _&&_, _||_}
-use mathlib.Core.List.{List, [], _∷_, map}
+use mathlib.Core.List.{List, [], _∷_}
 use native.Mathlib.Omega.{arith}
 use lib.Dec.{eqb, leb}
 use lib.ListN.{length, take, drop, getD, replicate}
 use lib.Seq.{drop-append-seam}
 use borrow.Author.Tests.{ne-eqb}
 use Rattle.meaning.specs.Text.{Bytes, bytes, empty, all, between, same, amongNames, nameByte, isName}
-use Rattle.meaning.specs.Model.{Attribute, nameOf}
+use Rattle.meaning.specs.Model.{Attribute}
 use Rattle.meaning.specs.Reading.{depthOf, wordOf, elementOf, Sofar, wellPlaced, lowest, nonZero, badName}
 use Rattle.laws.proofs.Types.{Kind}
 use Rattle.laws.proofs.Bounds.{padded-name}
@@ -17,10 +17,9 @@ use Rattle.syntax.specs.Fields.{numberOfWord}
 use Rattle.syntax.proofs.Fields.{no-word}
 use Rattle.layout.specs.declared.Attributes.{Attributes}
 use Rattle.layout.specs.declared.Tree.{Tree}
-use Rattle.layout.specs.Places.{attributesOf, namesTo}
-use Rattle.layout.specs.Nearest.{Stands}
+use Rattle.layout.specs.Places.{namesTo}
 use Rattle.layout.proofs.Laws.{attributes-length}
-use Rattle.reader.specs.Sofar.{elementFrom, earlierTests}
+use Rattle.reader.specs.Sofar.{elementFrom, Behind, earlierTests}
 
 -- 3: a name's size is tested twice, and zeros stand behind the name
 pub zeros : (n : ℕ) → nonZero (replicate n 0) ≡ false
@@ -49,16 +48,16 @@ firstFound named known count attributes placed word =
     lowest ((3, not named) ∷ (4, known) ∷ (5, leb 64 count) ∷ (6, eqb attributes 0 || not placed) ∷ (7, eqb word 6) ∷ [])
 
 module _ (f : Bytes) (a : Attributes) (places : List ℕ) (tree : Tree) (k : Kind) (fs : List Bytes) (s : Sofar) where
-  pub tests-found : s .attributes ≡ attributesOf f a → Stands tree (s .before) → map nameOf (s .before) ≡ namesTo f places (tree .len)
+  pub tests-found : Behind f a places tree s
       → lowest (earlierTests s (getD fs 3 []) (elementFrom (s .attributes) k fs))
       ≡ firstFound (isName (getD fs 2 [])) (amongNames (getD fs 2 []) (namesTo f places (tree .len))) (tree .len) (a .len) (wellPlaced k (depthOf (getD fs 1 [])) (s .before)) (numberOfWord (wordOf k (getD fs 3 [])))
-  tests-found attributes-are stands names-are =
-      let some-attribute : empty (s .attributes) ≡ eqb (a .len) 0 = empty-count (s .attributes) ∙ ap (λ l. eqb (length l) 0) attributes-are ∙ ap (λ n. eqb n 0) (attributes-length f a) in
+  tests-found behind =
+      let some-attribute : empty (s .attributes) ≡ eqb (a .len) 0 = empty-count (s .attributes) ∙ ap (λ l. eqb (length l) 0) (behind .attributes) ∙ ap (λ n. eqb n 0) (attributes-length f a) in
       rw (
         bad-name (s .attributes) k (getD fs 1 []) (getD fs 2 []) (getD fs 3 []) (drop 4 fs),
         padded-name (s .attributes) k (getD fs 1 []) (getD fs 2 []) (getD fs 3 []) (drop 4 fs),
-        names-are,
-        ← stands .count,
+        behind .names,
+        ← behind .stands .count,
         some-attribute,
         no-word (wordOf k (getD fs 3 [])),
       )

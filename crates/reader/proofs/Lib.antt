@@ -1,7 +1,7 @@
 -- Laws that the proofs of the reader cite; those of lines serve the crate of the header too, those of a file that was read all who read.
 mod Parts
 mod Heading
-mod Ends
+pub mod Ends
 pub mod LineKinds
 pub mod AttributeLines
 mod ElementTests

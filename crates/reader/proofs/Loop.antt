@@ -1,12 +1,12 @@
 -- Reading line by line: what is left of a file, read behind what was read so far.
 use mathlib.Core.Path.{_≡_, refl, sym, ap, _∙_, subst⁻¹}
-use Prim.Native.Nat.{ℕ, _+_, _≤_, _<_}
+use Prim.Native.Nat.{ℕ, _+_, _≤_, _<_, zero-le}
 use native.Mathlib.Omega.{arith}
 use mathlib.Core.Bool.{Bool, true, false, cond}
 use mathlib.Core.List.{List, [], _∷_}
 use lib.Dec.{eqb, lit≤}
 use lib.ListN.{length, getD, drop}
-use borrow.Author.Tests.{le-ltb, lt-ltb}
+use borrow.Author.Tests.{le-ltb, lt-ltb, eq-eqb, ne-eqb}
 use Rattle.meaning.specs.Text.{Bytes, cut, newline, tab}
 use Rattle.meaning.specs.Model.{Policy, Result, refused, given, _then_}
 use Rattle.meaning.specs.Reading.{Line, attributeLine, treeLine, otherLine, lineOf, Sofar, wrongFields, lineTests, extended, nothing, finished, read}
@@ -15,8 +15,12 @@ use Rattle.layout.specs.Places.{part}
 use Rattle.reader.specs.declared.State.{State}
 use Rattle.reader.specs.declared.Reading.{Reading}
 use Rattle.reader.specs.Sofar.{refusalBy, refusalOf}
-use Rattle.reader.specs.Steps.{Ready, Next, readSofar, refusedWith, ReadAs}
-use Rattle.reader.proofs.Remaining.{linesFrom, none-left, one-refused, one-read, lowest-within}
+use Rattle.reader.specs.declared.Step.{Step}
+use Rattle.reader.specs.Laid.{Laid, withLine, laidBy, laidIn}
+use Rattle.reader.specs.Steps.{Ready, beginning, readSofar, laidAt, StepIs, refusedWith, endedAt, ReadAs, ReadIs}
+use Rattle.reader.proofs.Parts.{part-length}
+use Rattle.reader.proofs.Ends.{ending}
+use Rattle.reader.proofs.Remaining.{linesAt, linesFrom, no-line, first-line, none-left, one-refused, one-read, lowest-within}
 
 -- the file from place `at` on, the first of whose lines has number n, behind s
 abbrev pub remaining : Bytes → ℕ → ℕ → Sofar → Result Policy
@@ -58,35 +62,73 @@ refusal-low s fs = lowest-within 8 ((2, wrongFields s fs (lineOf fs)) ∷ lineTe
     by-line (treeLine k d n w ts) = (lit≤ tt, (lit≤ tt, (lit≤ tt, (lit≤ tt, (lit≤ tt, (lit≤ tt, tt))))))
     by-line otherLine = tt
 
--- What the loop keeps: the file reads as the lines that remain behind what was read so far
-abbrev pub Keeps : (f table places : List ℕ) (st : State) → Type 0
-Keeps f table places st = read f ≡ remaining f (st .at) (st .line) (readSofar f table places st)
+-- What the lines that are left lay down behind those before
+module _ (f : Bytes) (at end : ℕ) (x : Laid) (ends : end ≡ at + length (getD (cut newline (drop at f)) 0 [])) where
+  pub none-laid : end ≡ length f → laidBy at x (linesAt f at) ≡ x
+  unfolding laidBy
+  none-laid e = rw (no-line f at end ends e)
 
-pub keeps-first : (f table places : List ℕ) (st : State) → length f ≤ 16384 → (st .at ≡ 0) × (st .line ≡ 1) → readSofar f table places st ≡ nothing → Keeps f table places st
-keeps-first f table places st l (a, n) e = all-remains f l ∙ sym (rw (a, n, e))
+  module _ (inside : end < length f) where
+    one-laid : laidBy at x (linesAt f at) ≡ cond (eqb (refusalOf (x .sofar) (cut tab (part f at end))) 0) (laidBy (end + 1) (withLine at x (lineOf (cut tab (part f at end)))) (linesAt f (end + 1))) x
+    unfolding laidBy
+    one-laid =
+        let size : at + length (part f at end) ≡ end = omega (arith, part-length f at end (omega arith)) in
+        rw (first-line f at end ends inside, size)
 
--- what is told of a refusal
-pub refusal-told : (f table places : List ℕ) (r : Reading) (n m : ℕ) → read f ≡ refused n m → r ≡ refusedWith n m → 1 ≤ n → n ≤ 9 → m ≤ 16385 → ReadAs f table places r (read f)
+    pub stop-laid : (refusalOf (x .sofar) (cut tab (part f at end)) ≡ 0 → ⊥) → laidBy at x (linesAt f at) ≡ x
+    stop-laid some = one-laid ∙ rw (ne-eqb _ 0 some)
+
+    pub next-laid : refusalOf (x .sofar) (cut tab (part f at end)) ≡ 0 → laidBy at x (linesAt f at) ≡ laidBy (end + 1) (withLine at x (lineOf (cut tab (part f at end)))) (linesAt f (end + 1))
+    next-laid none = one-laid ∙ rw (eq-eqb _ 0 none)
+
+-- What the loop keeps: the file reads as the lines that remain behind what was read so far, and lays down what they do
+pub record Keeps (f table₀ places₀ table places : List ℕ) (st : State) : Type 0 where
+  pub reads : read f ≡ remaining f (st .at) (st .line) (readSofar f table places st)
+  pub lays : laidIn f table₀ places₀ ≡ laidBy (st .at) (laidAt f table places st) (linesAt f (st .at))
+
+pub keeps-first : (f table places : List ℕ) → length f ≤ 16384 → readSofar f table places beginning ≡ nothing → Keeps f table places table places beginning
+keeps-first f table places l e = record { reads = all-remains f l ∙ sym (rw e); lays = rw (le-ltb 16384 (length f) l, ← e) }
+
+-- what is told of a file, and what it laid down
+told : {f table₀ places₀ table places : List ℕ} {s : Sofar} {r : Reading} → ReadAs f table places r (read f) → laidIn f table₀ places₀ ≡ record { sofar = s; table = table; places = places } → ReadIs f table₀ places₀ table places r
+told is lays = record { answer = is; table-is = sym (ap (λ x. x .table) lays); places-are = sym (ap (λ x. x .places) lays) }
+
+refusal-told : (f table places : List ℕ) (r : Reading) (n m : ℕ) → read f ≡ refused n m → r ≡ refusedWith n m → 1 ≤ n → n ≤ 9 → m ≤ 16385 → ReadAs f table places r (read f)
 refusal-told f table places r n m e is p low l = subst⁻¹ (ReadAs f table places r) e (record { is = is; not-zero = p; low = low; small = l })
 
-module _ (f table places : List ℕ) (st : State) (ready : Ready f table places st) (size : length f ≤ 16384) (keeps : Keeps f table places st)
+pub long-told : (f table places : List ℕ) (r : Reading) → 16384 < length f → r ≡ refusedWith 1 0 → ReadIs f table places table places r
+long-told f table places r l is = told {s = nothing} (refusal-told f table places r 1 0 (too-long f l) is (lit≤ tt) (lit≤ tt) zero-le) (rw (lt-ltb 16384 (length f) l))
+
+module _ (f table₀ places₀ table places : List ℕ) (st : State) (ready : Ready f table places st) (size : length f ≤ 16384) (keeps : Keeps f table₀ places₀ table places st)
     (end : ℕ) (ends : end ≡ st .at + length (getD (cut newline (drop (st .at) f)) 0 [])) where
-  pub few-lines : st .line ≤ 16385
+  few-lines : st .line ≤ 16385
   few-lines = omega (arith, ready .begun .inside, ready .begun .lines-passed)
 
   -- the end of the file
-  pub ended : end ≡ length f → (r : Reading) → ReadAs f table places r (cond (eqb (st .at) end) (finished (readSofar f table places st)) (refused 2 (st .line))) → ReadAs f table places r (read f)
-  ended e r h = subst⁻¹ (ReadAs f table places r) (keeps ∙ no-more f (st .at) (st .line) (readSofar f table places st) end ends (ready .begun .inside) e) h
+  pub ended : end ≡ length f → {r : Reading} → r ≡ endedAt st end → ReadIs f table₀ places₀ table places r
+  ended e is =
+      let reads = keeps .reads ∙ no-more f (st .at) (st .line) (readSofar f table places st) end ends (ready .begun .inside) e in
+      told (rw is (subst⁻¹ (ReadAs f table places (endedAt st end)) reads (ending f table places st end ready few-lines e))) (keeps .lays ∙ none-laid f (st .at) end (laidAt f table places st) ends e)
 
   -- a line that is refused, and one that is not
-  module _ (inside : end < length f) (refusal : ℕ) (is-refusal : refusal ≡ refusalOf (readSofar f table places st) (cut tab (part f (st .at) end))) where
-    pub refused-here : (t p : List ℕ) (r : Reading) → (refusal ≡ 0 → ⊥) → r ≡ refusedWith refusal (st .line) → ReadAs f t p r (read f)
-    refused-here t p r h is =
-        refusal-told f t p r refusal (st .line) (keeps ∙ line-refused f (st .at) (st .line) (readSofar f table places st) end ends inside (λ z. h (is-refusal ∙ z)) ∙ ap (λ k. refused k (st .line)) (sym is-refusal)) is (not-zero refusal h) (omega (arith, is-refusal, refusal-low (readSofar f table places st) (cut tab (part f (st .at) end)))) few-lines
+  module _ (inside : end < length f) {t p : List ℕ} {step : Step} (is-step : StepIs f table places t p st end step) where
+    pub refused-here : {r : Reading} → (step .refusal ≡ 0 → ⊥) → r ≡ refusedWith (step .refusal) (st .line) → ReadIs f table₀ places₀ t p r
+    refused-here {r} some is =
+        let s = readSofar f table places st in
+        let fs = cut tab (part f (st .at) end) in
+        let other : (refusalOf s fs ≡ 0 → ⊥) = λ z. some (is-step .refusal ∙ z) in
+        let reads = keeps .reads ∙ line-refused f (st .at) (st .line) s end ends inside other ∙ ap (λ k. refused k (st .line)) (sym (is-step .refusal)) in
+        let same = is-step .stays some in
+        rw (same .table-is, same .places-are) (told (refusal-told f table places r (step .refusal) (st .line) reads is (not-zero (step .refusal) some) (omega (arith, is-step .refusal, refusal-low s fs)) few-lines) (keeps .lays ∙ stop-laid f (st .at) end (laidAt f table places st) ends inside other))
       where
         not-zero : (k : ℕ) → (k ≡ 0 → ⊥) → 1 ≤ k
         not-zero k h = omega arith
 
-    pub keeps-next : (t p : List ℕ) (next : State) → refusal ≡ 0 → Next f t p (readSofar f table places st) (cut tab (part f (st .at) end)) end (st .line) next → Keeps f t p next
-    keeps-next t p next z n =
-        keeps ∙ line-read f (st .at) (st .line) (readSofar f table places st) end ends inside (sym is-refusal ∙ z) ∙ sym (rw (n .at-next, n .line-next, n .extends))
+    pub keeps-next : step .refusal ≡ 0 → Keeps f table₀ places₀ t p (step .state)
+    keeps-next z =
+        let n = is-step .next z in
+        let none = sym (is-step .refusal) ∙ z in
+        record {
+          reads = keeps .reads ∙ line-read f (st .at) (st .line) (readSofar f table places st) end ends inside none ∙ sym (rw (n .at-next, n .line-next, ap (λ x. x .sofar) (n .laid)));
+          lays = keeps .lays ∙ next-laid f (st .at) end (laidAt f table places st) ends inside none ∙ sym (rw (n .at-next, n .laid));
+        }

@@ -18,9 +18,13 @@ use Rattle.text.proofs.Pieces.{piece-rest, piece-more}
 use Rattle.layout.specs.Places.{part}
 use Rattle.reader.specs.Sofar.{refusalBy}
 
+-- the lines from place `at` on that a newline ends
+abbrev pub linesAt : Bytes → ℕ → List Bytes
+linesAt f at = front (cut newline (drop at f))
+
 -- the lines from place `at` on, the first of which has number n, behind s
 abbrev pub linesFrom : (Sofar → Line → Tests) → Bytes → ℕ → ℕ → Sofar → Result Sofar
-linesFrom tests f at n s = readLines tests (last [] (cut newline (drop at f))) n s (front (cut newline (drop at f)))
+linesFrom tests f at n s = readLines tests (last [] (cut newline (drop at f))) n s (linesAt f at)
 
 -- Nothing behind the last newline, or a line that none ends
 drop-empty : (f : Bytes) (at : ℕ) → at ≤ length f → empty (drop at f) ≡ eqb at (length f)
@@ -29,6 +33,23 @@ drop-empty f at l = go (drop at f) refl
     go : (xs : Bytes) → drop at f ≡ xs → empty xs ≡ eqb at (length f)
     go [] e = sym (eq-eqb at (length f) (omega (arith, ap length e, length-drop at f)))
     go (x ∷ xs) e = sym (ne-eqb at (length f) (λ i. omega (arith, ap length e, length-drop at f)))
+
+-- no line is left, or one and those behind it
+module _ (f : Bytes) (at end : ℕ) (ends : end ≡ at + length (getD (cut newline (drop at f)) 0 [])) where
+  pub no-line : end ≡ length f → linesAt f at ≡ []
+  no-line e = rw (piece-rest newline f at end ends e)
+
+  pub first-line : end < length f → linesAt f at ≡ part f at end ∷ linesAt f (end + 1)
+  first-line l = rw (piece-more newline f at end ends l) (go (cut-some newline (drop (end + 1) f)))
+    where
+      go : {ps : List Bytes} → Some ps → front (part f at end ∷ ps) ≡ part f at end ∷ front ps
+      go (one-or-more p ps) = refl
+
+  last-line : end < length f → last [] (cut newline (drop at f)) ≡ last [] (cut newline (drop (end + 1) f))
+  last-line l = rw (piece-more newline f at end ends l) (go (cut-some newline (drop (end + 1) f)))
+    where
+      go : {ps : List Bytes} → Some ps → last [] (part f at end ∷ ps) ≡ last [] ps
+      go (one-or-more p ps) = refl
 
 module _ (tests : Sofar → Line → Tests) (f : Bytes) (at n : ℕ) (s : Sofar) (end : ℕ) (ends : end ≡ at + length (getD (cut newline (drop at f)) 0 [])) where
   pub none-left : at ≤ length f → end ≡ length f → linesFrom tests f at n s ≡ cond (eqb at end) (given s) (refused 2 n)
@@ -40,10 +61,7 @@ module _ (tests : Sofar → Line → Tests) (f : Bytes) (at n : ℕ) (s : Sofar)
 
   one-line : end < length f → linesFrom tests f at n s ≡ unless (refusalBy tests s fields) n (linesFrom tests f (end + 1) (suc n) (extended s (lineOf fields)))
   unfolding refusalBy
-  one-line l = rw (piece-more newline f at end ends l) (go (cut-some newline (drop (end + 1) f)))
-    where
-      go : {ps : List Bytes} → Some ps → readLines tests (last [] (part f at end ∷ ps)) n s (front (part f at end ∷ ps)) ≡ unless (refusalBy tests s fields) n (readLines tests (last [] ps) (suc n) (extended s (lineOf fields)) (front ps))
-      go (one-or-more p ps) = refl
+  one-line l = rw (first-line f at end ends l, last-line f at end ends l)
 
   pub one-refused : end < length f → (refusalBy tests s fields ≡ 0 → ⊥) → linesFrom tests f at n s ≡ refused (refusalBy tests s fields) n
   one-refused l h = one-line l ∙ go (refusalBy tests s fields) h _

@@ -2,7 +2,7 @@
 use Prim.Native.Nat.{ℕ, zero, suc, _+_, _-_, _≤_, _<_, zero-le}
 use mathlib.Core.Path.{_≡_, refl, sym, ap, _∙_}
 use mathlib.Core.Logic.{_≢_, ⊎-elim}
-use mathlib.Core.Bool.{Bool, true, false, not}
+use mathlib.Core.Bool.{true, false}
 use mathlib.Core.List.{List, [], _∷_, _++_}
 use mathlib.Core.Option.{Option, none, some}
 use native.Mathlib.Nat.{sub-zero, eq-or-lt-of-le}
@@ -14,13 +14,13 @@ use borrow.Author.Tests.{ne-eqb, le-ltb}
 use Rattle.meaning.specs.Text.{Bytes, cut, tab}
 use Rattle.meaning.specs.Model.{Attribute, padded}
 use Rattle.meaning.specs.Reading.{full, targetOf, orEmpty, masksOf, badMasks}
-use Rattle.laws.proofs.Bools.{contradiction}
 use Rattle.laws.proofs.Targets.{field-read}
 use Rattle.laws.proofs.Bounds.{masks-count}
 use Rattle.text.proofs.Pieces.{behind, piece-last, piece-more, piece-at}
 use Rattle.layout.specs.declared.Attributes.{Attributes}
 use Rattle.layout.specs.Places.{attributeAt, attributesFrom, attributesOf}
 use Rattle.layout.proofs.Laws.{attributes-walk, attributes-length}
+use Rattle.reader.specs.Steps.{masksIn}
 use Rattle.reader.proofs.ElementTests.{zeros}
 
 -- The mask of a target has no bit too high
@@ -83,10 +83,6 @@ walk-starts {f} {a} {ts} targets-are count some-attribute few =
       judged = rw (sub-zero, targets-are);
     }
 
--- what the contract says of an answer
-abbrev Right : List Attribute → List Bytes → Bool → List ℕ → Type 0
-Right attrs ts good masks = (good ≡ not (badMasks attrs (padded 6 (masksOf attrs ts)))) × (good ≡ true → masks ≡ padded 6 (masksOf attrs ts))
-
 -- the target that starts at `at` ends at e, and gives this mask
 module _ {f : Bytes} {a : Attributes} {ts : List Bytes} {targets : Bytes} {masks : List ℕ} {at i e mask : ℕ} (w : Walked f a ts targets masks at i)
     (p : e ≡ at + length (getD (cut tab (drop at targets)) 0 [])) (q : e ≤ length targets)
@@ -132,15 +128,15 @@ module _ {f : Bytes} {a : Attributes} {ts : List Bytes} {targets : Bytes} {masks
       }
 
   -- the answers
-  pub walk-bad : mask ≡ 0 → Right (attributesOf f a) ts false masks
+  pub walk-bad : mask ≡ 0 → record { good = false; masks = replicate 6 0 } ≡ masksIn (attributesOf f a) ts
   walk-bad zero-mask =
       let here-bad : badMasks (rest f a i) (masksFrom f a targets i at ++ padding f a ts) ≡ true =
       rw (this-attribute, this-target) (first-bad (attributeAt f a i) (rest f a (i + 1)) piece (behind tab targets e) (padding f a ts) mask is-mask zero-mask) in
-      (sym (ap not (sym (w .judged) ∙ here-bad)), λ good. contradiction good refl)
+      rw (sym (w .judged) ∙ here-bad)
 
-  pub walk-ends : mask ≢ 0 → i + 1 ≡ a .len → Right (attributesOf f a) ts true (set masks i mask)
+  pub walk-ends : mask ≢ 0 → i + 1 ≡ a .len → record { good = true; masks = set masks i mask } ≡ masksIn (attributesOf f a) ts
   walk-ends some-bit l =
       let later = behind tab targets e in
       let none-bad : badMasks (rest f a (i + 1)) (masksOf (rest f a (i + 1)) later ++ padding f a ts) ≡ false = rw (none-after l) (zeros (6 - length (allMasks f a ts))) in
       let last-laid : set masks i mask ≡ sets masks i (masksFrom f a targets i at) = rw (none-after l) at (one-laid later this-target) in
-      (sym (ap not (sym (w .judged) ∙ one-judged later this-target some-bit ∙ none-bad)), λ good. last-laid ∙ w .laid)
+      rw (sym (w .judged) ∙ one-judged later this-target some-bit ∙ none-bad, last-laid ∙ w .laid)

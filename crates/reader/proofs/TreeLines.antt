@@ -1,6 +1,7 @@
 -- A tree line: its refusals, and the element that it adds.
 use mathlib.Core.Path.{_≡_, refl, sym, ap, ap₂, _∙_, subst, subst⁻¹}
 use Prim.Native.Nat.{ℕ, suc, _+_, _*_, _-_, _≤_, _<_, zero-le, suc-le-suc}
+use native.Mathlib.Numerals.{add-one}
 use native.Mathlib.Omega.{arith}
 use mathlib.Core.Bool.{true, false, not, cond, false≢true}
 use mathlib.Core.List.{List, [], _∷_, _++_}
@@ -14,20 +15,21 @@ use Rattle.meaning.specs.declared.Kind.the-variants.{Set, Policy, Rule}
 use Rattle.meaning.specs.declared.Word.{Word}
 use Rattle.meaning.specs.declared.Element.{Element}
 use Rattle.meaning.specs.Text.{Bytes, bytes, empty, all, isNone, same, cut, tab, isField}
-use Rattle.meaning.specs.Model.{padded, kindText, space}
-use Rattle.meaning.specs.Reading.{Line as Meant, treeLine, kindOf, lineOf, depthOf, wordOf, orPermit, Sofar, wellPlaced, Tests, lowest, wrongFields, badMasks, lineTests, extended}
+use Rattle.meaning.specs.Model.{padded, kindText}
+use Rattle.meaning.specs.Reading.{Line as Meant, treeLine, kindOf, lineOf, depthOf, wordOf, orPermit, masksOf, Sofar, wellPlaced, Tests, lowest, wrongFields, badMasks, lineTests}
 use Rattle.laws.proofs.Bools.{Test, passed, failed, test, or-false, or-true}
 use Rattle.laws.proofs.Reading.{Passes, Numbered, lowest-zero}
 use Rattle.laws.proofs.Lines.{spelled-some}
-use Rattle.laws.proofs.Bounds.{placed-depth}
+use Rattle.laws.proofs.Bounds.{placed-depth, length-padded, masks-count}
 use Rattle.decisions.specs.Table.{wordAt}
 use Rattle.syntax.specs.Fields.{numberOfWord}
-use Rattle.layout.specs.Places.{part, attributesOf, kindAt, elementsTo, lineStart}
-use Rattle.layout.specs.Nearest.{lastDepth, Stands}
-use Rattle.layout.proofs.Laws.{elements-more, named-more, lined-more}
+use Rattle.layout.specs.Places.{part, kindAt, elementsTo, lineStart}
+use Rattle.layout.specs.Nearest.{Stands}
+use Rattle.layout.proofs.Placing.{stands-more}
+use Rattle.layout.proofs.Laws.{attributes-length, elements-more, named-more, lined-more}
 use Rattle.reader.specs.declared.State.{State}
 use Rattle.reader.specs.Sofar.{refusalBy, refusalOf, elementFrom, earlierTests, TreeLine}
-use Rattle.reader.specs.Steps.{Spaced, Rooms, Ready, Line, Fits, Put, readSofar, Next}
+use Rattle.reader.specs.Steps.{Rooms, Ready, Line, Fits, behindTree, readSofar, Next}
 use Rattle.reader.proofs.Parts.{field-at, next-start}
 
 -- The fields of a tree line
@@ -167,7 +169,7 @@ word-number (some Word.FirstApplicable) h = refl
 word-number (some Word.OnlyOneApplicable) h = refl
 
 -- The element of a tree line is that of the row and the places that are put for it
-module _ (f table places : List ℕ) (st : State) (end : ℕ) (k : Kind) (n : ℕ) (masks : List ℕ) (r : State) (ready : Ready f table places st) (at : Line f st end) where
+module _ (f table places : List ℕ) (st : State) (end : ℕ) (k : Kind) (n : ℕ) (ready : Ready f table places st) (at : Line f st end) where
   abbrev fs : List Bytes
   fs = cut tab (part f (st .at) end)
 
@@ -182,6 +184,9 @@ module _ (f table places : List ℕ) (st : State) (end : ℕ) (k : Kind) (n : �
 
   abbrev word : ℕ
   word = numberOfWord (wordOf k (getD fs 3 []))
+
+  abbrev masks : List ℕ
+  masks = padded 6 (masksOf (s .attributes) (drop 4 fs))
 
   abbrev table′ : List ℕ
   table′ = sets table (8 * size) (word ∷ depthOf (getD fs 1 []) ∷ masks)
@@ -211,54 +216,50 @@ module _ (f table places : List ℕ) (st : State) (end : ℕ) (k : Kind) (n : �
       ends = l;
     }
 
-    module _ (good : masks ≡ el s fs k n line .masks) (six : length masks ≡ 6) (put : Put st end k fs r) where
-      added : elementsTo f table′ places′ (suc size) ≡ el s fs k n line ∷ s .before
-      added =
-          elements-more f table places size (st .at) name-end word (depthOf (getD fs 1 [])) masks (omega (arith, ready .rooms .rows, few)) (omega (arith, ready .rooms .pairs, few)) six
-          ∙ ap (λ x. x ∷ s .before) (λ i. record {
-            kind = named .letter i;
-            depth = depthOf (getD fs 1 []);
-            name = padded 16 (named .here i);
-            len = length (named .here i);
-            word = word-number (wordOf k (getD fs 3 [])) (known .2) i;
-            masks = good i;
-          })
+    six : length masks ≡ 6
+    six =
+        let few-masks = masks-count (s .attributes) (drop 4 fs) in
+        length-padded 6 (masksOf (s .attributes) (drop 4 fs)) (omega (arith, few-masks, attributes-length f (st .attributes), ready .begun .attributes .standing .few))
 
-      stands : Stands (r .tree) (elementsTo f table′ places′ (suc size))
-      stands = subst⁻¹ (Stands (r .tree)) added (put .stands (s .before) (el s fs k n line) (ready .tree) refl refl)
+    added : elementsTo f table′ places′ (suc size) ≡ el s fs k n line ∷ s .before
+    added =
+        elements-more f table places size (st .at) name-end word (depthOf (getD fs 1 [])) masks (omega (arith, ready .rooms .rows, few)) (omega (arith, ready .rooms .pairs, few)) six
+        ∙ ap (λ x. x ∷ s .before) (λ i. record {
+          kind = named .letter i;
+          depth = depthOf (getD fs 1 []);
+          name = padded 16 (named .here i);
+          len = length (named .here i);
+          word = word-number (wordOf k (getD fs 3 [])) (known .2) i;
+          masks = masks;
+        })
 
-      one-more : r .tree .len ≡ suc size
-      one-more = put .stands (s .before) (el s fs k n line) (ready .tree) refl refl .count ∙ ap suc (sym (ready .tree .count))
+    more : elementsTo f table′ places′ (size + 1) ≡ el s fs k n line ∷ s .before
+    more = ap (elementsTo f table′ places′) (add-one size) ∙ added
 
-      -- the state behind the line
-      pub tree-next : Next f table′ places′ s fs end (st .line) r
-      tree-next =
-          record {
-            ready = record {
-              begun = record {
-                inside = omega (arith, put .at-next, at .ends);
-                lines-passed = omega (arith, put .at-next, put .line-next, ready .begun .lines-passed, at .starts);
-                attributes = subst⁻¹ (Spaced f) (put .same-attributes) (ready .begun .attributes);
-                space-is = put .same-space ∙ ready .begun .space-is ∙ ap (λ a. space (attributesOf f a)) (sym (put .same-attributes));
-                shallow = omega (arith, stands .last, ap lastDepth added, known .1);
-                few = omega (arith, one-more, few);
-              };
-              rooms = subst⁻¹ (Rooms f table′ places′) one-more (record {
-                rows = omega (arith, length-sets table (8 * size) (word ∷ depthOf (getD fs 1 []) ∷ masks), ready .rooms .rows);
-                pairs = omega (arith, length-sets places (2 * size) (st .at ∷ name-end ∷ []), ready .rooms .pairs);
-                named = named-more f places size (st .at) name-end (omega (arith, ready .rooms .pairs, few)) (omega arith) (omega (arith, named .within, at .ends)) (ready .rooms .named);
-              });
-              tree = subst⁻¹ (λ m. Stands (r .tree) (elementsTo f table′ places′ m)) one-more stands;
-              lined = rw (put .same-attributes, one-more, put .at-next) (lined-more f places size (st .at) name-end (omega (arith, ready .rooms .pairs, few)) (lineStart f) (st .attributes .len) (end + 1) (ready .lined) (next-start (st .attributes .len + size) at (ready .lined .next)));
-              places-are = rw (put .same-attributes) (ready .places-are);
+    -- the state behind the line
+    pub tree-next : Next f table places table′ places′ st end (behindTree st end k fs)
+    tree-next =
+        record {
+          ready = record {
+            begun = record {
+              inside = omega (arith, at .ends);
+              lines-passed = omega (arith, ready .begun .lines-passed, at .starts);
+              attributes = ready .begun .attributes;
+              space-is = ready .begun .space-is;
+              shallow = known .1;
+              few = omega (arith, few);
             };
-            at-next = put .at-next;
-            line-next = put .line-next;
-            extends = extends;
-          }
-        where
-          extends : readSofar f table′ places′ r ≡ extended s (lineOf fs)
-          extends =
-              (λ i. record { attributes = attributesOf f (put .same-attributes i); before = elementsTo f table′ places′ (one-more i) })
-              ∙ (λ i. record { attributes = s .attributes; before = added i })
-              ∙ sym (ap (extended s) (fields s fs k n line count .is-tree))
+            rooms = subst⁻¹ (Rooms f table′ places′) (add-one size) (record {
+              rows = omega (arith, length-sets table (8 * size) (word ∷ depthOf (getD fs 1 []) ∷ masks), ready .rooms .rows);
+              pairs = omega (arith, length-sets places (2 * size) (st .at ∷ name-end ∷ []), ready .rooms .pairs);
+              named = named-more f places size (st .at) name-end (omega (arith, ready .rooms .pairs, few)) (omega arith) (omega (arith, named .within, at .ends)) (ready .rooms .named);
+            });
+            tree = subst⁻¹ (Stands (behindTree st end k fs .tree)) more (stands-more (st .tree) k (depthOf (getD fs 1 [])) (el s fs k n line) (s .before) (ready .tree) refl refl (known .1) refl);
+            lined = rw (add-one size) (lined-more f places size (st .at) name-end (omega (arith, ready .rooms .pairs, few)) (lineStart f) (st .attributes .len) (end + 1) (ready .lined) (next-start (st .attributes .len + size) at (ready .lined .next)));
+            places-are = ready .places-are;
+          };
+          at-next = refl;
+          line-next = refl;
+          laid = (λ i. record { sofar = record { attributes = s .attributes; before = more i }; table = table′; places = places′ })
+              ∙ sym (rw (fields s fs k n line count .is-tree, ← ready .tree .count));
+        }

@@ -1,4 +1,5 @@
 -- What the contracts of the reader cite.
 pub mod Headed
 pub mod Sofar
+pub mod Laid
 pub mod Steps

@@ -4,7 +4,7 @@ use mathlib.Core.Path.{_≡_}
 use mathlib.Core.Option.{some}
 use mathlib.Core.Bool.{true, false, cond, _||_, not}
 use mathlib.Core.List.{List, [], _∷_, map}
-use lib.Dec.{leb, eqb}
+use lib.Dec.{leb, ltb, eqb}
 use lib.ListN.{length, drop, getD}
 use Rattle.meaning.specs.declared.Kind.{Kind}
 use Rattle.meaning.specs.declared.Element.{Element}
@@ -12,8 +12,12 @@ use Rattle.meaning.specs.Text.{Bytes, bytes, empty, all, isNone, same, amongNam
 use Rattle.meaning.specs.Model.{Attribute, nameOf, space as spaceOf}
 use Rattle.meaning.specs.Reading.{Line, kindOf, lineOf, wordOf, elementOf, Sofar, wellPlaced, Tests, lowest, wrongFields, attributeTests, badName, lineTests}
 use Rattle.syntax.specs.declared.LineKind.{LineKind}
+use Rattle.syntax.specs.Fields.{lineKind}
 use Rattle.layout.specs.declared.Attributes.{Attributes}
-use Rattle.layout.specs.Places.{attributesOf, AllStanding, elementsTo}
+use Rattle.layout.specs.declared.Tree.{Tree}
+use Rattle.layout.specs.Places.{attributesOf, AllStanding, elementsTo, namesTo}
+use Rattle.layout.specs.Nearest.{Stands}
+use Rattle.reader.specs.declared.LineShape.{LineShape}
 
 abbrev pub sofarOf : Bytes → Attributes → List ℕ → List ℕ → ℕ → Sofar
 sofarOf f a table places n = record { attributes = attributesOf f a; before = elementsTo f table places n }
@@ -31,6 +35,12 @@ attributeIn fs = record { name = getD fs 1 []; values = drop 2 fs }
 
 abbrev pub elementFrom : List Attribute → Kind → List Bytes → Element
 elementFrom attrs k fs = elementOf attrs k (getD fs 1 []) (getD fs 2 []) (getD fs 3 []) (drop 4 fs)
+
+-- what was read so far is what attributes, places and a tree stand for
+pub record Behind (f : Bytes) (a : Attributes) (places : List ℕ) (tree : Tree) (s : Sofar) : Type 0 where
+  pub attributes : s .attributes ≡ attributesOf f a
+  pub stands : Stands tree (s .before)
+  pub names : map nameOf (s .before) ≡ namesTo f places (tree .len)
 
 -- 3 to 7 of an element: the tests before that of its targets
 abbrev pub earlierTests : Sofar → Bytes → Element → Tests
@@ -76,8 +86,8 @@ pub record TreeLine (fs : List Bytes) (k : Kind) (n : ℕ) : Type 0 where
 abbrev pub CountIs : List Bytes → ℕ → Type 0
 CountIs fs n = n ≡ cond (all isField fs) (length fs) 0
 
--- a line of these fields by its kind; any other is wrong by test 2, whatever was read so far
-abbrev pub ShapeIs : List Bytes → LineKind → ℕ → Type 0
-ShapeIs fs LineKind.Attribute n = AttributeLine fs n
-ShapeIs fs (LineKind.Tree k) n = TreeLine fs k n
-ShapeIs fs LineKind.Other n = (s : Sofar) → wrongFields s fs (lineOf fs) ≡ true
+-- a line of these fields by its first one; other where they are too few
+abbrev pub shapeOf : List Bytes → LineShape
+shapeOf fs =
+    let n = cond (all isField fs) (length fs) 0 in
+    record { kind = cond (ltb n 3) LineKind.Other (lineKind (getD fs 0 [])); fields = n }

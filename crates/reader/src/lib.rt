@@ -8,17 +8,12 @@ use meaning::Answer;
 use syntax::LineKind;
 use text::Counted;
 ghost use mathlib.Core.Path.{_≡_};
-ghost use mathlib.Core.Bool.{cond};
-ghost use mathlib.Core.List.{List};
-ghost use Prim.Native.Nat.{ℕ, _≤_};
-ghost use lib.Dec.{eqb};
+ghost use Prim.Native.Nat.{_≤_};
 ghost use lib.ListN.{length};
 ghost use Rattle.meaning.specs.Text.{cut, tab};
-ghost use Rattle.meaning.specs.Model.{refused};
-ghost use Rattle.meaning.specs.Reading.{nothing, finished, read as readFile};
 ghost use Rattle.layout.specs.Places.{part};
-ghost use Rattle.reader.specs.Sofar.{Tested, AttributeRefusal, AttributeLine, CountIs, ShapeIs};
-ghost use Rattle.reader.specs.Steps.{Begun, Ready, Line, LineAt, readSofar, StepIs, refusedWith, ReadAs};
+ghost use Rattle.reader.specs.Sofar.{Tested, AttributeRefusal, AttributeLine, CountIs, shapeOf};
+ghost use Rattle.reader.specs.Steps.{Begun, Ready, Line, LineAt, beginning, AttributeStep, StepIs, refusedWith, endedAt, ReadIs};
 
 // Where the reader stands: the next line's start and number, what was read, and the space so far.
 pub struct State {
@@ -90,7 +85,7 @@ fn attribute_refusal(
 // An attribute line of so many fields.
 pub fn attribute_line(file: &[u8], st: State, end: usize, fields: usize) -> Step
     requires { ⌜ Begun (now file) st × Line (now file) st end × AttributeLine (cut tab (part (now file) (st .at) end)) fields ⌝ }
-    ensures { λ r. ⌜ ((table places : List ℕ) → Ready (now (file .entry)) table places st → StepIs (now (file .entry)) table places table places st end r) ⌝ }
+    ensures { λ r. ⌜ AttributeStep (now (file .entry)) st end fields r ⌝ }
 {
     let at = st.at;
     let a = st.attributes;
@@ -118,7 +113,7 @@ pub fn attribute_line(file: &[u8], st: State, end: usize, fields: usize) -> Step
 // The shape of a line whose fields were counted.
 fn shape_of(line: &[u8], fields: usize) -> LineShape
     requires { ⌜ CountIs (cut tab (now line)) fields ⌝ }
-    ensures { λ r. ⌜ ShapeIs (cut tab (now (line .entry))) (r .kind) (r .fields) ⌝ }
+    ensures { λ r. ⌜ r ≡ shapeOf (cut tab (now (line .entry))) ⌝ }
 {
     if fields < 3 {
         return LineShape {
@@ -131,7 +126,7 @@ fn shape_of(line: &[u8], fields: usize) -> LineShape
 }
 
 pub fn line_shape(line: &[u8]) -> LineShape
-    ensures { λ r. ⌜ ShapeIs (cut tab (now (line .entry))) (r .kind) (r .fields) ⌝ }
+    ensures { λ r. ⌜ r ≡ shapeOf (cut tab (now (line .entry))) ⌝ }
 {
     shape_of(line, text::count_fields(line))
 }
@@ -175,8 +170,7 @@ fn read_line(
 
 // The state before the first line.
 pub fn start() -> State
-    ensures { λ r. ⌜ ((f table places : List ℕ) → 512 ≤ length table → 128 ≤ length places → Ready f table places r × (readSofar f table places r ≡ nothing)) ⌝ }
-    ensures at { λ r. ⌜ (r .at ≡ 0) × (r .line ≡ 1) ⌝ }
+    ensures { λ r. ⌜ r ≡ beginning ⌝ }
 {
     let attributes = layout::no_attributes();
     let tree = Tree {
@@ -209,8 +203,7 @@ fn refuse(number: usize, second: usize) -> Reading
 
 // What stands behind the last newline, and the end of the file.
 fn finish(st: State, end: usize) -> Reading
-    ensures { λ r. ⌜ ((f table places : List ℕ) → Ready f table places st → st .line ≤ 16385 → end ≡ length f
-        → ReadAs f table places r (cond (eqb (st .at) end) (finished (readSofar f table places st)) (refused 2 (st .line)))) ⌝ }
+    ensures { λ r. ⌜ r ≡ endedAt st end ⌝ }
 {
     let attributes = st.attributes;
     let tree = st.tree;
@@ -231,10 +224,10 @@ fn finish(st: State, end: usize) -> Reading
     }
 }
 
-// Reads a file into the table and the places.
+// Reads a file into the table and the places; a refused one up to the line that is refused.
 pub fn read(file: &[u8], table: &mut [u16], places: &mut [usize]) -> Reading
     requires { ⌜ (512 ≤ length (now table)) × (128 ≤ length (now places)) ⌝ }
-    ensures { λ r. ⌜ ReadAs (now (file .entry)) (now (table .exit)) (now (places .exit)) r (readFile (now (file .entry))) ⌝ }
+    ensures { λ r. ⌜ ReadIs (now (file .entry)) (now (table .entry)) (now (places .entry)) (now (table .exit)) (now (places .exit)) r ⌝ }
 {
     let mut st = start();
     if 16384 < file.len() {

@@ -8,22 +8,19 @@ use layout::Row;
 use layout::Tree;
 use meaning::Kind;
 ghost use mathlib.Core.Path.{_≡_};
-ghost use mathlib.Core.Bool.{true, not};
-ghost use mathlib.Core.List.{[], _∷_, map};
+ghost use mathlib.Core.List.{[], _∷_};
 ghost use Prim.Native.Nat.{ℕ, _+_, _*_, _≤_, _<_};
 ghost use lib.ListN.{length, drop, getD};
 ghost use lib.Seq.{sets};
 ghost use Rattle.meaning.specs.Text.{cut, tab};
-ghost use Rattle.meaning.specs.Model.{nameOf, padded};
-ghost use Rattle.meaning.specs.Reading.{depthOf, wordOf, masksOf, Sofar, lowest, badMasks};
-ghost use Rattle.layout.specs.Places.{part, attributesOf, AllStanding, namesTo, Named};
-ghost use Rattle.layout.specs.Nearest.{Stands};
+ghost use Rattle.meaning.specs.Reading.{depthOf, wordOf, Sofar, lowest};
+ghost use Rattle.layout.specs.Places.{part, attributesOf, AllStanding, Named};
 ghost use Rattle.syntax.specs.Fields.{numberOfWord};
 ghost use Rattle.reader.specs.Headed.{Headed};
-ghost use Rattle.reader.specs.Sofar.{elementFrom, earlierTests, TreeLine};
-ghost use Rattle.reader.specs.Steps.{Ready, Line, Fits, Put, StepIs};
+ghost use Rattle.reader.specs.Sofar.{elementFrom, Behind, earlierTests, TreeLine};
+ghost use Rattle.reader.specs.Steps.{Ready, Line, masksIn, Fits, behindTree, StepIs};
 
-// The masks of a tree line, where all its targets are good.
+// The masks of a tree line where all its targets are good, else zeros.
 pub struct Masks {
     pub good: bool,
     pub masks: [u16; 6],
@@ -39,9 +36,8 @@ fn element_refusal(
     line: &[u8],
     e: FieldEnds,
 ) -> usize
-    requires { ⌜ Named (now file) (now places) (tree .len) × (tree .depth ≤ 7) × Headed (now line) e ⌝ }
-    ensures { λ r. ⌜ ((s : Sofar) → s .attributes ≡ attributesOf (now (file .entry)) a → Stands tree (s .before)
-        → map nameOf (s .before) ≡ namesTo (now (file .entry)) (now (places .entry)) (tree .len)
+    requires { ⌜ Named (now file) (now places) (tree .len) × (tree .depth ≤ 7) × Headed (now line) e × ((s : Sofar) × Behind (now file) a (now places) tree s) ⌝ }
+    ensures { λ r. ⌜ ((s : Sofar) → Behind (now (file .entry)) a (now (places .entry)) tree s
         → r ≡ lowest (earlierTests s (getD (cut tab (now (line .entry))) 3 []) (elementFrom (s .attributes) kind (cut tab (now (line .entry)))))) ⌝ }
 {
     let name = heads::name_field(line, e);
@@ -70,8 +66,7 @@ fn element_refusal(
 // The masks of a tree line, one for each attribute.
 fn line_masks(file: &[u8], a: Attributes, line: &[u8], e: FieldEnds) -> Masks
     requires { ⌜ AllStanding (now file) a × ((i : ℕ) → i < a .len → getD (a .counts) i 0 ≤ 16) × (1 ≤ a .len) × (length (cut tab (now line)) ≡ 4 + a .len) × Headed (now line) e ⌝ }
-    ensures { λ r. ⌜ r .good ≡ not (badMasks (attributesOf (now (file .entry)) a) (padded 6 (masksOf (attributesOf (now (file .entry)) a) (drop 4 (cut tab (now (line .entry))))))) ⌝ }
-    ensures { λ r. ⌜ (r .good ≡ true → r .masks ≡ padded 6 (masksOf (attributesOf (now (file .entry)) a) (drop 4 (cut tab (now (line .entry)))))) ⌝ }
+    ensures { λ r. ⌜ r ≡ masksIn (attributesOf (now (file .entry)) a) (drop 4 (cut tab (now (line .entry)))) ⌝ }
 {
     let targets = heads::target_fields(line, e);
     let values = a.values;
@@ -86,7 +81,10 @@ fn line_masks(file: &[u8], a: Attributes, line: &[u8], e: FieldEnds) -> Masks
         let last = ends[i];
         let mask = syntax::target_mask(&file[first..last], counts[i], &targets[at..end]);
         if mask == 0 {
-            return Masks { good: false, masks };
+            return Masks {
+                good: false,
+                masks: [0; 6],
+            };
         }
         masks[i] = mask;
         i += 1;
@@ -109,7 +107,7 @@ fn put_line(
     places: &mut [usize],
 ) -> State
     requires { ⌜ Fits (now table) (now places) st end (cut tab (now line)) × Headed (now line) e ⌝ }
-    ensures { λ r. ⌜ Put st end kind (cut tab (now (line .entry))) r ⌝ }
+    ensures { λ r. ⌜ r ≡ behindTree st end kind (cut tab (now (line .entry))) ⌝ }
     ensures { λ r. ⌜ now (table .exit) ≡ sets (now (table .entry)) (8 * st .tree .len) (numberOfWord (wordOf kind (getD (cut tab (now (line .entry))) 3 [])) ∷ depthOf (getD (cut tab (now (line .entry))) 1 []) ∷ masks) ⌝ }
     ensures { λ r. ⌜ now (places .exit) ≡ sets (now (places .entry)) (2 * st .tree .len) (st .at ∷ (st .at + 4 + length (getD (cut tab (now (line .entry))) 2 [])) ∷ []) ⌝ }
 {

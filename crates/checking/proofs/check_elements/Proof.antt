@@ -7,6 +7,7 @@ use lib.ListN.{length, take, getD, length-map}
 use borrow.Author.Needs.{needs}
 use Rattle.meaning.specs.Model.{Attribute, sizes}
 use Rattle.meaning.specs.Writing.{readElements}
+use Rattle.layout.proofs.Placing.{stands-more}
 use Rattle.checking.specs.Tested.{none, earlier, behind, Begun}
 use Rattle.checking.proofs.Earlier.{earlier-length}
 use Rattle.checking.proofs.Walk.{refusalAt, remaining, all-remain, none-remains, element-refused, element-passed, refusal-told, end-told, standIns, stand-in-sizes, Sound, sound, begun-first, begun-next}
@@ -41,8 +42,9 @@ tree-more c =
     let all = turn .before .before .args .list .all in
     let tree = turn .loop .tree in
     let begun = turn .loop .inv .1 in
-    let stands = c .with-element .ensures (earlier all (tree .len)) (getD all (tree .len) none) (begun .stands) refl refl in
-    (begun-next all tree (c .with-element .result) begun (passed-here (c .before .before)) stands, omega (arith, stands .count, earlier-length all (tree .len)))
+    let passed = passed-here (c .before .before) in
+    let stands = stands-more tree _ _ (getD all (tree .len) none) (earlier all (tree .len)) (begun .stands) refl refl (passed .shallow) (c .with-element .ensures) in
+    (begun-next all tree (c .with-element .result) begun passed stands, omega (arith, stands .count, earlier-length all (tree .len)))
 
 loop-holds : tie.Need-loop-holds Inv-loop μ-loop
 loop-holds c = let a = c .before .args in (search needs, begun-first (a .list .all), λ attrs are. all-remain (a .attributes) attrs (a .list .all) (a .list .len))

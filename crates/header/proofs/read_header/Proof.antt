@@ -2,8 +2,7 @@
 use Prim.Native.Nat.{_-_}
 use native.Mathlib.Omega.{arith}
 use lib.ListN.{length}
-use Rattle.header.specs.Among.{blank}
-use Rattle.header.proofs.HeaderLoop.{Keeps, blank-room, too-long, keeps-first, left-over, all-read, refused-here, keeps-next}
+use Rattle.header.proofs.HeaderLoop.{Keeps, too-long, keeps-first, left-over, all-read, refused-here, keeps-next}
 use borrow.Author.Needs.{needs}
 use Rattle.header.proofs.read_header.Statement.{statement}
 use Rattle.header.proofs.read_header.Tie as tie
@@ -18,9 +17,7 @@ returns : tie.Need-returns Inv-loop μ-loop
 returns c = too-long (c .before .before .before .before .args .header .now) (c .refuse .ensures) (c .before .if1 .taken)
 
 loop-holds : tie.Need-loop-holds Inv-loop μ-loop
-loop-holds c =
-    let header = c .before .before .before .args .header .now in
-    keeps-first header _ (omega arith) (c .before .start .ensures .1) (c .before .start .ensures .0 header blank blank blank-room (omega (arith, blank-room)))
+loop-holds c = keeps-first _ (omega arith) (c .before .start .ensures)
 
 end-of-requires : tie.Need-end-of-requires Inv-loop μ-loop
 end-of-requires c κs = c .loop .inv .among .ready .begun .inside

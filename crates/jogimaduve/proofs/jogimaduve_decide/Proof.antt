@@ -18,32 +18,32 @@ use Rattle.reader.proofs.read.Reads as read-reads
 use Rattle.reader.proofs.refusal.Reads as refusal-reads
 
 refusal-requires : tie.Need-refusal-requires
-refusal-requires c κs = small-numbers _ _ _ _ (c .before .before .before .before .read .ensures) (c .if1 .taken)
+refusal-requires c κs = small-numbers _ _ _ _ (c .before .before .before .before .read .ensures .answer) (c .if1 .taken)
 
 returns : tie.Need-returns
-returns c = c .refusal .ensures ∙ refusal-answered _ _ _ _ (c .before .before .before .before .before .read .ensures) _ (c .before .if1 .taken)
+returns c = c .refusal .ensures ∙ refusal-answered _ _ _ _ (c .before .before .before .before .before .read .ensures .answer) _ (c .before .if1 .taken)
 
 request-line-requires : tie.Need-request-line-requires
-request-line-requires c κs = file-read _ _ _ _ (c .before .before .before .before .before .read .ensures) (c .before .if1 .left) .2 .spaced .standing
+request-line-requires c κs = file-read _ _ _ _ (c .before .before .before .before .before .read .ensures .answer) (c .before .if1 .left) .2 .spaced .standing
 
 cast-t16 : tie.Need-cast-t16
 cast-t16 c =
     let asked = c .before .before .before .request-line in
-    let place = small-place _ _ _ _ (c .before .before .before .before .before .before .before .before .before .read .ensures) (c .before .before .before .before .before .if1 .left) (c .before .before .before .before .before .before .before .before .before .before .before .before .before .before .args .request .now) (asked .result) (asked .ensures) (not-true _ (c .before .if2 .taken)) in
+    let place = small-place _ _ _ _ (c .before .before .before .before .before .before .before .before .before .read .ensures .answer) (c .before .before .before .before .before .if1 .left) (c .before .before .before .before .before .before .before .before .before .before .before .before .before .before .args .request .now) (asked .result) (asked .ensures) (not-true _ (c .before .if2 .taken)) in
     omega (arith, place)
 
 returns-2 : tie.Need-returns-2
 returns-2 c =
     let asked = c .before .before .before .request-line in
-    request-refused _ _ _ _ (c .before .before .before .before .before .before .before .before .before .read .ensures) (c .before .before .before .before .before .if1 .left) _ (asked .result) (asked .ensures) (not-true _ (c .before .if2 .taken))
+    request-refused _ _ _ _ (c .before .before .before .before .before .before .before .before .before .read .ensures .answer) (c .before .before .before .before .before .if1 .left) _ (asked .result) (asked .ensures) (not-true _ (c .before .if2 .taken))
 
 decide-requires : tie.Need-decide-requires
 decide-requires c κs =
     let reading = c .before .before .before .before .before .before .before .before .before .before .before .read in
     let read-well = c .before .before .before .before .before .before .before .if1 .left in
     let asked = c .before .before .before .before .before .request-line in
-    let holds = file-read _ _ _ _ (reading .ensures) read-well .2 in
-    let few = request-few _ _ _ _ (reading .ensures) read-well (c .before .before .before .before .before .before .before .before .before .before .before .before .before .before .before .before .args .request .now) (asked .result) (asked .ensures) (not-false _ (c .before .before .before .if2 .left)) in
+    let holds = file-read _ _ _ _ (reading .ensures .answer) read-well .2 in
+    let few = request-few _ _ _ _ (reading .ensures .answer) read-well (c .before .before .before .before .before .before .before .before .before .before .before .before .before .before .before .before .args .request .now) (asked .result) (asked .ensures) (not-false _ (c .before .before .before .if2 .left)) in
     let elements : reading .result .elements ≤ 64 = omega (arith, holds .rooms .named .room) in
     (record { rows = omega (arith, holds .rooms .rows, elements); flags = elements; place = holds .some; few = few }, refl)
 
@@ -52,8 +52,8 @@ returns-3 c =
     let reading = c .before .before .before .before .before .before .before .before .before .before .before .before .before .read in
     let read-well = c .before .before .before .before .before .before .before .before .before .if1 .left in
     let asked = c .before .before .before .before .before .before .before .request-line in
-    let holds = file-read _ _ _ _ (reading .ensures) read-well .2 in
-    request-decided _ _ _ _ (reading .ensures) read-well _ (asked .result) (asked .ensures) (not-false _ (c .before .before .before .before .before .if2 .left)) _ (λ k l. getD-replicate 64 k 0 0 (omega (arith, l, holds .rooms .named .room))) _ (c .before .decide .ensures) _ (c .number .ensures .0)
+    let holds = file-read _ _ _ _ (reading .ensures .answer) read-well .2 in
+    request-decided _ _ _ _ (reading .ensures .answer) read-well _ (asked .result) (asked .ensures) (not-false _ (c .before .before .before .before .before .if2 .left)) _ (λ k l. getD-replicate 64 k 0 0 (omega (arith, l, holds .rooms .named .room))) _ (c .before .decide .ensures) _ (c .number .ensures .0)
 
 pub jogimaduve-decide-spec : {M : Type 1} → statement M
 jogimaduve-decide-spec =

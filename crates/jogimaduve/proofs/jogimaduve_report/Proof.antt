@@ -17,22 +17,22 @@ use Rattle.reader.proofs.refusal.Reads as refusal-reads
 use Rattle.reporting.proofs.report.Reads as report-reads
 
 refusal-requires : tie.Need-refusal-requires
-refusal-requires c κs = small-numbers _ _ _ _ (c .before .before .before .before .read .ensures) (c .if1 .taken)
+refusal-requires c κs = small-numbers _ _ _ _ (c .before .before .before .before .read .ensures .answer) (c .if1 .taken)
 
 returns : tie.Need-returns
 returns c =
-    let is-read = c .before .before .before .before .before .read .ensures in
+    let is-read = c .before .before .before .before .before .read .ensures .answer in
     let out = c .before .before .before .before .before .before .before .before .before .before .args .out .now in
     (c .refusal .ensures ∙ refusal-answered _ _ _ _ is-read out (c .before .if1 .taken), refusal-lent _ _ _ _ is-read out (c .before .if1 .taken))
 
 report-requires : tie.Need-report-requires
 report-requires c κs =
-    let read-well = file-read _ _ _ _ (c .before .before .before .before .before .before .before .before .read .ensures) (c .before .before .before .before .if1 .left) in
+    let read-well = file-read _ _ _ _ (c .before .before .before .before .before .before .before .before .read .ensures .answer) (c .before .before .before .before .if1 .left) in
     (ready _ _ _ _ (read-well .0) (read-well .1) (read-well .2) _ (c .before .shape-of .ensures) _ (omega arith) refl, subst (Naming _ _) (sym (ap (λ s. s .n) (c .before .shape-of .ensures))) (naming _ _ _ _ (read-well .0) (read-well .1) (read-well .2)))
 
 returns-2 : tie.Need-returns-2
 returns-2 c =
-    let read-well = file-read _ _ _ _ (c .before .before .before .before .before .before .before .before .before .before .before .before .read .ensures) (c .before .before .before .before .before .before .before .before .if1 .left) in
+    let read-well = file-read _ _ _ _ (c .before .before .before .before .before .before .before .before .before .before .before .before .read .ensures .answer) (c .before .before .before .before .before .before .before .before .if1 .left) in
     let shaped = c .before .before .before .before .before .shape-of .ensures in
     let reported = c .before .before .before .report .ensures in
     (c .text-answer .ensures ∙ report-answered _ _ _ _ (read-well .0) (read-well .1) (read-well .2) _ shaped _ _ _ reported, report-lent _ _ _ _ (read-well .0) (read-well .1) (read-well .2) _ shaped _ _ _ reported)

@@ -18,32 +18,32 @@ use Rattle.trimmed_text.proofs.copy_text.Reads as copy-text-reads
 use Rattle.trimmed_text.proofs.text_length.Reads as text-length-reads
 
 refusal-requires : tie.Need-refusal-requires
-refusal-requires c κs = small-numbers _ _ _ _ (c .before .before .before .before .read .ensures) (c .if1 .taken)
+refusal-requires c κs = small-numbers _ _ _ _ (c .before .before .before .before .read .ensures .answer) (c .if1 .taken)
 
 returns : tie.Need-returns
 returns c =
-    let is-read = c .before .before .before .before .before .read .ensures in
+    let is-read = c .before .before .before .before .before .read .ensures .answer in
     let out = c .before .before .before .before .before .before .before .before .before .before .args .out .now in
     (c .refusal .ensures ∙ refusal-answered _ _ _ _ is-read out (c .before .if1 .taken), refusal-lent _ _ _ _ is-read out (c .before .if1 .taken))
 
 strike-requires : tie.Need-strike-requires
 strike-requires c κs =
-    let read-well = file-read _ _ _ _ (c .before .before .before .before .before .before .before .read .ensures) (c .before .before .before .if1 .left) in
+    let read-well = file-read _ _ _ _ (c .before .before .before .before .before .before .before .read .ensures .answer) (c .before .before .before .if1 .left) in
     ready _ _ _ _ (read-well .0) (read-well .1) (read-well .2) _ (c .shape-of .ensures) _ (omega arith) refl
 
 text-length-requires : tie.Need-text-length-requires
 text-length-requires c κs =
-    let read-well = file-read _ _ _ _ (c .before .before .before .before .before .before .before .before .before .before .before .read .ensures) (c .before .before .before .before .before .before .before .if1 .left) in
+    let read-well = file-read _ _ _ _ (c .before .before .before .before .before .before .before .before .before .before .before .read .ensures .answer) (c .before .before .before .before .before .before .before .if1 .left) in
     copies _ _ _ _ (read-well .0) (read-well .1) (read-well .2) _ (omega arith)
 
 text-answer-requires : tie.Need-text-answer-requires
 text-answer-requires c κs =
-    let read-well = file-read _ _ _ _ (c .before .before .before .before .before .before .before .before .before .before .before .before .before .read .ensures) (c .before .before .before .before .before .before .before .before .before .if1 .left) in
+    let read-well = file-read _ _ _ _ (c .before .before .before .before .before .before .before .before .before .before .before .before .before .read .ensures .answer) (c .before .before .before .before .before .before .before .before .before .if1 .left) in
     small-text _ _ _ _ (read-well .0) (read-well .1) (read-well .2) _ (c .before .before .before .before .before .before .shape-of .ensures) _ (c .before .before .before .before .before .strike .ensures) _ (c .before .text-length .ensures .1)
 
 returns-2 : tie.Need-returns-2
 returns-2 c =
-    let read-well = file-read _ _ _ _ (c .before .before .before .before .before .before .before .before .before .before .before .before .before .before .read .ensures) (c .before .before .before .before .before .before .before .before .before .before .if1 .left) in
+    let read-well = file-read _ _ _ _ (c .before .before .before .before .before .before .before .before .before .before .before .before .before .before .read .ensures .answer) (c .before .before .before .before .before .before .before .before .before .before .if1 .left) in
     let shaped = c .before .before .before .before .before .before .before .shape-of .ensures in
     let flags = c .before .before .before .before .before .before .strike .ensures in
     let needed = c .before .before .text-length .ensures .0 in
@@ -52,17 +52,17 @@ returns-2 c =
 
 copy-text-requires : tie.Need-copy-text-requires
 copy-text-requires c κs =
-    let read-well = file-read _ _ _ _ (c .before .before .before .before .before .before .before .before .before .before .before .before .before .before .before .before .read .ensures) (c .before .before .before .before .before .before .before .before .before .before .before .before .if1 .left) in
+    let read-well = file-read _ _ _ _ (c .before .before .before .before .before .before .before .before .before .before .before .before .before .before .before .before .read .ensures .answer) (c .before .before .before .before .before .before .before .before .before .before .before .before .if1 .left) in
     (copies _ _ _ _ (read-well .0) (read-well .1) (read-well .2) _ (omega arith), omega (arith, c .before .before .before .before .text-length .ensures .0, c .before .before .before .if2 .left))
 
 text-answer-requires-2 : tie.Need-text-answer-requires-2
 text-answer-requires-2 c κs =
-    let read-well = file-read _ _ _ _ (c .before .before .before .before .before .before .before .before .before .before .before .before .before .before .before .before .before .before .before .read .ensures) (c .before .before .before .before .before .before .before .before .before .before .before .before .before .before .before .if1 .left) in
+    let read-well = file-read _ _ _ _ (c .before .before .before .before .before .before .before .before .before .before .before .before .before .before .before .before .before .before .before .read .ensures .answer) (c .before .before .before .before .before .before .before .before .before .before .before .before .before .before .before .if1 .left) in
     small-text _ _ _ _ (read-well .0) (read-well .1) (read-well .2) _ (c .before .before .before .before .before .before .before .before .before .before .before .before .shape-of .ensures) _ (c .before .before .before .before .before .before .before .before .before .before .before .strike .ensures) _ (c .before .before .before .before .before .before .before .text-length .ensures .1)
 
 returns-3 : tie.Need-returns-3
 returns-3 c =
-    let read-well = file-read _ _ _ _ (c .before .before .before .before .before .before .before .before .before .before .before .before .before .before .before .before .before .before .before .before .read .ensures) (c .before .before .before .before .before .before .before .before .before .before .before .before .before .before .before .before .if1 .left) in
+    let read-well = file-read _ _ _ _ (c .before .before .before .before .before .before .before .before .before .before .before .before .before .before .before .before .before .before .before .before .read .ensures .answer) (c .before .before .before .before .before .before .before .before .before .before .before .before .before .before .before .before .if1 .left) in
     let shaped = c .before .before .before .before .before .before .before .before .before .before .before .before .before .shape-of .ensures in
     let flags = c .before .before .before .before .before .before .before .before .before .before .before .before .strike .ensures in
     let needed = c .before .before .before .before .before .before .before .before .text-length .ensures .0 in

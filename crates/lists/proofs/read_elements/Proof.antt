@@ -13,34 +13,34 @@ use Rattle.reader.proofs.read.Reads as read-reads
 use Rattle.reader.proofs.refusal.Reads as refusal-reads
 
 refusal-requires : tie.Need-refusal-requires
-refusal-requires c κs = small-numbers _ _ _ _ (c .before .before .before .before .read .ensures) (c .if1 .taken)
+refusal-requires c κs = small-numbers _ _ _ _ (c .before .before .before .before .read .ensures .answer) (c .if1 .taken)
 
 returns : tie.Need-returns
-returns c = refusal-listed _ _ _ _ (c .before .before .before .before .before .before .read .ensures) (c .before .before .if1 .taken) _ _ (c .before .refusal .ensures) _ (c .none .ensures)
+returns c = refusal-listed _ _ _ _ (c .before .before .before .before .before .before .read .ensures .answer) (c .before .before .if1 .taken) _ _ (c .before .refusal .ensures) _ (c .none .ensures)
 
 cast-t18 : tie.Need-cast-t18
 cast-t18 c =
-    let read-well = file-read _ _ _ _ (c .before .before .before .before .before .read .ensures) (c .before .if1 .left) in
+    let read-well = file-read _ _ _ _ (c .before .before .before .before .before .read .ensures .answer) (c .before .if1 .left) in
     omega (arith, few _ _ _ _ (read-well .0) (read-well .1) (read-well .2))
 
 returns-2 : tie.Need-returns-2
 returns-2 c =
-    let read-well = file-read _ _ _ _ (c .before .before .before .before .before .before .read .ensures) (c .before .before .if1 .left) in
+    let read-well = file-read _ _ _ _ (c .before .before .before .before .before .before .read .ensures .answer) (c .before .before .if1 .left) in
     short-listed _ _ _ _ (read-well .0) (read-well .1) (read-well .2) _ (c .before .if2 .taken) _ (c .none2 .ensures)
 
 cast-t19 : tie.Need-cast-t19
 cast-t19 c =
-    let read-well = file-read _ _ _ _ (c .before .before .before .before .before .read .ensures) (c .before .if1 .left) in
+    let read-well = file-read _ _ _ _ (c .before .before .before .before .before .read .ensures .answer) (c .before .if1 .left) in
     omega (arith, few _ _ _ _ (read-well .0) (read-well .1) (read-well .2))
 
 all-elements-requires : tie.Need-all-elements-requires
 all-elements-requires c κs =
-    let read-well = file-read _ _ _ _ (c .before .before .before .before .before .before .before .read .ensures) (c .before .before .before .if1 .left) in
+    let read-well = file-read _ _ _ _ (c .before .before .before .before .before .before .before .read .ensures .answer) (c .before .before .before .if1 .left) in
     ready _ _ _ _ (read-well .0) (read-well .1) (read-well .2)
 
 returns-3 : tie.Need-returns-3
 returns-3 c =
-    let read-well = file-read _ _ _ _ (c .before .before .before .before .before .before .before .before .read .ensures) (c .before .before .before .before .if1 .left) in
+    let read-well = file-read _ _ _ _ (c .before .before .before .before .before .before .before .before .read .ensures .answer) (c .before .before .before .before .if1 .left) in
     whole-listed _ _ _ _ (read-well .0) (read-well .1) (read-well .2) _ (c .before .before .before .if2 .left) _ (c .all-elements .ensures .0) (c .all-elements .ensures .1)
 
 pub read-elements-spec : {M : Type 1} → statement M

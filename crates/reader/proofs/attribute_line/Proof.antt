@@ -1,35 +1,24 @@
--- `attribute_line` meets its contract: the laws of the refusal and of the state behind the line.
+-- `attribute_line` meets its contract: what its tests say, and the places of its name and its values.
 use Prim.Native.Nat.{_+_, _-_}
-use mathlib.Core.Path.{_≡_}
+use mathlib.Core.Path.{ap, _∙_}
 use native.Mathlib.Omega.{arith}
 use lib.ListN.{length}
 use borrow.Author.Needs.{needs}
-use Rattle.layout.proofs.Adding.{added-behind}
-use Rattle.reader.proofs.AttributeLines.{AttributeParts, attribute-parts, line-refusal, line-next}
+use borrow.Author.Tests.{eq-eqb, ne-eqb}
+use Rattle.layout.specs.Places.{added}
+use Rattle.reader.proofs.AttributeLines.{attribute-parts}
 use Rattle.reader.proofs.attribute_line.Statement.{statement}
 use Rattle.reader.proofs.attribute_line.Tie as tie
 
--- each array of the attributes has six places
-rooms : (c : tie.Start) → let a = c .args .st .attributes in (length (a .names) ≡ 6) × (length (a .values) ≡ 6) × (length (a .ends) ≡ 6) × (length (a .counts) ≡ 6)
-rooms c = (search needs, search needs, search needs, search needs)
-
--- where the name and the values stand
-parts : (c : tie.After-field) → let a = c .before .before .before .before .before .before .before .args in AttributeParts (a .file .now) (a .st .at) (a .end) (c .field .result .now)
-parts c =
-    let start = c .before .before .before .before .before .before .before in
-    let a = start .args in
-    attribute-parts (a .file .now) (a .st .at) (a .end) (c .field .result .now) (omega (arith, start .pre .1 .ends)) (start .pre .2) (c .field .ensures)
-
 returns : tie.Need-returns
-returns c =
-    let start = c .before .before .before .before .before .before in
-    λ table places ready. record {
-      refusal = line-refusal ready (start .pre .1) (start .pre .2) (c .before .attribute-refusal .ensures);
-      next = λ none. absurd (c .if1 .taken none);
-    }
+returns c = record { refusal = c .before .attribute-refusal .ensures; state = rw (ne-eqb _ 0 (c .if1 .taken)) }
 
 add-first-2 : tie.Need-add-first-2
-add-first-2 c = let here = parts c in omega arith
+add-first-2 c =
+    let start = c .before .before .before .before .before .before .before in
+    let a = start .args in
+    let parts = attribute-parts (a .file .now) (a .st .at) (a .end) (c .field .result .now) (omega (arith, start .pre .1 .ends)) (start .pre .2) (c .field .ensures) in
+    omega arith
 
 with-attribute-requires : tie.Need-with-attribute-requires
 with-attribute-requires c κs = c .before .before .attribute-refusal .ensures .few (c .before .if1 .left)
@@ -39,17 +28,9 @@ mul-t21 c = let small = c .before .before .before .before .attribute-refusal .en
 
 returns-2 : tie.Need-returns-2
 returns-2 c =
-    let start = c .before .before .before .before .before .before .before .before .before in
-    let tested = c .before .before .before .before .attribute-refusal .ensures in
-    let field = c .before .before .field in
-    let a = start .args .st .attributes in
-    let (names-room, values-room, ends-room, counts-room) = rooms start in
-    let few = tested .few (c .before .before .before .if1 .left) in
-    let added = added-behind a (start .args .st .at + 2) (start .args .st .at + 3 + length (field .result .now)) (start .args .end) (start .args .fields - 2) (omega arith) (omega arith) (omega arith) (omega arith) few (c .before .with-attribute .ensures) in
-    λ table places ready. record {
-      refusal = line-refusal ready (start .pre .1) (start .pre .2) tested;
-      next = λ none. line-next ready (start .pre .1) (start .pre .2) (field .result .now) _ (field .ensures) (c .before .with-attribute .ensures) added (tested .few-values none) (tested .small-space none) (tested .no-element none);
-    }
+    let a = c .before .before .before .before .before .before .before .before .before .args in
+    let attributes = c .before .with-attribute .ensures ∙ ap (λ name. added (a .st .attributes) (a .st .at + 2) (a .st .at + 3 + length name) (a .end) (a .fields - 2)) (c .before .before .field .ensures) in
+    record { refusal = c .before .before .before .before .attribute-refusal .ensures; state = rw (eq-eqb _ 0 (c .before .before .before .if1 .left), attributes) }
 
 pub attribute-line-spec : {M : Type 1} → statement M
 attribute-line-spec =

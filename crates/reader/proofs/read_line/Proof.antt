@@ -1,5 +1,8 @@
 -- `read_line` meets its contract: the shape of the line says which function reads it.
+use Rattle.meaning.specs.Text.{cut, tab}
+use Rattle.layout.specs.Places.{part}
 use Rattle.reader.proofs.LineKinds.{refused-2, of-kind}
+use Rattle.reader.proofs.AttributeLines.{attribute-told}
 use borrow.Author.Needs.{needs}
 use Rattle.reader.proofs.read_line.Statement.{statement}
 use Rattle.reader.proofs.read_line.Tie as tie
@@ -7,18 +10,22 @@ use Rattle.reader.proofs.read_line.Tie as tie
 attribute-line-requires : tie.Need-attribute-line-requires
 attribute-line-requires c κs =
     let start = c .before .before .before .before .before .before .before in
-    (start .pre .0 .begun, start .pre .1, of-kind _ _ (c .before .before .shape-of .ensures) (c .enum-told .given .1))
+    (start .pre .0 .begun, start .pre .1, of-kind _ (c .before .before .shape-of .ensures) (c .enum-told .given .1))
 
 tree-line-requires : tie.Need-tree-line-requires
 tree-line-requires c κs =
     let start = c .before .before .before .before .before .before .before .before .before .before in
-    (start .pre .0, start .pre .1, of-kind _ _ (c .before .before .before .before .before .shape-of .ensures) (c .before .before .before .kind .given .1))
+    (start .pre .0, start .pre .1, of-kind _ (c .before .before .before .before .before .shape-of .ensures) (c .before .before .before .kind .given .1))
 
 returns : tie.Need-returns
-returns c = c .attribute-line .ensures _ _ (c .before .before .before .before .before .before .before .before .pre .0)
+returns c =
+    let pre = c .before .before .before .before .before .before .before .before .pre in
+    attribute-told (pre .0) (pre .1) (of-kind _ (c .before .before .before .shape-of .ensures) (c .before .enum-told .given .1)) (c .attribute-line .ensures)
 
 returns-3 : tie.Need-returns-3
-returns-3 c = refused-2 _ _ _ _ _ _ _ (of-kind _ _ (c .before .before .shape-of .ensures) (c .enum-told2 .given .1) _)
+returns-3 c =
+    let a = c .before .before .before .before .before .before .before .args in
+    refused-2 _ _ _ _ _ (of-kind (cut tab (part (a .file .now) (a .st .at) (a .end))) (c .before .before .shape-of .ensures) (c .enum-told2 .given .1) _)
 
 pub read-line-spec : {M : Type 1} → statement M
 read-line-spec =

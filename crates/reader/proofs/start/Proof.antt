@@ -1,11 +1,10 @@
-use mathlib.Core.Path.{refl}
+-- `start` meets its contract: it has no attribute.
 use borrow.Author.Needs.{needs}
-use Rattle.reader.proofs.Ends.{beginning-ready}
 use Rattle.reader.proofs.start.Statement.{statement}
 use Rattle.reader.proofs.start.Tie as tie
 
 returns : tie.Need-returns
-returns c = (rw (c .no-attributes .ensures) beginning-ready, (refl, refl))
+returns c = rw (c .no-attributes .ensures)
 
 pub start-spec : {M : Type 1} → statement M
 start-spec = tie.close (tie.spec (λ c κs. search needs) returns)

@@ -2,19 +2,18 @@
 use Prim.Native.Nat.{ℕ}
 use mathlib.Core.Path.{_≡_, sym, ap, _∙_}
 use mathlib.Core.Bool.{Bool, true, false, not}
-use mathlib.Core.List.{List, [], _∷_, map}
+use mathlib.Core.List.{List, [], _∷_}
 use borrow.Author.Needs.{needs}
 use borrow.Author.Tests.{not-true, not-false, le-leb, lt-leb, eq-eqb, ne-eqb}
 use lib.Dec.{eqb}
 use lib.ListN.{getD}
 use Rattle.meaning.specs.Text.{Bytes, amongNames, cut, tab, isName}
-use Rattle.meaning.specs.Model.{nameOf}
 use Rattle.meaning.specs.Reading.{depthOf, wordOf, Sofar, wellPlaced, lowest}
 use Rattle.laws.proofs.Types.{Element}
 use Rattle.syntax.specs.Fields.{numberOfWord}
-use Rattle.layout.specs.Places.{attributesOf, namesTo}
+use Rattle.layout.specs.Places.{namesTo}
 use Rattle.layout.specs.Nearest.{Stands}
-use Rattle.reader.specs.Sofar.{elementFrom, earlierTests}
+use Rattle.reader.specs.Sofar.{elementFrom, Behind, earlierTests}
 use Rattle.reader.proofs.ElementTests.{firstFound, tests-found}
 use Rattle.reader.proofs.tree_lines.element_refusal.Statement.{statement}
 use Rattle.reader.proofs.tree_lines.element_refusal.Tie as tie
@@ -40,10 +39,10 @@ found c before = firstFound (isNamed c) (isKnown c) (c .args .tree .len) (c .arg
 
 -- an answer is right if they give it, whatever the elements are that the tree stands for
 answer : (c : tie.Start) (r : ℕ) → ((before : List Element) → Stands (c .args .tree) before → found c before ≡ r)
-    → (s : Sofar) → s .attributes ≡ attributesOf (c .args .file .now) (c .args .a) → Stands (c .args .tree) (s .before) → map nameOf (s .before) ≡ namesTo (c .args .file .now) (c .args .places .now) (c .args .tree .len)
+    → (s : Sofar) → Behind (c .args .file .now) (c .args .a) (c .args .places .now) (c .args .tree) s
     → r ≡ lowest (earlierTests s (getD (fields c) 3 []) (elementFrom (s .attributes) (c .args .kind) (fields c)))
-answer c r gives s attributes-are stands names-are =
-    sym (tests-found (c .args .file .now) (c .args .a) (c .args .places .now) (c .args .tree) (c .args .kind) (fields c) s attributes-are stands names-are ∙ gives (s .before) stands)
+answer c r gives s behind =
+    sym (tests-found (c .args .file .now) (c .args .a) (c .args .places .now) (c .args .tree) (c .args .kind) (fields c) s behind ∙ gives (s .before) (behind .stands))
 
 -- The start, from behind the calls of branch 1, 2, and so on
 abbrev start : tie.After-is-name → tie.Start

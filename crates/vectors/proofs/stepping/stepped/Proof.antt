@@ -8,7 +8,7 @@ use Rattle.vectors.proofs.stepping.stepped.Tie as tie
 
 step-all-requires : tie.Need-step-all-requires
 step-all-requires c κs =
-    let read-well = file-read _ _ _ _ (c .before .before .before .before .before .before .before .before .before .before .before .before .before .before .before .read .ensures) (c .before .before .before .before .before .before .before .before .before .before .before .if1 .left) in
+    let read-well = file-read _ _ _ _ (c .before .before .before .before .before .before .before .before .before .before .before .before .before .before .before .read .ensures .answer) (c .before .before .before .before .before .before .before .before .before .before .before .if1 .left) in
     (ready _ _ _ _ (read-well .0) (read-well .1) (read-well .2) _ refl _ (omega arith) refl, omega arith)
 
 pub stepped-spec : {M : Type 1} → statement M
