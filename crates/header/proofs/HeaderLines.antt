@@ -15,13 +15,13 @@ use Rattle.laws.proofs.Bounds.{header-numbered}
 use Rattle.laws.proofs.Reread.{no-element}
 use Rattle.layout.specs.Places.{part}
 use Rattle.layout.proofs.Laws.{attributes-length}
-use Rattle.reader.specs.declared.State.{State}
-use Rattle.reader.specs.declared.Step.{Step}
-use Rattle.reader.specs.Sofar.{refusalBy, refusalOf, AttributeLine, TreeLine}
-use Rattle.reader.specs.Steps.{Next, StepIs}
-use Rattle.reader.proofs.LineKinds.{wrong-refused}
-use Rattle.reader.proofs.AttributeLines.{line-is}
-use Rattle.reader.proofs.TreeLines.{wrong-count, by-tests}
+use Rattle.attribute_lines.specs.declared.State.{State}
+use Rattle.attribute_lines.specs.declared.Step.{Step}
+use Rattle.attribute_lines.specs.Sofar.{refusalBy, refusalOf, AttributeLine, TreeLine}
+use Rattle.attribute_lines.specs.Steps.{Next, StepIs}
+use Rattle.attribute_lines.proofs.LineKinds.{wrong-refused}
+use Rattle.attribute_lines.proofs.AttributeLines.{line-is}
+use Rattle.attribute_lines.proofs.TreeShape.{wrong-count, by-tests}
 use Rattle.header.specs.Among.{blank, sofarAt, Among, Past}
 
 -- The writer's tests of an attribute line are those of a file

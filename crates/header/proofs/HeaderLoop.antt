@@ -13,11 +13,11 @@ use Rattle.meaning.specs.Reading.{Line, attributeLine, treeLine, otherLine, lin
 use Rattle.meaning.specs.Writing.{headerTests}
 use Rattle.meaning.specs.Claims.Texts.{All}
 use Rattle.layout.specs.Places.{part}
-use Rattle.reader.specs.declared.State.{State}
-use Rattle.reader.specs.Sofar.{refusalBy}
-use Rattle.reader.specs.Steps.{beginning, Next}
-use Rattle.reader.proofs.Ends.{beginning-ready}
-use Rattle.reader.proofs.Remaining.{linesFrom, none-left, one-refused, one-read, lowest-within}
+use Rattle.attribute_lines.specs.declared.State.{State}
+use Rattle.attribute_lines.specs.Sofar.{refusalBy}
+use Rattle.attribute_lines.specs.Steps.{beginning, Next}
+use Rattle.attribute_lines.proofs.Beginning.{beginning-ready}
+use Rattle.attribute_lines.proofs.Remaining.{linesFrom, none-left, one-refused, one-read, lowest-within}
 use Rattle.header.specs.declared.Header.{Header}
 use Rattle.header.specs.Among.{blank, sofarAt, Among}
 use Rattle.header.specs.Told.{refusedWith, HeaderAs}

@@ -7,10 +7,10 @@ use Rattle.meaning.specs.Text.{Bytes, cut, tab}
 use Rattle.meaning.specs.Reading.{Sofar}
 use Rattle.meaning.specs.Writing.{headerTests}
 use Rattle.layout.specs.Places.{part}
-use Rattle.reader.specs.declared.State.{State}
-use Rattle.reader.specs.declared.Step.{Step}
-use Rattle.reader.specs.Sofar.{refusalBy}
-use Rattle.reader.specs.Steps.{Ready, Next, readSofar}
+use Rattle.attribute_lines.specs.declared.State.{State}
+use Rattle.attribute_lines.specs.declared.Step.{Step}
+use Rattle.attribute_lines.specs.Sofar.{refusalBy}
+use Rattle.attribute_lines.specs.Steps.{Ready, Next, readSofar}
 
 -- the table and the places of no element: any with room will do
 unfoldable pub blank : List ℕ

@@ -7,7 +7,7 @@ use Rattle.meaning.specs.Text.{Bytes}
 use Rattle.meaning.specs.Model.{Result, refused, given}
 use Rattle.meaning.specs.Reading.{Sofar}
 use Rattle.layout.specs.Places.{attributesOf, noAttributes, placed}
-use Rattle.reader.specs.Steps.{Spaced}
+use Rattle.attribute_lines.specs.Steps.{Spaced}
 use Rattle.header.specs.declared.Header.{Header}
 
 -- Attribute lines: their refusal, with small numbers and no attribute; or the attributes, by their places

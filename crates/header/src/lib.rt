@@ -1,7 +1,7 @@
 // The attribute lines that the writer takes: where the attributes stand in them, or the refusal.
+use attribute_lines::State;
+use attribute_lines::Step;
 use layout::Attributes;
-use reader::State;
-use reader::Step;
 use syntax::LineKind;
 ghost use mathlib.Core.Path.{_≡_};
 ghost use Prim.Native.Nat.{_≤_};
@@ -11,8 +11,8 @@ ghost use Rattle.meaning.specs.Text.{cut, tab};
 ghost use Rattle.meaning.specs.Model.{_then_};
 ghost use Rattle.meaning.specs.Reading.{Sofar, readText, short};
 ghost use Rattle.meaning.specs.Writing.{headerTests};
-ghost use Rattle.reader.specs.Sofar.{TreeLine, refusalBy};
-ghost use Rattle.reader.specs.Steps.{Line};
+ghost use Rattle.attribute_lines.specs.Sofar.{TreeLine, refusalBy};
+ghost use Rattle.attribute_lines.specs.Steps.{Line};
 ghost use Rattle.header.specs.Among.{Among, Past};
 ghost use Rattle.header.specs.Told.{refusedWith, HeaderAs};
 
@@ -44,11 +44,11 @@ fn header_line(header: &[u8], st: State, end: usize) -> Step
 {
     let at = st.at;
     let line = &header[at..end];
-    let shape = reader::line_shape(line);
+    let shape = attribute_lines::line_shape(line);
     let kind = shape.kind;
     let fields = shape.fields;
     match kind {
-        LineKind::Attribute => reader::attribute_line(header, st, end, fields),
+        LineKind::Attribute => attribute_lines::attribute_line(header, st, end, fields),
         LineKind::Tree(_) => {
             let attributes = st.attributes;
             let refusal = tree_refusal(line, attributes.len, fields);
@@ -77,7 +77,7 @@ fn refuse(number: usize, second: usize) -> Header
 pub fn read_header(header: &[u8]) -> Header
     ensures { λ r. ⌜ HeaderAs (now (header .entry)) r (short (now (header .entry)) then (readText headerTests)) ⌝ }
 {
-    let mut st = reader::start();
+    let mut st = attribute_lines::start();
     if 16384 < header.len() {
         return refuse(1, 0);
     }

@@ -20,7 +20,7 @@ use Rattle.layout.proofs.Laws.{decided}
 use Rattle.request_lines.specs.declared.Asked.{Asked}
 use Rattle.request_lines.specs.Asked.{AskedAs}
 use Rattle.reader.specs.declared.Reading.{Reading}
-use Rattle.reader.specs.Steps.{ReadAs}
+use Rattle.reader.specs.Told.{ReadAs}
 use Rattle.jogimaduve.specs.Told.{told}
 use Rattle.reader.proofs.FileRead.{file-refused, file-read}
 

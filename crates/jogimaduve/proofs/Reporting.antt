@@ -15,7 +15,7 @@ use Rattle.outcomes.specs.declared.Shape.{Shape}
 use Rattle.report_lines.specs.Fitted.{Fitted}
 use Rattle.reporting.specs.Reported.{Reported}
 use Rattle.reader.specs.declared.Reading.{Reading}
-use Rattle.reader.specs.Steps.{Holds, ReadAs}
+use Rattle.reader.specs.Told.{Holds, ReadAs}
 use Rattle.reader.proofs.FileRead.{file-refused}
 use Rattle.jogimaduve.specs.Told.{told, textTold, shapeOf}
 use Rattle.jogimaduve.proofs.Answering.{text-told}

@@ -21,7 +21,7 @@ use Rattle.layout.proofs.Counts.{counts-are}
 use Rattle.trimmed_text.specs.Copied.{Copies}
 use Rattle.trimmed_text.proofs.Tabled.{root-word, leaves as rules-are-leaves}
 use Rattle.reader.specs.declared.Reading.{Reading}
-use Rattle.reader.specs.Steps.{Holds}
+use Rattle.reader.specs.Told.{Holds}
 use Rattle.reader.proofs.FileRead.{elements-are, few}
 use Rattle.jogimaduve.specs.Told.{shapeOf}
 

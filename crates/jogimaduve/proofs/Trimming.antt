@@ -21,7 +21,7 @@ use Rattle.trimmed_text.proofs.Trimmed.{trimmed-flags}
 use Rattle.trimmed_text.proofs.Tabled.{trimming-is}
 use Rattle.trimmed_text.proofs.Placed.{text-copied}
 use Rattle.reader.specs.declared.Reading.{Reading}
-use Rattle.reader.specs.Steps.{Holds, ReadAs}
+use Rattle.reader.specs.Told.{Holds, ReadAs}
 use Rattle.reader.proofs.FileRead.{file-refused, elements-are, few}
 use Rattle.reporting.specs.Found.{none-struck}
 use Rattle.reporting.proofs.StruckText.{none-clear}

@@ -21,7 +21,7 @@ use Rattle.decisions.specs.Table.{elementAt}
 use Rattle.layout.specs.Places.{elementIn, elementsTo}
 use Rattle.layout.proofs.Laws.{elements-length}
 use Rattle.reader.specs.declared.Reading.{Reading}
-use Rattle.reader.specs.Steps.{Holds, ReadAs}
+use Rattle.reader.specs.Told.{Holds, ReadAs}
 use Rattle.reader.proofs.FileRead.{file-refused, elements-are, few, good, naming}
 use Rattle.elements.specs.declared.Elements.{Elements}
 use Rattle.elements.specs.Listed.{blank, noElements, withElement, elementsOf}

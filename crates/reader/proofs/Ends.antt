@@ -1,4 +1,4 @@
--- The state before the first line, and the end of a file.
+-- The end of a file.
 use mathlib.Core.Path.{_≡_, refl, _∙_, subst}
 use Prim.Native.Nat.{ℕ, _≤_, zero-le}
 use native.Mathlib.Omega.{arith}
@@ -8,34 +8,13 @@ use lib.Dec.{eqb, lit≤}
 use lib.ListN.{length}
 use borrow.Author.Tests.{eqb-true, eqb-false}
 use Rattle.meaning.specs.Model.{refused}
-use Rattle.meaning.specs.Reading.{nothing, finished}
+use Rattle.meaning.specs.Reading.{finished}
 use Rattle.laws.proofs.Bools.{Test, passed, failed, test}
-use Rattle.layout.specs.Places.{attributesFrom, elementsTo, Lined, lineStart, placed}
-use Rattle.layout.proofs.Laws.{empty-stands}
-use Rattle.reader.specs.declared.State.{State}
-use Rattle.reader.proofs.AttributeLines.{no-elements}
-use Rattle.reader.specs.Steps.{Ready, beginning, readSofar, endedAt, ReadAs}
-
--- before the first line
-pub beginning-ready : (f table places : List ℕ) → 512 ≤ length table → 128 ≤ length places → Ready f table places beginning × (readSofar f table places beginning ≡ nothing)
-unfolding attributesFrom elementsTo lineStart placed
-beginning-ready f table places rows pairs = (
-  record {
-    begun = record {
-      inside = zero-le;
-      lines-passed = lit≤ tt;
-      attributes = record { standing = record { few = zero-le; each = λ i l. absurd (omega arith) }; few-values = λ i l. absurd (omega arith); small = lit≤ tt };
-      space-is = refl;
-      shallow = zero-le;
-      few = zero-le;
-    };
-    rooms = record { rows = rows; pairs = pairs; named = record { room = zero-le; starts = λ i l. absurd (omega arith); ends = λ i l. absurd (omega arith) } };
-    tree = empty-stands;
-    lined = record { next = refl; starts = λ i l. absurd (omega arith) };
-    places-are = refl;
-  },
-  refl,
-)
+use Rattle.layout.specs.Places.{Lined, lineStart}
+use Rattle.attribute_lines.specs.declared.State.{State}
+use Rattle.attribute_lines.proofs.AttributeLines.{no-elements}
+use Rattle.attribute_lines.specs.Steps.{Ready, readSofar}
+use Rattle.reader.specs.Told.{endedAt, ReadAs}
 
 -- at the end: bytes behind the last newline, no tree line, or the policy
 pub ending : (f table places : List ℕ) (st : State) (end : ℕ) → Ready f table places st → st .line ≤ 16385 → end ≡ length f

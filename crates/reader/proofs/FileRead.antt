@@ -9,13 +9,12 @@ use lib.Seq.{length-take-le}
 use borrow.Author.Tests.{leb-true}
 use Rattle.meaning.specs.Model.{Policy, Result, refused, given}
 use Rattle.meaning.specs.Reading.{read}
-use Rattle.laws.proofs.Bounds.{GoodElement}
+use Rattle.laws.proofs.Bounds.{GoodElement, bounded, all-reverse, named}
 use Rattle.laws.proofs.Bools.{and-true}
-use Rattle.laws.proofs.Bounds.{bounded, all-reverse, named}
 use Rattle.layout.specs.Places.{startOf, nameIn, elementIn, elementsTo, Naming}
 use Rattle.layout.proofs.Laws.{elements-length, of-each}
 use Rattle.reader.specs.declared.Reading.{Reading}
-use Rattle.reader.specs.Steps.{Holds, ReadAs}
+use Rattle.reader.specs.Told.{Holds, ReadAs}
 
 module _ (f table places : List ℕ) (r : Reading) (is-read : ReadAs f table places r (read f)) where
   pub small-numbers : (r .number ≡ 0 → ⊥) → (r .number ≤ 9) × (r .second ≤ 16385)

@@ -12,15 +12,17 @@ use Rattle.meaning.specs.Model.{Policy, Result, refused, given, _then_}
 use Rattle.meaning.specs.Reading.{Line, attributeLine, treeLine, otherLine, lineOf, Sofar, wrongFields, lineTests, extended, nothing, finished, read}
 use Rattle.meaning.specs.Claims.Texts.{All}
 use Rattle.layout.specs.Places.{part}
-use Rattle.reader.specs.declared.State.{State}
+use Rattle.attribute_lines.specs.declared.State.{State}
 use Rattle.reader.specs.declared.Reading.{Reading}
-use Rattle.reader.specs.Sofar.{refusalBy, refusalOf}
-use Rattle.reader.specs.declared.Step.{Step}
-use Rattle.reader.specs.Laid.{Laid, withLine, laidBy, laidIn}
-use Rattle.reader.specs.Steps.{Ready, beginning, readSofar, laidAt, StepIs, refusedWith, endedAt, ReadAs, ReadIs}
-use Rattle.reader.proofs.Parts.{part-length}
+use Rattle.attribute_lines.specs.Sofar.{refusalBy, refusalOf}
+use Rattle.attribute_lines.specs.declared.Step.{Step}
+use Rattle.attribute_lines.specs.Laid.{Laid, withLine}
+use Rattle.reader.specs.Laid.{laidBy, laidIn}
+use Rattle.attribute_lines.specs.Steps.{Ready, beginning, readSofar, laidAt, StepIs}
+use Rattle.reader.specs.Told.{refusedWith, endedAt, ReadAs, ReadIs}
+use Rattle.attribute_lines.proofs.Parts.{part-length}
 use Rattle.reader.proofs.Ends.{ending}
-use Rattle.reader.proofs.Remaining.{linesAt, linesFrom, no-line, first-line, none-left, one-refused, one-read, lowest-within}
+use Rattle.attribute_lines.proofs.Remaining.{linesAt, linesFrom, no-line, first-line, none-left, one-refused, one-read, lowest-within}
 
 -- the file from place `at` on, the first of whose lines has number n, behind s
 abbrev pub remaining : Bytes → ℕ → ℕ → Sofar → Result Policy

@@ -1,5 +1,3 @@
 -- What the contracts of the reader cite.
-pub mod Headed
-pub mod Sofar
 pub mod Laid
-pub mod Steps
+pub mod Told

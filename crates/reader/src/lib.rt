@@ -1,9 +1,7 @@
 // Reading a policy file in one pass: where its attributes and elements stand, the table of its elements, or the refusal.
-mod heads;
-mod tree_lines;
-
+use attribute_lines::State;
+use attribute_lines::Step;
 use layout::Attributes;
-use layout::Tree;
 use meaning::Answer;
 use syntax::LineKind;
 use text::Counted;
@@ -12,29 +10,9 @@ ghost use Prim.Native.Nat.{_≤_};
 ghost use lib.ListN.{length};
 ghost use Rattle.meaning.specs.Text.{cut, tab};
 ghost use Rattle.layout.specs.Places.{part};
-ghost use Rattle.reader.specs.Sofar.{Tested, AttributeRefusal, AttributeLine, CountIs, shapeOf};
-ghost use Rattle.reader.specs.Steps.{Begun, Ready, Line, LineAt, beginning, AttributeStep, StepIs, refusedWith, endedAt, ReadIs};
-
-// Where the reader stands: the next line's start and number, what was read, and the space so far.
-pub struct State {
-    pub at: usize,
-    pub line: usize,
-    pub attributes: Attributes,
-    pub space: usize,
-    pub tree: Tree,
-}
-
-// The number that refuses a line, or 0 and the state behind it.
-pub struct Step {
-    pub refusal: usize,
-    pub state: State,
-}
-
-// What a line is by its first field, and how many fields it has; other where test 2 refuses it whatever stands before.
-pub struct LineShape {
-    pub kind: LineKind,
-    pub fields: usize,
-}
+ghost use Rattle.attribute_lines.specs.Sofar.{CountIs};
+ghost use Rattle.attribute_lines.specs.Steps.{Ready, Line, StepIs};
+ghost use Rattle.reader.specs.Told.{LineAt, refusedWith, endedAt, ReadIs};
 
 // A file as it was read: a refusal's two numbers and nothing read, or 0, 0 and what was read.
 pub struct Reading {
@@ -43,92 +21,6 @@ pub struct Reading {
     pub attributes: Attributes,
     pub space: usize,
     pub elements: usize,
-}
-
-// The lowest of 3 to 6 that refuses an attribute line of so many fields, or 0.
-fn attribute_refusal(
-    file: &[u8],
-    a: Attributes,
-    space: usize,
-    elements: usize,
-    line: &[u8],
-    fields: usize,
-) -> usize
-    requires { ⌜ Tested (now file) a space (cut tab (now line)) fields ⌝ }
-    ensures { λ r. ⌜ AttributeRefusal (now (file .entry)) a space elements (cut tab (now (line .entry))) fields r ⌝ }
-{
-    if !names::all_names(text::from_field(line, 1)) {
-        return 3;
-    }
-    if layout::known_attribute(file, a, fields::field(line, 1)) {
-        return 4;
-    }
-    if !names::all_distinct(text::from_field(line, 2)) {
-        return 4;
-    }
-    if 6 <= a.len {
-        return 5;
-    }
-    let values = fields - 2;
-    if 16 < values {
-        return 5;
-    }
-    if 4096 < space * values {
-        return 5;
-    }
-    if elements != 0 {
-        return 6;
-    }
-    0
-}
-
-// An attribute line of so many fields.
-pub fn attribute_line(file: &[u8], st: State, end: usize, fields: usize) -> Step
-    requires { ⌜ Begun (now file) st × Line (now file) st end × AttributeLine (cut tab (part (now file) (st .at) end)) fields ⌝ }
-    ensures { λ r. ⌜ AttributeStep (now (file .entry)) st end fields r ⌝ }
-{
-    let at = st.at;
-    let a = st.attributes;
-    let space = st.space;
-    let tree = st.tree;
-    let line = &file[at..end];
-    let refusal = attribute_refusal(file, a, space, tree.len, line, fields);
-    if refusal != 0 {
-        return Step { refusal, state: st };
-    }
-    let name = fields::field(line, 1);
-    let first = at + 3 + name.len();
-    let values = fields - 2;
-    let attributes = layout::with_attribute(a, at + 2, first, end, values);
-    let state = State {
-        at: end + 1,
-        line: st.line + 1,
-        attributes,
-        space: space * values,
-        tree,
-    };
-    Step { refusal, state }
-}
-
-// The shape of a line whose fields were counted.
-fn shape_of(line: &[u8], fields: usize) -> LineShape
-    requires { ⌜ CountIs (cut tab (now line)) fields ⌝ }
-    ensures { λ r. ⌜ r ≡ shapeOf (cut tab (now (line .entry))) ⌝ }
-{
-    if fields < 3 {
-        return LineShape {
-            kind: LineKind::Other,
-            fields,
-        };
-    }
-    let kind = syntax::line_kind(fields::field(line, 0));
-    LineShape { kind, fields }
-}
-
-pub fn line_shape(line: &[u8]) -> LineShape
-    ensures { λ r. ⌜ r ≡ shapeOf (cut tab (now (line .entry))) ⌝ }
-{
-    shape_of(line, text::count_fields(line))
 }
 
 // The line at a place: where it ends, and how many fields it has.
@@ -155,35 +47,16 @@ fn read_line(
     ensures { λ r. ⌜ StepIs (now (file .entry)) (now (table .entry)) (now (places .entry)) (now (table .exit)) (now (places .exit)) st end r ⌝ }
 {
     let at = st.at;
-    let shape = shape_of(&file[at..end], fields);
+    let shape = attribute_lines::shape_of(&file[at..end], fields);
     let kind = shape.kind;
     let fields = shape.fields;
     match kind {
-        LineKind::Attribute => attribute_line(file, st, end, fields),
-        LineKind::Tree(k) => tree_lines::tree_line(file, st, end, k, fields, table, places),
+        LineKind::Attribute => attribute_lines::attribute_line(file, st, end, fields),
+        LineKind::Tree(k) => element_lines::tree_line(file, st, end, k, fields, table, places),
         LineKind::Other => Step {
             refusal: 2,
             state: st,
         },
-    }
-}
-
-// The state before the first line.
-pub fn start() -> State
-    ensures { λ r. ⌜ r ≡ beginning ⌝ }
-{
-    let attributes = layout::no_attributes();
-    let tree = Tree {
-        len: 0,
-        depth: 0,
-        kinds: [0; 8],
-    };
-    State {
-        at: 0,
-        line: 1,
-        attributes,
-        space: 1,
-        tree,
     }
 }
 
@@ -229,7 +102,7 @@ pub fn read(file: &[u8], table: &mut [u16], places: &mut [usize]) -> Reading
     requires { ⌜ (512 ≤ length (now table)) × (128 ≤ length (now places)) ⌝ }
     ensures { λ r. ⌜ ReadIs (now (file .entry)) (now (table .entry)) (now (places .entry)) (now (table .exit)) (now (places .exit)) r ⌝ }
 {
-    let mut st = start();
+    let mut st = attribute_lines::start();
     if 16384 < file.len() {
         return refuse(1, 0);
     }

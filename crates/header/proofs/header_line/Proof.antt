@@ -2,8 +2,8 @@
 use mathlib.Core.Path.{refl}
 use Rattle.meaning.specs.Text.{cut, tab}
 use Rattle.layout.specs.Places.{part}
-use Rattle.reader.proofs.LineKinds.{of-kind}
-use Rattle.reader.proofs.AttributeLines.{attribute-told}
+use Rattle.attribute_lines.proofs.LineKinds.{of-kind}
+use Rattle.attribute_lines.proofs.AttributeLines.{attribute-told}
 use Rattle.header.proofs.HeaderLines.{past-attribute, past-tree, past-other}
 use borrow.Author.Needs.{needs}
 use Rattle.header.proofs.header_line.Statement.{statement}

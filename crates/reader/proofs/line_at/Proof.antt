@@ -7,7 +7,7 @@ use lib.ListN.{length, drop, length-drop}
 use Rattle.meaning.specs.Text.{Bytes}
 use Rattle.text.specs.Runs.{FirstLine}
 use Rattle.text.proofs.Pieces.{rest-of}
-use Rattle.reader.specs.Steps.{LineAt}
+use Rattle.reader.specs.Told.{LineAt}
 use Rattle.reader.proofs.line_at.Statement.{statement}
 use Rattle.reader.proofs.line_at.Tie as tie
 

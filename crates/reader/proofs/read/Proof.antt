@@ -5,8 +5,8 @@ use mathlib.Core.Path.{_≡_, refl}
 use native.Mathlib.Omega.{arith}
 use borrow.Author.Needs.{needs}
 use lib.ListN.{length}
-use Rattle.reader.specs.Steps.{Ready}
-use Rattle.reader.proofs.Ends.{beginning-ready}
+use Rattle.attribute_lines.specs.Steps.{Ready}
+use Rattle.attribute_lines.proofs.Beginning.{beginning-ready}
 use Rattle.reader.proofs.Loop.{Keeps, keeps-first, long-told, ended, refused-here, keeps-next}
 use Rattle.reader.proofs.read.Statement.{statement}
 use Rattle.reader.proofs.read.Tie as tie

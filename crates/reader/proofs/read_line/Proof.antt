@@ -1,8 +1,8 @@
 -- `read_line` meets its contract: the shape of the line says which function reads it.
 use Rattle.meaning.specs.Text.{cut, tab}
 use Rattle.layout.specs.Places.{part}
-use Rattle.reader.proofs.LineKinds.{refused-2, of-kind}
-use Rattle.reader.proofs.AttributeLines.{attribute-told}
+use Rattle.attribute_lines.proofs.LineKinds.{refused-2, of-kind}
+use Rattle.attribute_lines.proofs.AttributeLines.{attribute-told}
 use borrow.Author.Needs.{needs}
 use Rattle.reader.proofs.read_line.Statement.{statement}
 use Rattle.reader.proofs.read_line.Tie as tie

@@ -1,0 +1,3 @@
+-- What the contracts of tree lines cite.
+pub mod Headed
+pub mod Elements
