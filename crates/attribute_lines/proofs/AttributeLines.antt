@@ -19,7 +19,7 @@ use Rattle.layout.specs.Places.{part, attributesOf, elementsTo, lineStart, plac
 use Rattle.layout.proofs.Adding.{added-behind, SixEach, placed-six, placed-more}
 use Rattle.layout.proofs.Laws.{attributes-length}
 use Rattle.attribute_lines.specs.Sofar.{refusalBy, refusalOf, attributeIn, Tested, AttributeRefusal, AttributeLine}
-use Rattle.attribute_lines.specs.Steps.{Ready, Line, behindAttribute, AttributeStep, readSofar, Next, StepIs}
+use Rattle.attribute_lines.specs.Steps.{BeforeLine, Line, behindAttribute, AttributeStep, readSofar, Next, StepIs}
 use Rattle.attribute_lines.specs.declared.State.{State}
 use Rattle.attribute_lines.specs.declared.Step.{Step}
 use Rattle.attribute_lines.proofs.Parts.{field-at, next-start}
@@ -141,7 +141,7 @@ attribute-parts f at end name inside l named =
     }
 
 -- The step over it
-module _ {f : Bytes} {st : State} {end fields : ℕ} {table places : List ℕ} (ready : Ready f table places st) (here : Line f st end) (is : AttributeLine (cut tab (part f (st .at) end)) fields) where
+module _ {f : Bytes} {st : State} {end fields : ℕ} {table places : List ℕ} (ready : BeforeLine f table places st) (here : Line f st end) (is : AttributeLine (cut tab (part f (st .at) end)) fields) where
   line-refusal : {r : ℕ} → AttributeRefusal f (st .attributes) (st .space) (st .tree .len) (cut tab (part f (st .at) end)) fields r → r ≡ refusalOf (readSofar f table places st) (cut tab (part f (st .at) end))
   line-refusal refusal =
       let s = readSofar f table places st in
@@ -150,7 +150,7 @@ module _ {f : Bytes} {st : State} {end fields : ℕ} {table places : List ℕ} (
   line-next : st .attributes .len < 6 → fields - 2 ≤ 16 → st .space * (fields - 2) ≤ 4096 → st .tree .len ≡ 0 → Next f table places table places st end (behindAttribute st end (cut tab (part f (st .at) end)) fields)
   line-next few few-values small none =
       let fs = cut tab (part f (st .at) end) in
-      let begun = ready .begun in
+      let in-file = ready .in-file in
       let a = st .attributes in
       let old = attributesOf f a in
       let parts = attribute-parts f (st .at) end (getD fs 1 []) (omega (arith, here .ends)) is refl in
@@ -161,20 +161,20 @@ module _ {f : Bytes} {st : State} {end fields : ℕ} {table places : List ℕ} (
       let size = a .len in
       let no-line : size + st .tree .len ≡ size = omega arith in
       let starts : st .at ≡ lineStart f size = ready .lined .next ∙ ap (lineStart f) no-line in
-      let space-is : st .space * (fields - 2) ≡ spaceOf (attributesOf f (behindAttribute st end fs fields .attributes)) = ap₂ (λ m n. m * n) (begun .space-is) count ∙ sym (ap spaceOf attributes-are ∙ space-more old (attributeIn fs)) in
+      let space-is : st .space * (fields - 2) ≡ spaceOf (attributesOf f (behindAttribute st end fs fields .attributes)) = ap₂ (λ m n. m * n) (in-file .space-is) count ∙ sym (ap spaceOf attributes-are ∙ space-more old (attributeIn fs)) in
       record {
         ready = record {
-          begun = record {
+          in-file = record {
             inside = omega (arith, here .ends);
-            lines-passed = omega (arith, begun .lines-passed, here .starts);
+            lines-passed = omega (arith, in-file .lines-passed, here .starts);
             attributes = record {
-              standing = added .standing f (begun .attributes .standing) (omega arith) (parts .within) (omega (arith, here .ends)) (count ∙ sym (ap length (parts .values-are)));
-              few-values = added .few-values 16 (begun .attributes .few-values) few-values;
+              standing = added .standing f (in-file .attributes .standing) (omega arith) (parts .within) (omega (arith, here .ends)) (count ∙ sym (ap length (parts .values-are)));
+              few-values = added .few-values 16 (in-file .attributes .few-values) few-values;
               small = rw (← space-is) small;
             };
             space-is = space-is;
-            shallow = begun .shallow;
-            few = begun .few;
+            shallow = in-file .shallow;
+            few = in-file .few;
           };
           rooms = ready .rooms;
           tree = ready .tree;

@@ -8,13 +8,13 @@ use lib.ListN.{length}
 use Rattle.meaning.specs.Reading.{nothing}
 use Rattle.layout.specs.Places.{attributesFrom, elementsTo, lineStart, placed}
 use Rattle.layout.proofs.Laws.{empty-stands}
-use Rattle.attribute_lines.specs.Steps.{Ready, beginning, readSofar}
+use Rattle.attribute_lines.specs.Steps.{BeforeLine, beginning, readSofar}
 
-pub beginning-ready : (f table places : List ℕ) → 512 ≤ length table → 128 ≤ length places → Ready f table places beginning × (readSofar f table places beginning ≡ nothing)
+pub beginning-ready : (f table places : List ℕ) → 512 ≤ length table → 128 ≤ length places → BeforeLine f table places beginning × (readSofar f table places beginning ≡ nothing)
 unfolding attributesFrom elementsTo lineStart placed
 beginning-ready f table places rows pairs = (
   record {
-    begun = record {
+    in-file = record {
       inside = zero-le;
       lines-passed = lit≤ tt;
       attributes = record { standing = record { few = zero-le; each = λ i l. absurd (omega arith) }; few-values = λ i l. absurd (omega arith); small = lit≤ tt };

@@ -29,7 +29,7 @@ pub record Rooms (f : Bytes) (table places : List ℕ) (n : ℕ) : Type 0 where
   pub named : Named f places n
 
 -- A state before a line: what it says of the file alone, and with the table and the places
-pub record Begun (f : Bytes) (st : State) : Type 0 where
+pub record InFile (f : Bytes) (st : State) : Type 0 where
   pub inside : st .at ≤ length f
   pub lines-passed : st .line ≤ st .at + 1
   pub attributes : Spaced f (st .attributes)
@@ -37,8 +37,8 @@ pub record Begun (f : Bytes) (st : State) : Type 0 where
   pub shallow : st .tree .depth ≤ 7
   pub few : st .tree .len ≤ 64
 
-pub record Ready (f : Bytes) (table places : List ℕ) (st : State) : Type 0 where
-  pub begun : Begun f st
+pub record BeforeLine (f : Bytes) (table places : List ℕ) (st : State) : Type 0 where
+  pub in-file : InFile f st
   pub rooms : Rooms f table places (st .tree .len)
   pub tree : Stands (st .tree) (elementsTo f table places (st .tree .len))
   pub lined : Lined (lineStart f) places (st .attributes .len) (st .tree .len) (st .at)
@@ -79,7 +79,7 @@ laidAt f table places st = record { sofar = readSofar f table places st; table =
 
 -- One line, which a newline at `end` ends: the state behind it, or its refusal and all as it was
 pub record Next (f table₀ places₀ table places : List ℕ) (st : State) (end : ℕ) (next : State) : Type 0 where
-  pub ready : Ready f table places next
+  pub ready : BeforeLine f table places next
   pub at-next : next .at ≡ end + 1
   pub line-next : next .line ≡ st .line + 1
   pub laid : laidAt f table places next ≡ withLine (st .at) (laidAt f table₀ places₀ st) (lineOf (cut tab (part f (st .at) end)))

@@ -29,7 +29,7 @@ use Rattle.layout.proofs.Laws.{attributes-length, elements-more, named-more, li
 use Rattle.attribute_lines.specs.declared.State.{State}
 use Rattle.attribute_lines.specs.Sofar.{refusalOf, TreeLine}
 use Rattle.element_lines.specs.Elements.{elementFrom, earlierTests, Fits, behindTree}
-use Rattle.attribute_lines.specs.Steps.{Rooms, Ready, Line, readSofar, Next}
+use Rattle.attribute_lines.specs.Steps.{Rooms, BeforeLine, Line, readSofar, Next}
 use Rattle.attribute_lines.proofs.TreeShape.{right-fields, by-tests}
 use Rattle.attribute_lines.proofs.Parts.{field-at, next-start}
 
@@ -74,7 +74,7 @@ module _ (s : Sofar) (fs : List Bytes) (k : Kind) (n : ℕ) (line : TreeLine fs 
         let placed = or-false (empty (s .attributes)) (not (wellPlaced k (depthOf (getD fs 1 [])) (s .before))) f6 .1 in
         (leb-false 64 (length (s .before)) f5, placed-depth k (depthOf (getD fs 1 [])) (s .before) (not-false (wellPlaced k (depthOf (getD fs 1 [])) (s .before)) placed), f7)
 
--- equal rows and places, put
+-- equal rows and places, laid
 pub same-row : (table : List ℕ) (i : ℕ) {w w′ d d′ : ℕ} → w ≡ w′ → d ≡ d′ → (masks : List ℕ) → sets table i (w ∷ d ∷ masks) ≡ sets table i (w′ ∷ d′ ∷ masks)
 same-row table i e g masks = ap₂ (λ w d. sets table i (w ∷ d ∷ masks)) e g
 
@@ -128,8 +128,8 @@ word-number (some Word.PermitOverrides) h = refl
 word-number (some Word.FirstApplicable) h = refl
 word-number (some Word.OnlyOneApplicable) h = refl
 
--- The element of a tree line is that of the row and the places that are put for it
-module _ (f table places : List ℕ) (st : State) (end : ℕ) (k : Kind) (n : ℕ) (ready : Ready f table places st) (at : Line f st end) where
+-- The element of a tree line is that of the row and the places that are laid for it
+module _ (f table places : List ℕ) (st : State) (end : ℕ) (k : Kind) (n : ℕ) (ready : BeforeLine f table places st) (at : Line f st end) where
   abbrev fs : List Bytes
   fs = cut tab (part f (st .at) end)
 
@@ -171,7 +171,7 @@ module _ (f table places : List ℕ) (st : State) (end : ℕ) (k : Kind) (n : �
       pair = omega (arith, ready .rooms .pairs, few);
       few = few;
       shallow = known .1;
-      lines-passed = ready .begun .lines-passed;
+      lines-passed = ready .in-file .lines-passed;
       name-inside = omega (arith, named .within);
       ends = l;
     }
@@ -179,7 +179,7 @@ module _ (f table places : List ℕ) (st : State) (end : ℕ) (k : Kind) (n : �
     six : length masks ≡ 6
     six =
         let few-masks = masks-count (s .attributes) (drop 4 fs) in
-        length-padded 6 (masksOf (s .attributes) (drop 4 fs)) (omega (arith, few-masks, attributes-length f (st .attributes), ready .begun .attributes .standing .few))
+        length-padded 6 (masksOf (s .attributes) (drop 4 fs)) (omega (arith, few-masks, attributes-length f (st .attributes), ready .in-file .attributes .standing .few))
 
     added : elementsTo f table′ places′ (suc size) ≡ el s fs k n line ∷ s .before
     added =
@@ -201,11 +201,11 @@ module _ (f table places : List ℕ) (st : State) (end : ℕ) (k : Kind) (n : �
     tree-next =
         record {
           ready = record {
-            begun = record {
+            in-file = record {
               inside = omega (arith, at .ends);
-              lines-passed = omega (arith, ready .begun .lines-passed, at .starts);
-              attributes = ready .begun .attributes;
-              space-is = ready .begun .space-is;
+              lines-passed = omega (arith, ready .in-file .lines-passed, at .starts);
+              attributes = ready .in-file .attributes;
+              space-is = ready .in-file .space-is;
               shallow = known .1;
               few = omega (arith, few);
             };

@@ -20,7 +20,7 @@ ghost use Rattle.syntax.specs.Fields.{numberOfWord};
 ghost use Rattle.element_lines.specs.Headed.{Headed};
 ghost use Rattle.element_lines.specs.Elements.{elementFrom, Behind, earlierTests, masksIn, Fits, behindTree};
 ghost use Rattle.attribute_lines.specs.Sofar.{TreeLine};
-ghost use Rattle.attribute_lines.specs.Steps.{Ready, Line, StepIs};
+ghost use Rattle.attribute_lines.specs.Steps.{BeforeLine, Line, StepIs};
 
 // The masks of a tree line where all its targets are good, else zeros.
 pub struct Masks {
@@ -97,8 +97,8 @@ fn line_masks(file: &[u8], a: Attributes, line: &[u8], e: FieldEnds) -> Masks
     }
 }
 
-// Puts the element of a tree line behind the others.
-fn put_line(
+// Lays the element of a tree line down behind the others.
+fn lay_line(
     st: State,
     end: usize,
     kind: Kind,
@@ -145,7 +145,7 @@ pub fn tree_line(
     table: &mut [u16],
     places: &mut [usize],
 ) -> Step
-    requires { ⌜ Ready (now file) (now table) (now places) st × Line (now file) st end × TreeLine (cut tab (part (now file) (st .at) end)) kind fields ⌝ }
+    requires { ⌜ BeforeLine (now file) (now table) (now places) st × Line (now file) st end × TreeLine (cut tab (part (now file) (st .at) end)) kind fields ⌝ }
     ensures { λ r. ⌜ StepIs (now (file .entry)) (now (table .entry)) (now (places .entry)) (now (table .exit)) (now (places .exit)) st end r ⌝ }
 {
     let at = st.at;
@@ -171,6 +171,6 @@ pub fn tree_line(
         };
     }
     let masks = m.masks;
-    let state = put_line(st, end, kind, line, e, masks, table, places);
+    let state = lay_line(st, end, kind, line, e, masks, table, places);
     Step { refusal: 0, state }
 }

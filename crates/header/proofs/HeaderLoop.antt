@@ -58,7 +58,7 @@ refusal-low s fs = lowest-within 6 ((2, wrongFields s fs (lineOf fs)) ∷ header
 
 module _ (h : Bytes) (st : State) (keeps : Keeps h st) (end : ℕ) (ends : end ≡ st .at + length (getD (cut newline (drop (st .at) h)) 0 [])) where
   few-lines : st .line ≤ 16385
-  few-lines = omega (arith, keeps .size, keeps .among .ready .begun .inside, keeps .among .ready .begun .lines-passed)
+  few-lines = omega (arith, keeps .size, keeps .among .ready .in-file .inside, keeps .among .ready .in-file .lines-passed)
 
   -- what is told of a refusal
   told : (n : ℕ) {r : Header} → readHeader h ≡ refused n (st .line) → r ≡ refusedWith n (st .line) → 1 ≤ n → n ≤ 6 → HeaderAs h r (readHeader h)
@@ -66,7 +66,7 @@ module _ (h : Bytes) (st : State) (keeps : Keeps h st) (end : ℕ) (ends : end �
 
   module _ (whole : end ≡ length h) where
     ended : readHeader h ≡ cond (eqb (st .at) end) (given (sofarAt h st)) (refused 2 (st .line))
-    ended = keeps .reads ∙ none-left headerTests h (st .at) (st .line) (sofarAt h st) end ends (keeps .among .ready .begun .inside) whole
+    ended = keeps .reads ∙ none-left headerTests h (st .at) (st .line) (sofarAt h st) end ends (keeps .among .ready .in-file .inside) whole
 
     -- bytes behind the last newline
     pub left-over : {r : Header} → r ≡ refusedWith 2 (st .line) → (st .at ≡ end → ⊥) → HeaderAs h r (readHeader h)
@@ -82,7 +82,7 @@ module _ (h : Bytes) (st : State) (keeps : Keeps h st) (end : ℕ) (ends : end �
           attributes = refl;
           places-are = keeps .among .ready .places-are;
           no-element = keeps .among .no-element;
-          spaced = keeps .among .ready .begun .attributes;
+          spaced = keeps .among .ready .in-file .attributes;
           size = keeps .size;
         })
 

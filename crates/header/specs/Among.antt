@@ -10,7 +10,7 @@ use Rattle.layout.specs.Places.{part}
 use Rattle.attribute_lines.specs.declared.State.{State}
 use Rattle.attribute_lines.specs.declared.Step.{Step}
 use Rattle.attribute_lines.specs.Sofar.{refusalBy}
-use Rattle.attribute_lines.specs.Steps.{Ready, Next, readSofar}
+use Rattle.attribute_lines.specs.Steps.{BeforeLine, Next, readSofar}
 
 -- the table and the places of no element: any with room will do
 unfoldable pub blank : List ℕ
@@ -20,7 +20,7 @@ abbrev pub sofarAt : Bytes → State → Sofar
 sofarAt h st = readSofar h blank blank st
 
 pub record Among (h : Bytes) (st : State) : Type 0 where
-  pub ready : Ready h blank blank st
+  pub ready : BeforeLine h blank blank st
   pub no-element : sofarAt h st .before ≡ []
 
 -- One line, which a newline at `end` ends: the state behind it, or its refusal and the same state

@@ -15,7 +15,7 @@ use Rattle.outcomes.specs.declared.Shape.{Shape}
 use Rattle.report_lines.specs.Fitted.{Fitted}
 use Rattle.reporting.specs.Reported.{Reported}
 use Rattle.reader.specs.declared.Reading.{Reading}
-use Rattle.reader.specs.Told.{Holds, ReadAs}
+use Rattle.reader.specs.Told.{ReadPolicy, ReadAs}
 use Rattle.reader.proofs.FileRead.{file-refused}
 use Rattle.jogimaduve.specs.Told.{told, textTold, shapeOf}
 use Rattle.jogimaduve.proofs.Answering.{text-told}
@@ -32,7 +32,7 @@ module _ (f table places : List ℕ) (r : Reading) (is-read : ReadAs f table pla
   refusal-lent = rw (file-refused f table places r is-read h)
 
 -- A file that was read
-module _ (f table places : List ℕ) (r : Reading) (p : Policy) (h : read f ≡ given p) (holds : Holds f table places r p) where
+module _ (f table places : List ℕ) (r : Reading) (p : Policy) (h : read f ≡ given p) (holds : ReadPolicy f table places r p) where
   -- the report, fitted to the buffer
   module _ (s : Shape) (shaped : s ≡ shapeOf r) (old new : Bytes) (needed : ℕ) (reported : Reported f table places s old new needed) where
     fits : Fitted old (report f p) new needed

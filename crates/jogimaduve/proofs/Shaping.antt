@@ -21,7 +21,7 @@ use Rattle.layout.proofs.Counts.{counts-are}
 use Rattle.trimmed_text.specs.Copied.{Copies}
 use Rattle.trimmed_text.proofs.Tabled.{root-word, leaves as rules-are-leaves}
 use Rattle.reader.specs.declared.Reading.{Reading}
-use Rattle.reader.specs.Told.{Holds}
+use Rattle.reader.specs.Told.{ReadPolicy}
 use Rattle.reader.proofs.FileRead.{elements-are, few}
 use Rattle.jogimaduve.specs.Told.{shapeOf}
 
@@ -36,7 +36,7 @@ start-below f k (suc d) =
     let later : k + suc d ≡ suc (k + d) = omega arith in
     rw later (le-trans (start-below f k d) (start-rises f (k + d)))
 
-module _ (f table places : List ℕ) (r : Reading) (p : Policy) (h : read f ≡ given p) (holds : Holds f table places r p) where
+module _ (f table places : List ℕ) (r : Reading) (p : Policy) (h : read f ≡ given p) (holds : ReadPolicy f table places r p) where
   pub attributes-are : length (p .attributes) ≡ r .attributes .len
   attributes-are = ap length (holds .attributes) ∙ attributes-length f (r .attributes)
 

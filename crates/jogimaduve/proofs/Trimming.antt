@@ -21,7 +21,7 @@ use Rattle.trimmed_text.proofs.Trimmed.{trimmed-flags}
 use Rattle.trimmed_text.proofs.Tabled.{trimming-is}
 use Rattle.trimmed_text.proofs.Placed.{text-copied}
 use Rattle.reader.specs.declared.Reading.{Reading}
-use Rattle.reader.specs.Told.{Holds, ReadAs}
+use Rattle.reader.specs.Told.{ReadPolicy, ReadAs}
 use Rattle.reader.proofs.FileRead.{file-refused, elements-are, few}
 use Rattle.reporting.specs.Found.{none-struck}
 use Rattle.reporting.proofs.StruckText.{none-clear}
@@ -40,7 +40,7 @@ module _ (f table places : List ℕ) (r : Reading) (is-read : ReadAs f table pla
   refusal-lent = rw (file-refused f table places r is-read h)
 
 -- A file that was read, and the flags that striking leaves
-module _ (f table places : List ℕ) (r : Reading) (p : Policy) (h : read f ≡ given p) (holds : Holds f table places r p) (s : Shape) (shaped : s ≡ shapeOf r)
+module _ (f table places : List ℕ) (r : Reading) (p : Policy) (h : read f ≡ given p) (holds : ReadPolicy f table places r p) (s : Shape) (shaped : s ≡ shapeOf r)
     (flags : List ℕ) (struck : flags ≡ table-level.trimmingAt table (s .n) (countsOf s) (s .n) none-struck .flags) where
   abbrev text : Bytes
   text = copied f places flags (r .elements)

@@ -21,13 +21,13 @@ use Rattle.decisions.specs.Table.{elementAt}
 use Rattle.layout.specs.Places.{elementIn, elementsTo}
 use Rattle.layout.proofs.Laws.{elements-length}
 use Rattle.reader.specs.declared.Reading.{Reading}
-use Rattle.reader.specs.Told.{Holds, ReadAs}
+use Rattle.reader.specs.Told.{ReadPolicy, ReadAs}
 use Rattle.reader.proofs.FileRead.{file-refused, elements-are, few, good, naming}
 use Rattle.elements.specs.declared.Elements.{Elements}
 use Rattle.elements.specs.Listed.{blank, noElements, withElement, elementsOf}
 use Rattle.elements.proofs.Listing.{one-more}
 use Rattle.lists.specs.declared.Listing.{Listing}
-use Rattle.lists.specs.Listed.{Ready, givenOr, Listed}
+use Rattle.lists.specs.Listed.{Filled, givenOr, Listed}
 
 -- the first i
 pub record Upto (f : Bytes) (table places : List ℕ) (all : Elements) (i : ℕ) : Type 0 where
@@ -76,15 +76,15 @@ pub refusal-listed : (f table places : List ℕ) (r : Reading) → ReadAs f tabl
 unfolding listFile
 refusal-listed f table places r is-read h room a a-is es none = none-listed f room (r .number) (r .second) (rw (file-refused f table places r is-read h)) a a-is es none
 
-module _ (f table places : List ℕ) (r : Reading) (p : Policy) (h : read f ≡ given p) (holds : Holds f table places r p) where
+module _ (f table places : List ℕ) (r : Reading) (p : Policy) (h : read f ≡ given p) (holds : ReadPolicy f table places r p) where
   -- of a short list
   pub short-listed : (room : ℕ) → room < r .elements → (es : Elements) → es ≡ noElements → Listed f room (record { answer = record { number = 12; second = r .elements }; elements = es })
   unfolding listFile
   short-listed room short es none = none-listed f room 12 (r .elements) (rw (h, elements-are f table places r p h holds, lt-ltb room (r .elements) short)) _ refl es none
 
-  pub ready : Ready f table places (r .elements)
+  pub filled : Filled f table places (r .elements)
   unfolding elementIn elementAt
-  ready = record { rows = omega (arith, holds .rooms .rows, few f table places r p h holds); naming = naming f table places r p h holds; shallow = λ i l. good f table places r p h holds i l .shallow }
+  filled = record { rows = omega (arith, holds .rooms .rows, few f table places r p h holds); naming = naming f table places r p h holds; shallow = λ i l. good f table places r p h holds i l .shallow }
 
   given-all : (room : ℕ) → r .elements ≤ room → listFile room f ≡ given (reverse (elementsTo f table places (r .elements)))
   unfolding listFile

@@ -16,7 +16,7 @@ use Rattle.elements.specs.Listed.{elementsOf}
 use Rattle.lists.specs.declared.Listing.{Listing}
 
 -- what the table and the places hold of n elements: a row and a name each, and a depth that is no number of a refused file
-pub record Ready (f : Bytes) (table places : List ℕ) (n : ℕ) : Type 0 where
+pub record Filled (f : Bytes) (table places : List ℕ) (n : ℕ) : Type 0 where
   pub rows : 8 * n ≤ length table
   pub naming : Naming f places n
   pub shallow : (i : ℕ) → i < n → depthOf table i ≤ 7

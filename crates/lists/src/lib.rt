@@ -14,7 +14,7 @@ ghost use Rattle.meaning.specs.Claims.Texts.{All};
 ghost use Rattle.meaning.specs.Claims.Writing.{Shaped};
 ghost use Rattle.layout.specs.Places.{elementsTo};
 ghost use Rattle.elements.specs.Listed.{blank, elementsOf};
-ghost use Rattle.lists.specs.Listed.{Ready, Listed, atMost};
+ghost use Rattle.lists.specs.Listed.{Filled, Listed, atMost};
 
 // A file's elements by value, and the answer for a list of so many places; no elements where it is a refusal.
 pub struct Listing {
@@ -24,7 +24,7 @@ pub struct Listing {
 
 // The elements of a file that was read.
 fn all_elements(file: &[u8], table: &[u16], places: &[usize], n: usize) -> Elements
-    requires { ⌜ Ready (now file) (now table) (now places) n ⌝ }
+    requires { ⌜ Filled (now file) (now table) (now places) n ⌝ }
     ensures { λ r. ⌜ (elementsOf r ≡ reverse (elementsTo (now (file .entry)) (now (table .entry)) (now (places .entry)) n)) × (r .len ≡ n) ⌝ }
 {
     let mut all = elements::none();

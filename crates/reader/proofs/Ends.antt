@@ -13,11 +13,11 @@ use Rattle.laws.proofs.Bools.{Test, passed, failed, test}
 use Rattle.layout.specs.Places.{Lined, lineStart}
 use Rattle.attribute_lines.specs.declared.State.{State}
 use Rattle.attribute_lines.proofs.AttributeLines.{no-elements}
-use Rattle.attribute_lines.specs.Steps.{Ready, readSofar}
+use Rattle.attribute_lines.specs.Steps.{BeforeLine, readSofar}
 use Rattle.reader.specs.Told.{endedAt, ReadAs}
 
 -- at the end: bytes behind the last newline, no tree line, or the policy
-pub ending : (f table places : List ℕ) (st : State) (end : ℕ) → Ready f table places st → st .line ≤ 16385 → end ≡ length f
+pub ending : (f table places : List ℕ) (st : State) (end : ℕ) → BeforeLine f table places st → st .line ≤ 16385 → end ≡ length f
     → ReadAs f table places (endedAt st end) (cond (eqb (st .at) end) (finished (readSofar f table places st)) (refused 2 (st .line)))
 ending f table places st end ready l whole = go (test (eqb (st .at) end)) (test (eqb (st .tree .len) 0))
   where
@@ -31,8 +31,8 @@ ending f table places st end ready l whole = go (test (eqb (st .at) end)) (test 
           second = refl;
           attributes = refl;
           elements = refl;
-          space-is = ready .begun .space-is;
-          spaced = ready .begun .attributes;
+          space-is = ready .in-file .space-is;
+          spaced = ready .in-file .attributes;
           some = omega arith;
           rooms = ready .rooms;
           lined = subst (Lined (lineStart f) places (st .attributes .len) (st .tree .len)) (eqb-true (st .at) end e ∙ whole) (ready .lined);

@@ -14,7 +14,7 @@ use Rattle.laws.proofs.Bools.{and-true}
 use Rattle.layout.specs.Places.{startOf, nameIn, elementIn, elementsTo, Naming}
 use Rattle.layout.proofs.Laws.{elements-length, of-each}
 use Rattle.reader.specs.declared.Reading.{Reading}
-use Rattle.reader.specs.Told.{Holds, ReadAs}
+use Rattle.reader.specs.Told.{ReadPolicy, ReadAs}
 
 module _ (f table places : List ℕ) (r : Reading) (is-read : ReadAs f table places r (read f)) where
   pub small-numbers : (r .number ≡ 0 → ⊥) → (r .number ≤ 9) × (r .second ≤ 16385)
@@ -31,15 +31,15 @@ module _ (f table places : List ℕ) (r : Reading) (is-read : ReadAs f table pla
       go (refused n m) e t = rw (t .is) e
       go (given p) e t = absurd (h (t .number))
 
-  pub file-read : r .number ≡ 0 → (p : Policy) × (read f ≡ given p) × Holds f table places r p
+  pub file-read : r .number ≡ 0 → (p : Policy) × (read f ≡ given p) × ReadPolicy f table places r p
   file-read z = go (read f) refl is-read
     where
-      go : (x : Result Policy) → read f ≡ x → ReadAs f table places r x → (p : Policy) × (read f ≡ given p) × Holds f table places r p
+      go : (x : Result Policy) → read f ≡ x → ReadAs f table places r x → (p : Policy) × (read f ≡ given p) × ReadPolicy f table places r p
       go (refused n m) e t = absurd (omega (arith, ap (λ x. x .number) (t .is), t .not-zero))
       go (given p) e t = (p, e, t)
 
 -- The elements of a file that was read
-module _ (f table places : List ℕ) (r : Reading) (p : Policy) (h : read f ≡ given p) (holds : Holds f table places r p) where
+module _ (f table places : List ℕ) (r : Reading) (p : Policy) (h : read f ≡ given p) (holds : ReadPolicy f table places r p) where
   pub elements-are : length (p .elements) ≡ r .elements
   elements-are = ap length (holds .elements) ∙ length-reverse (elementsTo f table places (r .elements)) ∙ elements-length f table places (r .elements)
 

@@ -18,7 +18,7 @@ use Rattle.attribute_lines.specs.Sofar.{refusalBy, refusalOf}
 use Rattle.attribute_lines.specs.declared.Step.{Step}
 use Rattle.attribute_lines.specs.Laid.{Laid, withLine}
 use Rattle.reader.specs.Laid.{laidBy, laidIn}
-use Rattle.attribute_lines.specs.Steps.{Ready, beginning, readSofar, laidAt, StepIs}
+use Rattle.attribute_lines.specs.Steps.{BeforeLine, beginning, readSofar, laidAt, StepIs}
 use Rattle.reader.specs.Told.{refusedWith, endedAt, ReadAs, ReadIs}
 use Rattle.attribute_lines.proofs.Parts.{part-length}
 use Rattle.reader.proofs.Ends.{ending}
@@ -101,15 +101,15 @@ refusal-told f table places r n m e is p low l = subst⁻¹ (ReadAs f table plac
 pub long-told : (f table places : List ℕ) (r : Reading) → 16384 < length f → r ≡ refusedWith 1 0 → ReadIs f table places table places r
 long-told f table places r l is = told {s = nothing} (refusal-told f table places r 1 0 (too-long f l) is (lit≤ tt) (lit≤ tt) zero-le) (rw (lt-ltb 16384 (length f) l))
 
-module _ (f table₀ places₀ table places : List ℕ) (st : State) (ready : Ready f table places st) (size : length f ≤ 16384) (keeps : Keeps f table₀ places₀ table places st)
+module _ (f table₀ places₀ table places : List ℕ) (st : State) (ready : BeforeLine f table places st) (size : length f ≤ 16384) (keeps : Keeps f table₀ places₀ table places st)
     (end : ℕ) (ends : end ≡ st .at + length (getD (cut newline (drop (st .at) f)) 0 [])) where
   few-lines : st .line ≤ 16385
-  few-lines = omega (arith, ready .begun .inside, ready .begun .lines-passed)
+  few-lines = omega (arith, ready .in-file .inside, ready .in-file .lines-passed)
 
   -- the end of the file
   pub ended : end ≡ length f → {r : Reading} → r ≡ endedAt st end → ReadIs f table₀ places₀ table places r
   ended e is =
-      let reads = keeps .reads ∙ no-more f (st .at) (st .line) (readSofar f table places st) end ends (ready .begun .inside) e in
+      let reads = keeps .reads ∙ no-more f (st .at) (st .line) (readSofar f table places st) end ends (ready .in-file .inside) e in
       told (rw is (subst⁻¹ (ReadAs f table places (endedAt st end)) reads (ending f table places st end ready few-lines e))) (keeps .lays ∙ none-laid f (st .at) end (laidAt f table places st) ends e)
 
   -- a line that is refused, and one that is not

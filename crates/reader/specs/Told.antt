@@ -38,13 +38,13 @@ endedAt st end =
     (record { number = 0; second = 0; attributes = st .attributes; space = st .space; elements = st .tree .len }))
     (refusedWith 2 (st .line))
 
-pub record Refused (n m : ℕ) (r : Reading) : Type 0 where
+pub record ReadRefusal (n m : ℕ) (r : Reading) : Type 0 where
   pub is : r ≡ refusedWith n m
   pub not-zero : 1 ≤ n
   pub low : n ≤ 9
   pub small : m ≤ 16385
 
-pub record Holds (f table places : List ℕ) (r : Reading) (p : Policy) : Type 0 where
+pub record ReadPolicy (f table places : List ℕ) (r : Reading) (p : Policy) : Type 0 where
   pub number : r .number ≡ 0
   pub second : r .second ≡ 0
   pub attributes : p .attributes ≡ attributesOf f (r .attributes)
@@ -57,8 +57,8 @@ pub record Holds (f table places : List ℕ) (r : Reading) (p : Policy) : Type 0
   pub places-are : r .attributes ≡ placed f (r .attributes .len)
 
 abbrev pub ReadAs : List ℕ → List ℕ → List ℕ → Reading → Result Policy → Type 0
-ReadAs f table places r (refused n m) = Refused n m r
-ReadAs f table places r (given p) = Holds f table places r p
+ReadAs f table places r (refused n m) = ReadRefusal n m r
+ReadAs f table places r (given p) = ReadPolicy f table places r p
 
 -- and what it laid down in the table and the places that were lent
 pub record ReadIs (f table₀ places₀ table places : List ℕ) (r : Reading) : Type 0 where

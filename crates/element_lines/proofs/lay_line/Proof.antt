@@ -1,4 +1,4 @@
--- `put_line` meets its contract: the element's row and places, and the tree with it.
+-- `lay_line` meets its contract: the element's row and places, and the tree with it.
 use mathlib.Core.Path.{ap, _∙_}
 use native.Mathlib.Omega.{arith}
 use Prim.Native.Nat.{_*_}
@@ -8,8 +8,8 @@ use Rattle.syntax.specs.Fields.{numberOfWord}
 use Rattle.layout.specs.Nearest.{grown}
 use Rattle.element_lines.proofs.TreeLines.{same-row, same-end}
 use borrow.Author.Needs.{needs}
-use Rattle.element_lines.proofs.put_line.Statement.{statement}
-use Rattle.element_lines.proofs.put_line.Tie as tie
+use Rattle.element_lines.proofs.lay_line.Statement.{statement}
+use Rattle.element_lines.proofs.lay_line.Tie as tie
 
 add-put-element-2 : tie.Need-add-put-element-2
 add-put-element-2 c = omega (arith, ap length (c .before .before .name-field .ensures), c .before .before .before .before .before .before .before .before .before .before .before .before .pre .0 .name-inside)
@@ -27,12 +27,12 @@ returns c =
     let args = c .before .before .before .before .before .before .before .before .before .before .before .before .before .before .before .before .before .before .before .args in
     let depth = c .before .before .before .before .before .before .before .before .before .before .before .before .depth-of .ensures .0 ∙ ap depthOf (c .before .before .before .before .before .before .before .before .before .before .before .before .before .depth-field .ensures) in
     let word = c .before .before .before .before .before .before .before .before .before .before .word-number .ensures .0 ∙ ap (λ w. numberOfWord (wordOf (args .kind) w)) (c .before .before .before .before .before .before .before .before .before .before .before .word-field .ensures) in
-    let put = c .before .before .before .before .before .before .put-element .ensures in
+    let laid = c .before .before .before .before .before .before .put-element .ensures in
     let tree = c .before .with-element .ensures ∙ ap (grown (args .st .tree) (args .kind)) depth in
-    (rw tree, (put .0 ∙ same-row (args .table .now) (8 * args .st .tree .len) word depth (args .masks), put .1 ∙ same-end (args .places .now) (2 * args .st .tree .len) (args .st .at) (c .before .before .before .before .before .before .before .before .before .name-field .ensures)))
+    (rw tree, (laid .0 ∙ same-row (args .table .now) (8 * args .st .tree .len) word depth (args .masks), laid .1 ∙ same-end (args .places .now) (2 * args .st .tree .len) (args .st .at) (c .before .before .before .before .before .before .before .before .before .name-field .ensures)))
 
-pub put-line-spec : {M : Type 1} → statement M
-put-line-spec =
+pub lay-line-spec : {M : Type 1} → statement M
+lay-line-spec =
     tie.close
     (tie.spec
     (λ c κs. search needs)

@@ -8,7 +8,7 @@ use borrow.Author.Tests.{not-true, not-false}
 use Rattle.layout.proofs.Laws.{element-names}
 use Rattle.attribute_lines.specs.declared.State.{State}
 use Rattle.element_lines.specs.Elements.{Behind}
-use Rattle.attribute_lines.specs.Steps.{Ready, readSofar}
+use Rattle.attribute_lines.specs.Steps.{BeforeLine, readSofar}
 use Rattle.element_lines.proofs.TreeSteps.{count-told, earlier-told, some-attribute, room-there, targets-told, tree-told}
 use Rattle.element_lines.proofs.tree_line.Statement.{statement}
 use Rattle.element_lines.proofs.tree_line.Tie as tie
@@ -18,7 +18,7 @@ abbrev start : tie.Else1 → tie.Start
 start c = c .before .before .before .before .before .before .before .before
 
 -- what was read so far is what the state stands for
-behind : {f table places : List ℕ} {st : State} → Ready f table places st → Behind f (st .attributes) places (st .tree) (readSofar f table places st)
+behind : {f table places : List ℕ} {st : State} → BeforeLine f table places st → Behind f (st .attributes) places (st .tree) (readSofar f table places st)
 behind ready = record { attributes = refl; stands = ready .tree; names = element-names _ _ _ _ }
 
 ends-low : (c : tie.Start) → c .args .end < 18446744073709551615
@@ -35,7 +35,7 @@ field-ends-requires c κs = omega (arith, start c .pre .2 .count)
 element-refusal-requires : tie.Need-element-refusal-requires
 element-refusal-requires c κs =
     let pre = start (c .before .before) .pre in
-    (pre .0 .rooms .named, pre .0 .begun .shallow, c .before .field-ends .ensures, (_, behind (pre .0)))
+    (pre .0 .rooms .named, pre .0 .in-file .shallow, c .before .field-ends .ensures, (_, behind (pre .0)))
 
 returns-2 : tie.Need-returns-2
 returns-2 c =
@@ -49,7 +49,7 @@ line-masks-requires c κs =
     let counted = c .before .before .before .before in
     let pre = start counted .pre in
     let lowest = c .before .element-refusal .ensures _ (behind (pre .0)) in
-    let attributes = pre .0 .begun .attributes in
+    let attributes = pre .0 .in-file .attributes in
     (attributes .standing, attributes .few-values, some-attribute _ _ _ _ _ _ _ (pre .0) (pre .1) (pre .2) (counted .if1 .left) _ lowest (c .if2 .left), sym (pre .2 .count) ∙ counted .if1 .left, c .before .before .before .field-ends .ensures)
 
 returns-3 : tie.Need-returns-3
@@ -60,8 +60,8 @@ returns-3 c =
     let lowest = passed .before .element-refusal .ensures _ (behind (pre .0)) in
     targets-told _ _ _ _ _ _ _ (pre .0) (pre .1) (pre .2) (counted .if1 .left) _ lowest (passed .if2 .left) (c .before .before .line-masks .ensures) (not-true _ (c .if3 .taken))
 
-put-line-requires : tie.Need-put-line-requires
-put-line-requires c κs =
+lay-line-requires : tie.Need-lay-line-requires
+lay-line-requires c κs =
     let passed = c .before .before .before .before .before .before in
     let counted = passed .before .before .before .before in
     let pre = start counted .pre in
@@ -76,7 +76,7 @@ returns-4 c =
     let pre = start counted .pre in
     let lowest = passed .before .element-refusal .ensures _ (behind (pre .0)) in
     let good = not-false _ (good-there .if3 .left) in
-    let put = c .before .before .before .before .put-line .ensures in
+    let put = c .before .before .before .before .lay-line .ensures in
     tree-told _ _ _ _ _ _ _ (pre .0) (pre .1) (pre .2) (counted .if1 .left) _ lowest (passed .if2 .left) (good-there .before .before .line-masks .ensures) _ _ _ good (put .0) (put .1 .0) (put .1 .1)
 
 pub tree-line-spec : {M : Type 1} → statement M
@@ -95,7 +95,7 @@ tree-line-spec =
     line-masks-requires
     (λ c. search needs)
     returns-3
-    put-line-requires
+    lay-line-requires
     (λ c. search needs)
     (λ c. search needs)
     returns-4)

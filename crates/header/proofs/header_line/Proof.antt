@@ -12,7 +12,7 @@ use Rattle.header.proofs.header_line.Tie as tie
 attribute-line-requires : tie.Need-attribute-line-requires
 attribute-line-requires c κs =
     let start = c .before .before .before .before .before in
-    (start .pre .0 .ready .begun, start .pre .1, of-kind _ (c .before .before .line-shape .ensures) (c .enum-told .given .1))
+    (start .pre .0 .ready .in-file, start .pre .1, of-kind _ (c .before .before .line-shape .ensures) (c .enum-told .given .1))
 
 returns : tie.Need-returns
 returns c =
@@ -23,7 +23,7 @@ returns c =
 tree-refusal-requires : tie.Need-tree-refusal-requires
 tree-refusal-requires c κs =
     let start = c .before .before .before .before .before .before in
-    (start .pre .0 .ready .begun .attributes .standing .few, (_, of-kind _ (c .before .before .before .line-shape .ensures) (c .before .enum-told2 .given .1)))
+    (start .pre .0 .ready .in-file .attributes .standing .few, (_, of-kind _ (c .before .before .before .line-shape .ensures) (c .before .enum-told2 .given .1)))
 
 returns-2 : tie.Need-returns-2
 returns-2 c = past-tree _ _ _ _ _ refl (c .tree-refusal .ensures)

@@ -20,7 +20,7 @@ loop-holds : tie.Need-loop-holds Inv-loop μ-loop
 loop-holds c = keeps-first _ (omega arith) (c .before .start .ensures)
 
 end-of-requires : tie.Need-end-of-requires Inv-loop μ-loop
-end-of-requires c κs = c .loop .inv .among .ready .begun .inside
+end-of-requires c κs = c .loop .inv .among .ready .in-file .inside
 
 returns-2 : tie.Need-returns-2 Inv-loop μ-loop
 returns-2 c = left-over _ _ (c .before .before .before .before .loop .inv) _ (c .before .before .before .end-of .ensures .0) (c .before .before .if2 .taken) (c .refuse2 .ensures) (c .before .if3 .taken)
@@ -39,7 +39,7 @@ returns-4 c = refused-here _ _ (c .before .before .before .before .before .loop 
 loop-less : tie.Need-loop-less Inv-loop μ-loop
 loop-less c =
     let next = c .before .before .header-line .ensures .next (c .before .if4 .left) in
-    omega (arith, next .at-next, next .ready .begun .inside)
+    omega (arith, next .at-next, next .ready .in-file .inside)
 
 loop-again : tie.Need-loop-again Inv-loop μ-loop
 loop-again c =

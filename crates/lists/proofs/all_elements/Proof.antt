@@ -22,9 +22,9 @@ loop-holds c = (search needs, upto-none _ _ _ _ (c .none .ensures))
 
 element-at-requires : tie.Need-element-at-requires Inv-loop μ-loop
 element-at-requires c κs =
-    let ready = c .before .before .before .before .before .before .pre in
+    let filled = c .before .before .before .before .before .before .pre in
     let i = c .before .loop .i in
-    (ready .naming .each i (c .loop-test .taken), omega (arith, ready .rows, c .loop-test .taken), ready .shallow i (c .loop-test .taken))
+    (filled .naming .each i (c .loop-test .taken), omega (arith, filled .rows, c .loop-test .taken), filled .shallow i (c .loop-test .taken))
 
 with-element-requires : tie.Need-with-element-requires Inv-loop μ-loop
 with-element-requires c κs = omega (arith, c .before .before .loop .inv .1 .count, c .before .before .before .before .before .before .before .pre .naming .few)

@@ -1,7 +1,7 @@
 -- `read_elements` meets its contract: the file's refusal, a list too short, or the elements.
 use native.Mathlib.Omega.{arith}
 use Rattle.reader.proofs.FileRead.{small-numbers, file-read, few}
-use Rattle.lists.proofs.Reading.{refusal-listed, short-listed, ready, whole-listed}
+use Rattle.lists.proofs.Reading.{refusal-listed, short-listed, filled, whole-listed}
 use borrow.Author.Needs.{needs}
 use Rattle.lists.proofs.read_elements.Statement.{statement}
 use Rattle.lists.proofs.read_elements.Tie as tie
@@ -36,7 +36,7 @@ cast-t19 c =
 all-elements-requires : tie.Need-all-elements-requires
 all-elements-requires c κs =
     let read-well = file-read _ _ _ _ (c .before .before .before .before .before .before .before .read .ensures .answer) (c .before .before .before .if1 .left) in
-    ready _ _ _ _ (read-well .0) (read-well .1) (read-well .2)
+    filled _ _ _ _ (read-well .0) (read-well .1) (read-well .2)
 
 returns-3 : tie.Need-returns-3
 returns-3 c =

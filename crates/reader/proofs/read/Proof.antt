@@ -5,14 +5,14 @@ use mathlib.Core.Path.{_≡_, refl}
 use native.Mathlib.Omega.{arith}
 use borrow.Author.Needs.{needs}
 use lib.ListN.{length}
-use Rattle.attribute_lines.specs.Steps.{Ready}
+use Rattle.attribute_lines.specs.Steps.{BeforeLine}
 use Rattle.attribute_lines.proofs.Beginning.{beginning-ready}
 use Rattle.reader.proofs.Loop.{Keeps, keeps-first, long-told, ended, refused-here, keeps-next}
 use Rattle.reader.proofs.read.Statement.{statement}
 use Rattle.reader.proofs.read.Tie as tie
 
 abbrev Inv-loop : tie.InvT-loop
-Inv-loop file table₀ places₀ st₀ table places st = (length table ≡ length table₀) × (length places ≡ length places₀) × Ready file table places st × (length file ≤ 16384) × Keeps file table₀ places₀ table places st
+Inv-loop file table₀ places₀ st₀ table places st = (length table ≡ length table₀) × (length places ≡ length places₀) × BeforeLine file table places st × (length file ≤ 16384) × Keeps file table₀ places₀ table places st
 
 abbrev μ-loop : tie.MeasureT-loop
 μ-loop file table₀ places₀ st₀ table places st = length file - st .at
@@ -29,7 +29,7 @@ loop-holds c =
     (refl, refl, rw (c .before .start .ensures) ready, size, rw (c .before .start .ensures) (keeps-first (args .file .now) (args .table .now) (args .places .now) size none))
 
 line-at-requires : tie.Need-line-at-requires Inv-loop μ-loop
-line-at-requires c κs = c .loop .inv .2 .begun .inside
+line-at-requires c κs = c .loop .inv .2 .in-file .inside
 
 returns-2 : tie.Need-returns-2 Inv-loop μ-loop
 returns-2 c =
@@ -53,7 +53,7 @@ returns-3 c =
 loop-less : tie.Need-loop-less Inv-loop μ-loop
 loop-less c =
     let next = c .before .before .before .before .before .before .read-line .ensures .next (c .before .if3 .left) in
-    omega (arith, next .at-next, next .ready .begun .inside)
+    omega (arith, next .at-next, next .ready .in-file .inside)
 
 loop-again : tie.Need-loop-again Inv-loop μ-loop
 loop-again c =

@@ -10,7 +10,7 @@ use Rattle.reader.proofs.read_line.Tie as tie
 attribute-line-requires : tie.Need-attribute-line-requires
 attribute-line-requires c κs =
     let start = c .before .before .before .before .before .before .before in
-    (start .pre .0 .begun, start .pre .1, of-kind _ (c .before .before .shape-of .ensures) (c .enum-told .given .1))
+    (start .pre .0 .in-file, start .pre .1, of-kind _ (c .before .before .shape-of .ensures) (c .enum-told .given .1))
 
 tree-line-requires : tie.Need-tree-line-requires
 tree-line-requires c κs =
