@@ -6,11 +6,12 @@ use mathlib.Core.List.{List}
 use lib.Dec.{lit≤}
 use lib.ListN.{length}
 use Rattle.meaning.specs.Reading.{nothing}
+use Rattle.table.specs.Rows.{Rows}
 use Rattle.layout.specs.Places.{attributesFrom, elementsTo, lineStart, placed}
 use Rattle.layout.proofs.Laws.{empty-stands}
 use Rattle.attribute_lines.specs.Steps.{BeforeLine, beginning, readSofar}
 
-pub beginning-ready : (f table places : List ℕ) → 512 ≤ length table → 128 ≤ length places → BeforeLine f table places beginning × (readSofar f table places beginning ≡ nothing)
+pub beginning-ready : (f table places : List ℕ) → Rows table 64 → 128 ≤ length places → BeforeLine f table places beginning × (readSofar f table places beginning ≡ nothing)
 unfolding attributesFrom elementsTo lineStart placed
 beginning-ready f table places rows pairs = (
   record {

@@ -6,6 +6,7 @@ use lib.Seq.{sets}
 use Rattle.meaning.specs.Model.{padded}
 use Rattle.meaning.specs.Reading.{Line, attributeLine, treeLine, otherLine, depthOf, wordOf, masksOf, Sofar, extended}
 use Rattle.syntax.specs.Fields.{numberOfWord}
+use Rattle.table.specs.Rows.{withRow}
 
 -- what was read so far, and the table and the places with it
 pub record Laid : Type 0 where
@@ -15,16 +16,16 @@ pub record Laid : Type 0 where
 
 -- a tree line's element has its word, its depth and its masks in the table; its places are where its line starts, which
 -- is `at`, and where its name ends
-abbrev pub withRow : Sofar → Line → List ℕ → List ℕ
-withRow s (treeLine k d n w ts) table = sets table (8 * length (s .before)) (numberOfWord (wordOf k w) ∷ depthOf d ∷ padded 6 (masksOf (s .attributes) ts))
-withRow s (attributeLine a) table = table
-withRow s otherLine table = table
+abbrev pub tableWith : Sofar → Line → List ℕ → List ℕ
+tableWith s (treeLine k d n w ts) table = withRow table (length (s .before)) (numberOfWord (wordOf k w)) (depthOf d) (padded 6 (masksOf (s .attributes) ts))
+tableWith s (attributeLine a) table = table
+tableWith s otherLine table = table
 
-abbrev pub withPair : ℕ → Sofar → Line → List ℕ → List ℕ
-withPair at s (treeLine k d n w ts) places = sets places (2 * length (s .before)) (at ∷ (at + 4 + length n) ∷ [])
-withPair at s (attributeLine a) places = places
-withPair at s otherLine places = places
+abbrev pub placesWith : ℕ → Sofar → Line → List ℕ → List ℕ
+placesWith at s (treeLine k d n w ts) places = sets places (2 * length (s .before)) (at ∷ (at + 4 + length n) ∷ [])
+placesWith at s (attributeLine a) places = places
+placesWith at s otherLine places = places
 
 abbrev pub withLine : ℕ → Laid → Line → Laid
 withLine at x l =
-    record { sofar = extended (x .sofar) l; table = withRow (x .sofar) l (x .table); places = withPair at (x .sofar) l (x .places) }
+    record { sofar = extended (x .sofar) l; table = tableWith (x .sofar) l (x .table); places = placesWith at (x .sofar) l (x .places) }

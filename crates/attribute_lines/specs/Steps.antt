@@ -8,6 +8,7 @@ use lib.ListN.{length, drop, getD, replicate}
 use Rattle.meaning.specs.Text.{Bytes, cut, tab, newline}
 use Rattle.meaning.specs.Model.{space}
 use Rattle.meaning.specs.Reading.{lineOf, Sofar}
+use Rattle.table.specs.Rows.{Rows}
 use Rattle.layout.specs.declared.Attributes.{Attributes}
 use Rattle.layout.specs.Places.{part, attributesOf, AllStanding, noAttributes, added, elementsTo, Named, lineStart, placed, Lined}
 use Rattle.layout.specs.Nearest.{Stands}
@@ -24,7 +25,7 @@ pub record Spaced (f : Bytes) (a : Attributes) : Type 0 where
 
 -- room for 64 elements, of which n are there
 pub record Rooms (f : Bytes) (table places : List ℕ) (n : ℕ) : Type 0 where
-  pub rows : 512 ≤ length table
+  pub rows : Rows table 64
   pub pairs : 128 ≤ length places
   pub named : Named f places n
 

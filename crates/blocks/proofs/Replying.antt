@@ -6,9 +6,9 @@ use mathlib.Core.List.{List}
 use lib.ListN.{getD}
 use lib.Bits.{bitAnd}
 use Rattle.meaning.specs.declared.Element.{Element}
-use Rattle.meaning.specs.Deciding.{Reply as ChildReply, bit, combined}
+use Rattle.meaning.specs.Deciding.{bit, combined}
 use Rattle.laws.proofs.Bits.{bit-and, bit-zero}
-use Rattle.decisions.specs.Table.{wordAt, depthOf, elementAt}
+use Rattle.table.specs.Rows.{wordAt, depthOf, elementAt, wordNumber}
 use Rattle.decisions.specs.Replies.{repliesFrom, replyAt}
 use Rattle.decisions.proofs.Combining.{start}
 use Rattle.decisions.proofs.Children.{reply-off, reply-on}
@@ -30,14 +30,14 @@ module _ (t struck hits : List ℕ) (n block at w v : ℕ) (hit : Element → Bo
       rw e (none-reply v) ∙ sym (reply-off hit t struck n at off)
 
   -- its word is an effect's
-  pub reply-permit : getD t (8 * at) 0 ≡ 0 → replyBit (record { matched = w; given = record { permits = w; denies = 0 } }) v ≡ replyAt hit t struck n at
+  pub reply-permit : wordNumber t at ≡ 0 → replyBit (record { matched = w; given = record { permits = w; denies = 0 } }) v ≡ replyAt hit t struck n at
   reply-permit word = go (bit w v) refl
     where
       go : (b : Bool) → bit w v ≡ b → replyBit (record { matched = w; given = record { permits = w; denies = 0 } }) v ≡ replyAt hit t struck n at
       go true e = rw (e, bit-zero v, reply-on hit t struck n at (hit-is true e), word)
       go false e = rw (e, bit-zero v, reply-off hit t struck n at (hit-is false e))
 
-  pub reply-deny : getD t (8 * at) 0 ≡ 1 → replyBit (record { matched = w; given = record { permits = 0; denies = w } }) v ≡ replyAt hit t struck n at
+  pub reply-deny : wordNumber t at ≡ 1 → replyBit (record { matched = w; given = record { permits = 0; denies = w } }) v ≡ replyAt hit t struck n at
   reply-deny word = go (bit w v) refl
     where
       go : (b : Bool) → bit w v ≡ b → replyBit (record { matched = w; given = record { permits = 0; denies = w } }) v ≡ replyAt hit t struck n at
@@ -45,7 +45,7 @@ module _ (t struck hits : List ℕ) (n block at w v : ℕ) (hit : Element → Bo
       go false e = rw (e, bit-zero v, reply-off hit t struck n at (hit-is false e))
 
   -- its children give this
-  pub reply-group : (given : Effects) → decisionBit given v ≡ combined (wordAt (getD t (8 * at) 0)) (repliesFrom hit t struck n (suc (depthOf t at)) (at + 1))
+  pub reply-group : (given : Effects) → decisionBit given v ≡ combined (wordAt (wordNumber t at)) (repliesFrom hit t struck n (suc (depthOf t at)) (at + 1))
       → replyBit (record { matched = w; given = record { permits = bitAnd w (given .permits); denies = bitAnd w (given .denies) } }) v ≡ replyAt hit t struck n at
   reply-group given children = go (bit w v) refl
     where

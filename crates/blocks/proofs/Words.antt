@@ -1,7 +1,7 @@
 -- The combining algorithms on words: bit v of what the formulas give is what the algorithm gives of the two replies' bits.
 use mathlib.Core.Path.{_≡_}
 use Prim.Native.Nat.{ℕ}
-use mathlib.Core.Bool.{Bool, not, _&&_}
+use mathlib.Core.Bool.{not, _&&_}
 use mathlib.Core.List.{[], _∷_}
 use lib.Bits.{bitAnd, bitOr}
 use Rattle.meaning.specs.declared.Word.the-variants.{DenyOverrides, PermitOverrides, FirstApplicable, OnlyOneApplicable}

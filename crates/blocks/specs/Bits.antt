@@ -8,7 +8,7 @@ use Rattle.meaning.specs.declared.Decision.{Decision}
 use Rattle.meaning.specs.declared.Decision.the-variants.{Permit, Deny, NotApplicable, Indeterminate}
 use Rattle.meaning.specs.declared.Element.{Element}
 use Rattle.meaning.specs.Deciding.{Reply as ChildReply, bit}
-use Rattle.decisions.specs.Table.{elementAt}
+use Rattle.table.specs.Rows.{elementAt, Rows}
 use Rattle.blocks.specs.declared.Effects.{Effects}
 use Rattle.blocks.specs.declared.Replies.{Replies}
 
@@ -31,7 +31,7 @@ Answers t hits n block v hit = (i : ℕ) → i < n → bit (getD hits (64 * i + 
 
 -- a table of n elements, a flag and 64 words for each, one of at most 64 blocks, and a place among the elements or their end
 pub record Block (t struck hits : List ℕ) (n block i : ℕ) : Type 0 where
-  pub rows : 8 * n ≤ length t
+  pub rows : Rows t n
   pub flags : n ≤ length struck
   pub words : 64 * n ≤ length hits
   pub few : n ≤ 64

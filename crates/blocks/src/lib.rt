@@ -6,7 +6,7 @@ ghost use Rattle.meaning.specs.declared.Element.{Element};
 ghost use mathlib.Core.List.{[], _∷_};
 ghost use Rattle.meaning.specs.declared.Word.the-variants.{DenyOverrides, PermitOverrides, FirstApplicable, OnlyOneApplicable};
 ghost use Rattle.meaning.specs.Deciding.{bit, decisionNumber, combined};
-ghost use Rattle.decisions.specs.Table.{algorithmAt};
+ghost use Rattle.table.specs.Rows.{algorithmAt};
 ghost use Rattle.decisions.specs.Replies.{nextOf, stepOf, repliesFrom, replyAt};
 ghost use Rattle.blocks.specs.Bits.{decisionBit, replyBit, Answers, Block};
 
@@ -123,7 +123,7 @@ pub fn reply(
             },
         };
     }
-    let word = decisions::word_at(table, at);
+    let word = table::word_at(table, at);
     if word == 0 {
         return Replies {
             matched,
@@ -142,7 +142,7 @@ pub fn reply(
             },
         };
     }
-    let depth = decisions::depth_at(table, at) + 1;
+    let depth = table::depth_at(table, at) + 1;
     let given = fold(table, struck, hits, n, block, at + 1, depth, word - 2);
     Replies {
         matched,
@@ -176,17 +176,9 @@ fn fold(
     };
     let mut at = from;
     while at < n {
-        if struck[at] != 0 {
-            at += 1;
-            continue;
-        }
-        let d = decisions::depth_at(table, at);
-        if d < depth {
+        at = table::next_child(table, struck, n, at, depth);
+        if at == n {
             return so_far.given;
-        }
-        if depth < d {
-            at += 1;
-            continue;
         }
         if hits[64 * at + block] == 0 {
             at += 1;

@@ -9,9 +9,9 @@ use lib.Dec.{eqb}
 use lib.ListN.{length, getD, set, length-set}
 use lib.Seq.{getD-set-same, getD-set-other}
 use borrow.Author.Tests.{eqb-true, eqb-false}
-use Rattle.laws.proofs.Bools.{Test, passed, failed, test}
 use Rattle.meaning.specs.Text.{firstFrom}
-use Rattle.decisions.specs.Table.{placeOr}
+use Rattle.laws.proofs.Bools.{Test, passed, failed, test}
+use Rattle.table.specs.Tree.{placeOr}
 use Rattle.conflicts.specs.Pairs.{shownFor, Later, OthersStay, PairIs, PairsOf}
 
 module _ (parents : List ℕ) (shows : ℕ → ℕ → ℕ → ℕ → Bool) (n space : ℕ) (old : List ℕ) where

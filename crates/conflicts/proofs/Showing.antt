@@ -18,11 +18,11 @@ use Rattle.meaning.specs.Deciding.{bit}
 use Rattle.laws.proofs.Bits.{bit-and, bit-or, bit-zero}
 use Rattle.laws.proofs.Bools.{Test, passed, failed, test}
 use Rattle.laws.proofs.Search.{First, first-is, first-absent}
-use Rattle.decisions.specs.Table.{placeOr}
+use Rattle.table.specs.Tree.{placeOr}
 use Rattle.outcomes.proofs.Searching.{first-alike}
 use Rattle.rows.specs.Rows.{Applied, Given}
-use Rattle.conflicts.specs.Pairs.{Lowest, showsAt, shownBy, shownFor, Pairs}
 use Rattle.rows.proofs.Marks.{bit-lowest, bit-higher}
+use Rattle.conflicts.specs.Pairs.{Lowest, showsAt, shownBy, shownFor, Pairs}
 
 -- The lowest set bit of a word of k bits
 record LowestOf (k word r : ℕ) : Type 0 where

@@ -7,9 +7,9 @@ use lib.ListN.{length, getD}
 use Rattle.meaning.specs.declared.Decision.{Decision}
 use Rattle.meaning.specs.Text.{firstFrom}
 use Rattle.meaning.specs.Deciding.{requestOf, bit}
-use Rattle.decisions.specs.Table.{placeOr}
-use Rattle.rows.specs.Words.{appliesAt, givesAt}
+use Rattle.table.specs.Tree.{placeOr}
 use Rattle.matching.specs.Hits.{bitOf}
+use Rattle.rows.specs.Words.{appliesAt, givesAt}
 
 -- bit r is set, and none below it
 pub record Lowest (word r : ℕ) : Type 0 where

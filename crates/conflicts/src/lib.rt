@@ -3,7 +3,7 @@ ghost use mathlib.Core.Path.{_≡_};
 ghost use Prim.Native.Nat.{ℕ, _*_, _/_, _%_, _≤_, _<_};
 ghost use lib.ListN.{getD};
 ghost use Rattle.meaning.specs.Text.{firstFrom};
-ghost use Rattle.decisions.specs.Table.{placeOr};
+ghost use Rattle.table.specs.Tree.{placeOr};
 ghost use Rattle.conflicts.specs.Pairs.{Lowest, shownBy, Later, PairsOf, Pairs, OthersStay, Laid, Pairing};
 
 // The lowest bit that is set.

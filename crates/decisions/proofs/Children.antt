@@ -1,15 +1,18 @@
 -- The children among the elements that are left of the table, from a place on.
-use Prim.Native.Nat.{ℕ, zero, suc, _+_, _-_, _*_, _≤_, _<_, compare, Ordering, Ordering·lt, Ordering·eq, Ordering·gt}
+use Prim.Native.Nat.{ℕ, zero, suc, _+_, _-_, _≤_, _<_, compare, Ordering, Ordering·lt, Ordering·eq, Ordering·gt}
 use mathlib.Core.Path.{_≡_, refl, sym, ap, _∙_}
-use mathlib.Core.Bool.{Bool, true, false}
+use mathlib.Core.Bool.{Bool, true, false, cond}
 use mathlib.Core.List.{List, [], _∷_}
 use native.Mathlib.Omega.{arith}
-use lib.Dec.{isEq, isLe}
-use lib.ListN.{take, drop, getD}
-use borrow.Author.Tests.{eq-eqb, ne-eqb, eqb-true, eqb-false, leb-true, leb-false}
+use lib.Dec.{isEq, isLe, eqb, ltb}
+use lib.ListN.{getD}
+use borrow.Author.Tests.{eqb-true, eqb-false, leb-true, leb-false, lt-ltb, le-ltb}
 use Rattle.meaning.specs.declared.Element.{Element}
-use Rattle.meaning.specs.Deciding.{Reply as ChildReply, matches, within, combined, childReplies, firstDecision}
-use Rattle.decisions.specs.Table.{wordAt, algorithmAt, depthOf, elementAt, left}
+use Rattle.meaning.specs.Deciding.{Reply as ChildReply, combined, childReplies, firstDecision}
+use Rattle.laws.proofs.Bools.{Test, passed, failed, test}
+use Rattle.table.specs.Rows.{wordAt, algorithmAt, depthOf, elementAt, wordNumber}
+use Rattle.table.specs.Tree.{left, nextChild}
+use Rattle.table.proofs.Children.{left-struck, left-here, child-none, passes-struck, passes-deeper, child-here, child-behind}
 use Rattle.decisions.specs.Replies.{stepOf, repliesFrom, replyAt}
 use Rattle.decisions.proofs.Combining.{start, neutral-next, fold-step}
 
@@ -39,16 +42,6 @@ module _ (m n : ℕ) where
       go Ordering·eq e = let le : m ≤ n = leb-true m n (ap isLe e) in let no : ⊥ = omega arith in absurd no
       go Ordering·gt e = refl
 
--- The elements that are left from place i on
-module _ (t s : List ℕ) (n i : ℕ) (l : i < n) where
-  left-struck : (getD s i 0 ≡ 0 → ⊥) → left t s i (n - i) ≡ left t s (i + 1) (n - (i + 1))
-  unfolding left
-  left-struck flag = let e : n - i ≡ suc (n - (i + 1)) = omega arith in rw (e, ne-eqb (getD s i 0) 0 flag)
-
-  pub left-here : getD s i 0 ≡ 0 → left t s i (n - i) ≡ elementAt t i ∷ left t s (i + 1) (n - (i + 1))
-  unfolding left
-  left-here flag = let e : n - i ≡ suc (n - (i + 1)) = omega arith in rw (e, eq-eqb (getD s i 0) 0 flag)
-
 -- What element i gives, by the test of its own target
 module _ (hit : Element → Bool) (t s : List ℕ) (n i : ℕ) where
   pub reply-off : hit (elementAt t i) ≡ false → replyAt hit t s n i ≡ start
@@ -56,56 +49,97 @@ module _ (hit : Element → Bool) (t s : List ℕ) (n i : ℕ) where
   reply-off e = rw e
 
   pub reply-on : hit (elementAt t i) ≡ true
-      → replyAt hit t s n i ≡ record { matched = true; decision = combined (wordAt (getD t (8 * i) 0)) (repliesFrom hit t s n (suc (depthOf t i)) (i + 1)) }
+      → replyAt hit t s n i ≡ record { matched = true; decision = combined (wordAt (wordNumber t i)) (repliesFrom hit t s n (suc (depthOf t i)) (i + 1)) }
   unfolding replyAt elementAt
   reply-on e = rw e
 
--- What the children from place i on give
-module _ (hit : Element → Bool) (t s : List ℕ) (n d i : ℕ) where
-  pub replies-none : i ≡ n → repliesFrom hit t s n d i ≡ []
+-- What the children of depth d give, of n places
+module _ (hit : Element → Bool) (t s : List ℕ) (n d : ℕ) where
+  -- from a child on, which stands at place i, or from the end
+  abbrev fromChild : ℕ → List ChildReply
+  fromChild i = cond (ltb i n) (replyAt hit t s n i ∷ repliesFrom hit t s n d (i + 1)) []
+
+  from-none : (i : ℕ) → n ≤ i → fromChild i ≡ []
+  from-none i l = rw (le-ltb i n l)
+
+  pub children-none : (i : ℕ) → n ≤ i → repliesFrom hit t s n d i ≡ []
   unfolding repliesFrom left
-  replies-none e = let z : n - i ≡ 0 = omega arith in rw z
+  children-none i l = let z : n - i ≡ 0 = omega arith in rw z
 
-  pub replies-struck : i < n → (getD s i 0 ≡ 0 → ⊥) → repliesFrom hit t s n d i ≡ repliesFrom hit t s n d (i + 1)
-  unfolding repliesFrom
-  replies-struck l flag = ap (childReplies hit d) (left-struck t s n i l flag)
+  module _ (i : ℕ) (l : i < n) where
+    here : fromChild i ≡ replyAt hit t s n i ∷ repliesFrom hit t s n d (i + 1)
+    here = rw (lt-ltb i n l)
 
-  -- element i is not struck and has the depth r
-  module _ (r : ℕ) (l : i < n) (live : getD s i 0 ≡ 0) (is : r ≡ depthOf t i) where
-    pub replies-over : r < d → repliesFrom hit t s n d i ≡ []
-    unfolding repliesFrom elementAt
-    replies-over h = rw (left-here t s n i l live, below (depthOf t i) d (rw is at h))
+    struck-one : (getD s i 0 ≡ 0 → ⊥) → repliesFrom hit t s n d i ≡ repliesFrom hit t s n d (i + 1)
+    unfolding repliesFrom
+    struck-one flag = ap (childReplies hit d) (left-struck t s n i l flag)
 
-    pub replies-deeper : d < r → repliesFrom hit t s n d i ≡ repliesFrom hit t s n d (i + 1)
-    unfolding repliesFrom elementAt
-    replies-deeper h = rw (left-here t s n i l live, over (depthOf t i) d (rw is at h))
+    module _ (live : getD s i 0 ≡ 0) where
+      behind-all : depthOf t i < d → repliesFrom hit t s n d i ≡ []
+      unfolding repliesFrom elementAt
+      behind-all h = rw (left-here t s n i l live, below (depthOf t i) d h)
 
-    replies-child : r ≡ d → repliesFrom hit t s n d i ≡ replyAt hit t s n i ∷ repliesFrom hit t s n d (i + 1)
-    unfolding repliesFrom elementAt replyAt
-    replies-child h = let e : depthOf t i ≡ d = sym is ∙ h in rw (left-here t s n i l live, same (depthOf t i) d e, e)
+      deeper-one : d < depthOf t i → repliesFrom hit t s n d i ≡ repliesFrom hit t s n d (i + 1)
+      unfolding repliesFrom elementAt
+      deeper-one h = rw (left-here t s n i l live, over (depthOf t i) d h)
 
-    -- element i is a child that does not match: it may be left out
-    pub replies-off : (a : ℕ) (so : ChildReply) → r ≡ d → hit (elementAt t i) ≡ false
-        → combined (algorithmAt a) (so ∷ repliesFrom hit t s n d i) ≡ combined (algorithmAt a) (so ∷ repliesFrom hit t s n d (i + 1))
-    replies-off a so h off =
-        ap (λ cs. combined (algorithmAt a) (so ∷ cs)) (replies-child h)
-        ∙ ap (λ c. combined (algorithmAt a) (so ∷ c ∷ repliesFrom hit t s n d (i + 1))) (reply-off hit t s n i off)
-        ∙ sym (neutral-next a so (repliesFrom hit t s n d (i + 1)))
+      child-one : depthOf t i ≡ d → repliesFrom hit t s n d i ≡ replyAt hit t s n i ∷ repliesFrom hit t s n d (i + 1)
+      unfolding repliesFrom elementAt replyAt
+      child-one h = rw (left-here t s n i l live, same (depthOf t i) d h, h)
 
-    -- element i is a child, and what follows it is combined from there
-    pub replies-step : (a : ℕ) (so child next : ChildReply) → r ≡ d → child ≡ replyAt hit t s n i → next ≡ stepOf (algorithmAt a) so child
-        → combined (algorithmAt a) (so ∷ repliesFrom hit t s n d i) ≡ combined (algorithmAt a) (next ∷ repliesFrom hit t s n d (i + 1))
-    replies-step a so child next h decided stepped =
-        ap (λ cs. combined (algorithmAt a) (so ∷ cs)) (replies-child h)
-        ∙ ap (λ c. combined (algorithmAt a) (so ∷ c ∷ repliesFrom hit t s n d (i + 1))) (sym decided)
-        ∙ sym (fold-step a so child (repliesFrom hit t s n d (i + 1)))
-        ∙ ap (λ c. combined (algorithmAt a) (c ∷ repliesFrom hit t s n d (i + 1))) (sym stepped)
+  -- the next child is the first of them
+  next-first : (k i : ℕ) → i + k ≡ n → repliesFrom hit t s n d i ≡ fromChild (nextChild t s n d i)
+  next-first zero i e = children-none i (omega arith) ∙ sym (ap fromChild (child-none t s n i d (omega arith)) ∙ from-none n (omega arith))
+  next-first (suc k) i e = go (test (eqb (getD s i 0) 0)) (compare (depthOf t i) d) refl (next-first k (i + 1) (omega arith))
+    where
+      l : i < n
+      l = omega arith
 
--- the test of a request
-pub target-test : (q t : List ℕ) (i : ℕ) (b : Bool) → within (take 6 (drop (8 * i + 2) t)) q ≡ b → matches q (elementAt t i) ≡ b
-unfolding elementAt
-target-test q t i b e = e
+      go : Test (eqb (getD s i 0) 0) → (o : Ordering) → compare (depthOf t i) d ≡ o → repliesFrom hit t s n d (i + 1) ≡ fromChild (nextChild t s n d (i + 1)) → repliesFrom hit t s n d i ≡ fromChild (nextChild t s n d i)
+      go (failed x) o c later = let flag = eqb-false (getD s i 0) 0 x in struck-one i l flag ∙ later ∙ sym (ap fromChild (passes-struck t s n i d l flag))
+      go (passed x) Ordering·lt c later =
+          let live = eqb-true (getD s i 0) 0 x in
+          let unlike : (depthOf t i ≡ d → ⊥) = eqb-false (depthOf t i) d (ap isEq c) in
+          let over-it : depthOf t i < d = omega (arith, leb-true (depthOf t i) d (ap isLe c)) in
+          behind-all i l live over-it ∙ sym (ap fromChild (child-behind t s n i d l live over-it) ∙ from-none n (omega arith))
+      go (passed x) Ordering·eq c later =
+          let live = eqb-true (getD s i 0) 0 x in
+          let child = eqb-true (depthOf t i) d (ap isEq c) in
+          child-one i l live child ∙ sym (ap fromChild (child-here t s n i d l live child) ∙ here i l)
+      go (passed x) Ordering·gt c later =
+          let live = eqb-true (getD s i 0) 0 x in
+          let deep = leb-false (depthOf t i) d (ap isLe c) in
+          deeper-one i l live deep ∙ later ∙ sym (ap fromChild (passes-deeper t s n i d l deep))
 
+  -- r is the next child from place i on
+  module _ (i r : ℕ) (l : i ≤ n) (is : r ≡ nextChild t s n d i) where
+    next-is : repliesFrom hit t s n d i ≡ fromChild r
+    next-is = next-first (n - i) i (omega arith) ∙ ap fromChild (sym is)
+
+    pub children-end : r ≡ n → repliesFrom hit t s n d i ≡ []
+    children-end end = next-is ∙ from-none r (omega arith)
+
+    module _ (a : ℕ) (inside : r < n) (so : ChildReply) where
+      with-child : combined (algorithmAt a) (so ∷ repliesFrom hit t s n d i) ≡ combined (algorithmAt a) (so ∷ replyAt hit t s n r ∷ repliesFrom hit t s n d (r + 1))
+      with-child = ap (λ cs. combined (algorithmAt a) (so ∷ cs)) (next-is ∙ here r inside)
+
+      -- it does not match: it may be left out
+      pub child-off : hit (elementAt t r) ≡ false → combined (algorithmAt a) (so ∷ repliesFrom hit t s n d i) ≡ combined (algorithmAt a) (so ∷ repliesFrom hit t s n d (r + 1))
+      child-off off =
+          with-child
+          ∙ ap (λ c. combined (algorithmAt a) (so ∷ c ∷ repliesFrom hit t s n d (r + 1))) (reply-off hit t s n r off)
+          ∙ sym (neutral-next a so (repliesFrom hit t s n d (r + 1)))
+
+      -- what follows it is combined from there
+      pub child-step : (child next : ChildReply) → child ≡ replyAt hit t s n r → next ≡ stepOf (algorithmAt a) so child
+          → combined (algorithmAt a) (so ∷ repliesFrom hit t s n d i) ≡ combined (algorithmAt a) (next ∷ repliesFrom hit t s n d (r + 1))
+      child-step child next decided stepped =
+          with-child
+          ∙ ap (λ c. combined (algorithmAt a) (so ∷ c ∷ repliesFrom hit t s n d (r + 1))) (sym decided)
+          ∙ sym (fold-step a so child (repliesFrom hit t s n d (r + 1)))
+          ∙ ap (λ c. combined (algorithmAt a) (c ∷ repliesFrom hit t s n d (r + 1))) (sym stepped)
+
+-- an algorithm, by the number of its word
 pub algorithm-word : (w : ℕ) → 2 ≤ w → wordAt w ≡ algorithmAt (w - 2)
 algorithm-word zero l = let no : ⊥ = omega arith in absurd no
 algorithm-word (suc zero) l = let no : ⊥ = omega arith in absurd no

@@ -6,11 +6,12 @@ use meaning::Decision::NotApplicable;
 use meaning::Decision::Permit;
 use requests::Request;
 ghost use mathlib.Core.Path.{_≡_};
-ghost use Prim.Native.Nat.{_+_, _*_, _≤_, _<_};
-ghost use lib.ListN.{length, getD};
+ghost use Prim.Native.Nat.{_+_, _≤_, _<_};
+ghost use lib.ListN.{getD};
 ghost use Rattle.meaning.specs.Deciding.{decisionNumber, matches, combined, firstDecision};
 ghost use Rattle.requests.specs.Values.{valuesOf};
-ghost use Rattle.decisions.specs.Table.{algorithmAt, depthOf, left, parentOf, placeOr, Room};
+ghost use Rattle.table.specs.Rows.{algorithmAt};
+ghost use Rattle.table.specs.Tree.{left, Room};
 ghost use Rattle.decisions.specs.Replies.{replyOf, nextOf, stepOf, repliesFrom, replyAt};
 
 // Whether an element's own target matches, and its decision.
@@ -43,28 +44,6 @@ const NEXT: [[[Decision; 4]; 4]; 3] = [
         [Indeterminate, Indeterminate, Indeterminate, Indeterminate],
     ],
 ];
-
-// A number of the table as a usize.
-pub fn wide(x: u16) -> usize
-    ensures { λ r. ⌜ (r ≡ x) × (r < 65536) ⌝ }
-{
-    x as usize
-}
-
-// The number of element i's word, and its depth.
-pub fn word_at(table: &[u16], i: usize) -> usize
-    requires { ⌜ 8 * i + 8 ≤ length (now table) ⌝ }
-    ensures { λ r. ⌜ r ≡ getD (now (table .entry)) (8 * i) 0 ⌝ }
-{
-    wide(table[8 * i])
-}
-
-pub fn depth_at(table: &[u16], i: usize) -> usize
-    requires { ⌜ 8 * i + 8 ≤ length (now table) ⌝ }
-    ensures { λ r. ⌜ (r ≡ depthOf (now (table .entry)) i) × (r < 65536) ⌝ }
-{
-    wide(table[8 * i + 1])
-}
 
 // A decision's number.
 pub fn number(d: Decision) -> usize
@@ -125,16 +104,16 @@ fn step(algorithm: usize, so_far: Reply, child: Reply) -> Reply
 
 // Decides element `at`: behind it stand its children, and what comes after them.
 fn decide_at(table: &[u16], struck: &[u8], n: usize, at: usize, q: Request) -> Reply
-    requires { ⌜ Room (now table) (now struck) n (at + 1) (q .len) ⌝ }
+    requires { ⌜ Room (now table) (now struck) n (at + 1) × (q .len ≤ 6) ⌝ }
     ensures { λ r. ⌜ replyOf r ≡ replyAt (matches (valuesOf q)) (now (table .entry)) (now (struck .entry)) n at ⌝ }
 {
-    if !q.matches(table, 8 * at + 2) {
+    if !table::matches(table, at, q) {
         return Reply {
             matched: false,
             decision: NotApplicable,
         };
     }
-    let word = word_at(table, at);
+    let word = table::word_at(table, at);
     if word == 0 {
         return Reply {
             matched: true,
@@ -147,7 +126,7 @@ fn decide_at(table: &[u16], struck: &[u8], n: usize, at: usize, q: Request) -> R
             decision: Deny,
         };
     }
-    let depth = depth_at(table, at) + 1;
+    let depth = table::depth_at(table, at) + 1;
     let decision = fold(table, struck, n, at + 1, depth, word - 2, q);
     Reply {
         matched: true,
@@ -165,7 +144,7 @@ fn fold(
     algorithm: usize,
     q: Request,
 ) -> Decision
-    requires { ⌜ Room (now table) (now struck) n from (q .len) ⌝ }
+    requires { ⌜ Room (now table) (now struck) n from × (q .len ≤ 6) ⌝ }
     ensures { λ r. ⌜ r ≡ combined (algorithmAt algorithm) (repliesFrom (matches (valuesOf q)) (now (table .entry)) (now (struck .entry)) n depth from) ⌝ }
 {
     let mut so_far = Reply {
@@ -174,17 +153,9 @@ fn fold(
     };
     let mut at = from;
     while at < n {
-        if struck[at] != 0 {
-            at += 1;
-            continue;
-        }
-        let d = depth_at(table, at);
-        if d < depth {
+        at = table::next_child(table, struck, n, at, depth);
+        if at == n {
             return so_far.decision;
-        }
-        if depth < d {
-            at += 1;
-            continue;
         }
         let child = decide_at(table, struck, n, at, q);
         so_far = step(algorithm, so_far, child);
@@ -195,25 +166,9 @@ fn fold(
 
 // The decision of the policy: of its first element, which is not struck.
 pub fn decide(table: &[u16], struck: &[u8], n: usize, q: Request) -> Decision
-    requires { ⌜ Room (now table) (now struck) n 1 (q .len) × (getD (now struck) 0 0 ≡ 0) ⌝ }
+    requires { ⌜ Room (now table) (now struck) n 1 × (q .len ≤ 6) × (getD (now struck) 0 0 ≡ 0) ⌝ }
     ensures { λ r. ⌜ r ≡ firstDecision (matches (valuesOf q)) (left (now (table .entry)) (now (struck .entry)) 0 n) ⌝ }
 {
     let first = decide_at(table, struck, n, 0, q);
     first.decision
-}
-
-// The parent of element i: the nearest earlier element of depth one less, or n where there is none.
-pub fn parent(table: &[u16], n: usize, i: usize) -> usize
-    requires { ⌜ (8 * n ≤ length (now table)) × (i < n) ⌝ }
-    ensures { λ r. ⌜ r ≡ placeOr n (parentOf (now (table .entry)) i) ⌝ }
-{
-    let depth = depth_at(table, i);
-    let mut j = i;
-    while 0 < j {
-        j -= 1;
-        if depth_at(table, j) + 1 == depth {
-            return j;
-        }
-    }
-    n
 }

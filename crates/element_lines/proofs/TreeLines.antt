@@ -20,7 +20,8 @@ use Rattle.meaning.specs.Reading.{depthOf, wordOf, orPermit, masksOf, Sofar, we
 use Rattle.laws.proofs.Bools.{Test, passed, failed, test, or-false}
 use Rattle.laws.proofs.Reading.{Passes, Numbered, lowest-zero}
 use Rattle.laws.proofs.Bounds.{placed-depth, length-padded, masks-count}
-use Rattle.decisions.specs.Table.{wordAt}
+use Rattle.table.specs.Rows.{wordAt, withRow}
+use Rattle.table.proofs.Rows.{row-length}
 use Rattle.syntax.specs.Fields.{numberOfWord}
 use Rattle.layout.specs.Places.{part, kindAt, elementsTo, lineStart}
 use Rattle.layout.specs.Nearest.{Stands}
@@ -75,8 +76,8 @@ module _ (s : Sofar) (fs : List Bytes) (k : Kind) (n : ℕ) (line : TreeLine fs 
         (leb-false 64 (length (s .before)) f5, placed-depth k (depthOf (getD fs 1 [])) (s .before) (not-false (wellPlaced k (depthOf (getD fs 1 [])) (s .before)) placed), f7)
 
 -- equal rows and places, laid
-pub same-row : (table : List ℕ) (i : ℕ) {w w′ d d′ : ℕ} → w ≡ w′ → d ≡ d′ → (masks : List ℕ) → sets table i (w ∷ d ∷ masks) ≡ sets table i (w′ ∷ d′ ∷ masks)
-same-row table i e g masks = ap₂ (λ w d. sets table i (w ∷ d ∷ masks)) e g
+pub same-row : (table : List ℕ) (i : ℕ) {w w′ d d′ : ℕ} → w ≡ w′ → d ≡ d′ → (masks : List ℕ) → withRow table i w d masks ≡ withRow table i w′ d′ masks
+same-row table i e g masks = ap₂ (λ w d. withRow table i w d masks) e g
 
 pub same-end : (places : List ℕ) (i at : ℕ) {name name′ : Bytes} → name ≡ name′ → sets places i (at ∷ (at + 4 + length name) ∷ []) ≡ sets places i (at ∷ (at + 4 + length name′) ∷ [])
 same-end places i at e = ap (λ n. sets places i (at ∷ (at + 4 + length n) ∷ [])) e
@@ -149,7 +150,7 @@ module _ (f table places : List ℕ) (st : State) (end : ℕ) (k : Kind) (n : �
   masks = padded 6 (masksOf (s .attributes) (drop 4 fs))
 
   abbrev table′ : List ℕ
-  table′ = sets table (8 * size) (word ∷ depthOf (getD fs 1 []) ∷ masks)
+  table′ = withRow table size word (depthOf (getD fs 1 [])) masks
 
   abbrev places′ : List ℕ
   places′ = sets places (2 * size) (st .at ∷ name-end ∷ [])
@@ -210,7 +211,7 @@ module _ (f table places : List ℕ) (st : State) (end : ℕ) (k : Kind) (n : �
               few = omega (arith, few);
             };
             rooms = subst⁻¹ (Rooms f table′ places′) (add-one size) (record {
-              rows = omega (arith, length-sets table (8 * size) (word ∷ depthOf (getD fs 1 []) ∷ masks), ready .rooms .rows);
+              rows = omega (arith, row-length table size word (depthOf (getD fs 1 [])) masks, ready .rooms .rows);
               pairs = omega (arith, length-sets places (2 * size) (st .at ∷ name-end ∷ []), ready .rooms .pairs);
               named = named-more f places size (st .at) name-end (omega (arith, ready .rooms .pairs, few)) (omega arith) (omega (arith, named .within, at .ends)) (ready .rooms .named);
             });

@@ -14,6 +14,7 @@ use Rattle.laws.proofs.Bools.{Test, passed, failed, test, contradiction, or-fal
 use Rattle.laws.proofs.Reading.{lowest-zero}
 use Rattle.laws.proofs.Bounds.{filled}
 use Rattle.syntax.specs.Fields.{numberOfWord}
+use Rattle.table.specs.Rows.{withRow}
 use Rattle.layout.specs.Places.{part}
 use Rattle.layout.proofs.Laws.{attributes-length}
 use Rattle.attribute_lines.specs.declared.State.{State}
@@ -74,7 +75,7 @@ module _ (f table places : List ℕ) (st : State) (end : ℕ) (k : Kind) (n : �
 
         -- the line is read
         pub tree-told : (r : State) (t′ p′ : List ℕ) → m .good ≡ true → r ≡ behindTree st end k fs
-            → t′ ≡ sets table (8 * st .tree .len) (numberOfWord (wordOf k (getD fs 3 [])) ∷ depthOf (getD fs 1 []) ∷ m .masks)
+            → t′ ≡ withRow table (st .tree .len) (numberOfWord (wordOf k (getD fs 3 []))) (depthOf (getD fs 1 [])) (m .masks)
             → p′ ≡ sets places (2 * st .tree .len) (st .at ∷ (st .at + 4 + length (getD fs 2 [])) ∷ [])
             → StepIs f table places t′ p′ st end (record { refusal = 0; state = r })
         tree-told r t′ p′ good is-state is-table is-places =

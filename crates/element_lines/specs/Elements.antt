@@ -10,6 +10,7 @@ use Rattle.meaning.specs.declared.Element.{Element}
 use Rattle.meaning.specs.Text.{Bytes, empty, isNone, amongNames}
 use Rattle.meaning.specs.Model.{Attribute, nameOf, padded, space}
 use Rattle.meaning.specs.Reading.{wordOf, elementOf, Sofar, wellPlaced, Tests, badName, depthOf, masksOf, badMasks}
+use Rattle.table.specs.Rows.{Rows}
 use Rattle.layout.specs.declared.Attributes.{Attributes}
 use Rattle.layout.specs.declared.Tree.{Tree}
 use Rattle.layout.specs.Places.{attributesOf, namesTo}
@@ -45,7 +46,7 @@ masksIn attrs ts =
 
 -- room for the element of a tree line of these fields, and the state behind it
 pub record Fits (table places : List ℕ) (st : State) (end : ℕ) (fs : List Bytes) : Type 0 where
-  pub row : 8 * st .tree .len + 8 ≤ length table
+  pub row : Rows table (st .tree .len + 1)
   pub pair : 2 * st .tree .len + 2 ≤ length places
   pub few : st .tree .len < 64
   pub shallow : depthOf (getD fs 1 []) ≤ 7

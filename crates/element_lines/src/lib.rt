@@ -5,9 +5,9 @@ use attribute_lines::State;
 use attribute_lines::Step;
 use heads::FieldEnds;
 use layout::Attributes;
-use layout::Row;
 use layout::Tree;
 use meaning::Kind;
+use table::Row;
 ghost use mathlib.Core.Path.{_≡_};
 ghost use mathlib.Core.List.{[], _∷_};
 ghost use Prim.Native.Nat.{ℕ, _+_, _*_, _≤_, _<_};
@@ -15,6 +15,7 @@ ghost use lib.ListN.{length, drop, getD};
 ghost use lib.Seq.{sets};
 ghost use Rattle.meaning.specs.Text.{cut, tab};
 ghost use Rattle.meaning.specs.Reading.{depthOf, wordOf, Sofar, lowest};
+ghost use Rattle.table.specs.Rows.{withRow};
 ghost use Rattle.layout.specs.Places.{part, attributesOf, AllStanding, Named};
 ghost use Rattle.syntax.specs.Fields.{numberOfWord};
 ghost use Rattle.element_lines.specs.Headed.{Headed};
@@ -110,7 +111,7 @@ fn lay_line(
 ) -> State
     requires { ⌜ Fits (now table) (now places) st end (cut tab (now line)) × Headed (now line) e ⌝ }
     ensures { λ r. ⌜ r ≡ behindTree st end kind (cut tab (now (line .entry))) ⌝ }
-    ensures { λ r. ⌜ now (table .exit) ≡ sets (now (table .entry)) (8 * st .tree .len) (numberOfWord (wordOf kind (getD (cut tab (now (line .entry))) 3 [])) ∷ depthOf (getD (cut tab (now (line .entry))) 1 []) ∷ masks) ⌝ }
+    ensures { λ r. ⌜ now (table .exit) ≡ withRow (now (table .entry)) (st .tree .len) (numberOfWord (wordOf kind (getD (cut tab (now (line .entry))) 3 []))) (depthOf (getD (cut tab (now (line .entry))) 1 [])) masks ⌝ }
     ensures { λ r. ⌜ now (places .exit) ≡ sets (now (places .entry)) (2 * st .tree .len) (st .at ∷ (st .at + 4 + length (getD (cut tab (now (line .entry))) 2 [])) ∷ []) ⌝ }
 {
     let at = st.at;

@@ -12,6 +12,7 @@ use Rattle.meaning.specs.Model.{Result, refused, given, _then_}
 use Rattle.meaning.specs.Reading.{Line, attributeLine, treeLine, otherLine, lineOf, Sofar, wrongFields, readText, short}
 use Rattle.meaning.specs.Writing.{headerTests}
 use Rattle.meaning.specs.Claims.Texts.{All}
+use Rattle.table.specs.Rows.{Rows}
 use Rattle.layout.specs.Places.{part}
 use Rattle.attribute_lines.specs.declared.State.{State}
 use Rattle.attribute_lines.specs.Sofar.{refusalBy}
@@ -27,7 +28,7 @@ use Rattle.header.proofs.HeaderLines.{among-next}
 abbrev pub readHeader : Bytes → Result Sofar
 readHeader h = short h then (readText headerTests)
 
-blank-room : 512 ≤ length blank
+blank-room : Rows blank 64
 unfolding blank
 blank-room = omega (arith, length-replicate {A = ℕ} 512 0)
 

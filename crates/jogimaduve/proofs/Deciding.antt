@@ -14,7 +14,7 @@ use Rattle.meaning.specs.Operations.{answered, decideAnswer}
 use Rattle.laws.proofs.Bools.{contradiction}
 use Rattle.requests.specs.Values.{valuesOf}
 use Rattle.requests.proofs.Laid.{values-with}
-use Rattle.decisions.specs.Table.{left}
+use Rattle.table.specs.Tree.{left}
 use Rattle.layout.specs.Places.{attributesOf}
 use Rattle.layout.proofs.Laws.{decided}
 use Rattle.request_lines.specs.declared.Asked.{Asked}

@@ -11,12 +11,12 @@ use Rattle.meaning.specs.Reading.{read}
 use Rattle.meaning.specs.Report.{report, fitted, reportFile}
 use Rattle.meaning.specs.Operations.{answered, lent, reportAnswer, reportLent}
 use Rattle.laws.proofs.Bools.{Test, passed, failed, test}
-use Rattle.outcomes.specs.declared.Shape.{Shape}
-use Rattle.report_lines.specs.Fitted.{Fitted}
-use Rattle.reporting.specs.Reported.{Reported}
+use Rattle.table.specs.declared.Shape.{Shape}
 use Rattle.reader.specs.declared.Reading.{Reading}
 use Rattle.reader.specs.Told.{ReadPolicy, ReadAs}
 use Rattle.reader.proofs.FileRead.{file-refused}
+use Rattle.report_lines.specs.Fitted.{Fitted}
+use Rattle.reporting.specs.Reported.{Reported}
 use Rattle.jogimaduve.specs.Told.{told, textTold, shapeOf}
 use Rattle.jogimaduve.proofs.Answering.{text-told}
 use Rattle.jogimaduve.proofs.Shaping.{sizes-are}

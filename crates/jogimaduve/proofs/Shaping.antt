@@ -11,18 +11,19 @@ use Rattle.meaning.specs.Reading.{read}
 use Rattle.laws.proofs.Bounds.{bounded}
 use Rattle.laws.proofs.Requests.{product-pos}
 use Rattle.laws.proofs.Answers.{positive}
-use Rattle.decisions.specs.Table.{Leaves}
-use Rattle.decisions.proofs.Leaves.{none-struck}
-use Rattle.outcomes.specs.declared.Shape.{Shape}
-use Rattle.outcomes.specs.Ready.{countsOf, Ready}
+use Rattle.table.specs.Tree.{Leaves}
+use Rattle.table.specs.declared.Shape.{Shape}
+use Rattle.table.specs.Shape.{countsOf}
+use Rattle.table.proofs.Children.{none-struck}
+use Rattle.outcomes.specs.Ready.{Ready}
 use Rattle.layout.specs.Places.{lineStart}
 use Rattle.layout.proofs.Laws.{attributes-length}
 use Rattle.layout.proofs.Counts.{counts-are}
-use Rattle.trimmed_text.specs.Copied.{Copies}
-use Rattle.trimmed_text.proofs.Tabled.{root-word, leaves as rules-are-leaves}
 use Rattle.reader.specs.declared.Reading.{Reading}
 use Rattle.reader.specs.Told.{ReadPolicy}
 use Rattle.reader.proofs.FileRead.{elements-are, few}
+use Rattle.trimmed_text.specs.Copied.{Copies}
+use Rattle.trimmed_text.proofs.Tabled.{root-word, leaves as rules-are-leaves}
 use Rattle.jogimaduve.specs.Told.{shapeOf}
 
 -- Lines start one behind the other

@@ -12,9 +12,9 @@ use Rattle.meaning.specs.Trimming.{trimmed}
 use Rattle.meaning.specs.Report.{fitted, trimFile}
 use Rattle.meaning.specs.Operations.{answered, trimAnswer, trimLent}
 use Rattle.laws.proofs.Reading.{accepted}
-use Rattle.outcomes.specs.declared.Shape.{Shape}
+use Rattle.table.specs.declared.Shape.{Shape}
 use Rattle.trimming.specs.Decided as table-level
-use Rattle.outcomes.specs.Ready.{countsOf}
+use Rattle.table.specs.Shape.{countsOf}
 use Rattle.trimmed_text.specs.Flags.{textLeft}
 use Rattle.trimmed_text.specs.Copied.{copied}
 use Rattle.trimmed_text.proofs.Trimmed.{trimmed-flags}

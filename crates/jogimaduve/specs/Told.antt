@@ -3,7 +3,7 @@ use Prim.Native.Nat.{ℕ}
 use mathlib.Core.Bool.{cond}
 use lib.Dec.{ltb}
 use Rattle.meaning.specs.declared.Answer.{Answer}
-use Rattle.outcomes.specs.declared.Shape.{Shape}
+use Rattle.table.specs.declared.Shape.{Shape}
 use Rattle.reader.specs.declared.Reading.{Reading}
 
 abbrev pub told : ℕ → ℕ → Answer

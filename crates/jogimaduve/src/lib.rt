@@ -1,12 +1,13 @@
 // The operations for C callers.
 use meaning::Answer;
-use outcomes::Shape;
 use reader::Reading;
+use table::Shape;
 ghost use mathlib.Core.Path.{_≡_};
 ghost use Prim.Native.Nat.{_<_};
 ghost use Rattle.meaning.specs.Operations.{decideAnswer, trimAnswer, trimLent, reportAnswer, reportLent};
+ghost use Rattle.table.specs.Shape.{countsOf};
+ghost use Rattle.outcomes.specs.Ready.{Ready};
 ghost use Rattle.trimming.specs.Decided.{trimmingAt};
-ghost use Rattle.outcomes.specs.Ready.{countsOf, Ready};
 ghost use Rattle.jogimaduve.specs.Told.{textTold, shapeOf};
 
 // The shape of the policy that was read.
@@ -74,7 +75,7 @@ fn strike(table: &[u16], struck: &mut [u8], shape: Shape)
     ensures { λ _. ⌜ now (struck .exit) ≡ trimmingAt (now (table .entry)) (shape .n) (countsOf shape) (shape .n) (now (struck .entry)) .flags ⌝ }
 {
     let mut hits = [0u64; 4096];
-    outcomes::match_elements(table, shape, &mut hits);
+    matching::match_all(table, shape, &mut hits);
     let mut told = [0u64; 128];
     outcomes::decide_all(table, struck, &hits, shape, &mut told);
     let mut order = [0u8; 64];

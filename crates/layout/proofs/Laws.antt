@@ -2,19 +2,21 @@
 use Prim.Native.Nat.{ℕ, zero, suc, _+_, _-_, _*_, _≤_, _<_}
 use mathlib.Core.Path.{_≡_, refl, sym, ap, _∙_}
 use mathlib.Core.Logic.{⊎-elim}
-use mathlib.Core.List.{List, [], _∷_, _++_, map, append-assoc, reverse, reverse-cons, map-append}
+use mathlib.Core.List.{List, [], _∷_, _++_, map, reverse, reverse-cons, map-append}
 use native.Mathlib.Nat.{eq-or-lt-of-le}
 use native.Mathlib.Numerals.{add-one}
 use native.Mathlib.Omega.{arith}
-use lib.ListN.{length, take, drop, getD, set, length-set, replicate, getD-replicate, List·getD-append, take-append-drop, length-drop}
-use lib.Seq.{sets, sets-eq, getD-set-same, getD-set-other, getD-append-seam, getD-append-add, take-append-le, take-append-seam, take-at, drop-append-le, drop-append-add, length-take-le, length-sets}
+use lib.ListN.{length, getD, set, length-set, replicate, getD-replicate}
+use lib.Seq.{sets, getD-set-same, getD-set-other, take-append-seam, length-sets}
 use borrow.Author.Tests.{eq-eqb}
 use Rattle.meaning.specs.Text.{Bytes}
 use Rattle.meaning.specs.Model.{padded, nameOf, Policy}
 use Rattle.meaning.specs.Deciding.{matches, childReplies, firstDecision, decide}
 use Rattle.meaning.specs.Claims.Texts.{All}
-use Rattle.decisions.specs.Table.{wordAt, elementAt, left, before}
 use Rattle.laws.proofs.Types.{rule, Element}
+use Rattle.table.specs.Rows.{wordAt, elementAt, Rows, withRow}
+use Rattle.table.specs.Tree.{left, before}
+use Rattle.table.proofs.Rows.{row-here, row-other}
 use Rattle.layout.specs.declared.Attributes.{Attributes}
 use Rattle.layout.specs.Places.{part, attributeAt, attributesFrom, attributesOf, kindAt, startOf, nameIn, elementIn, elementsTo, namesTo, Named, Lined}
 use Rattle.layout.specs.Nearest.{nearest, Stands}
@@ -30,65 +32,6 @@ rowElement f start end word depth masks =
       word = wordAt word;
       masks = masks;
     }
-
--- Elements look at their own rows only
-module _ (f : Bytes) (t x p y : List ℕ) where
-  row-front : (i : ℕ) → 8 * i + 8 ≤ length t → 2 * i + 2 ≤ length p → elementIn f (t ++ x) (p ++ y) i ≡ elementIn f t p i
-  unfolding elementIn elementAt
-  row-front i rows places =
-      rw (
-        List·getD-append p y 0 (2 * i) (omega arith),
-        List·getD-append p y 0 (2 * i + 1) (omega arith),
-        List·getD-append t x 0 (8 * i) (omega arith),
-        List·getD-append t x 0 (8 * i + 1) (omega arith),
-        drop-append-le (8 * i + 2) t x (omega arith),
-        take-append-le 6 (drop (8 * i + 2) t) x (omega (arith, length-drop (8 * i + 2) t)),
-      )
-
-  elements-front : (n : ℕ) → 8 * n ≤ length t → 2 * n ≤ length p → elementsTo f (t ++ x) (p ++ y) n ≡ elementsTo f t p n
-  unfolding elementsTo
-  elements-front zero rows places = refl
-  elements-front (suc n) rows places = rw (row-front n (omega arith) (omega arith), elements-front n (omega arith) (omega arith))
-
--- the row behind others
-module _ (f : Bytes) (t x p y : List ℕ) (n start end word depth : ℕ) (masks : List ℕ) where
-  row-behind : length t ≡ 8 * n → length p ≡ 2 * n → length masks ≡ 6 → elementIn f (t ++ word ∷ depth ∷ (masks ++ x)) (p ++ start ∷ end ∷ y) n ≡ rowElement f start end word depth masks
-  unfolding elementIn elementAt
-  row-behind rows places six =
-      rw (
-        ← rows,
-        ← places,
-        getD-append-seam p start (end ∷ y) 0,
-        getD-append-add p (start ∷ end ∷ y) 1 0,
-        getD-append-seam t word (depth ∷ (masks ++ x)) 0,
-        getD-append-add t (word ∷ depth ∷ (masks ++ x)) 1 0,
-        drop-append-add t (word ∷ depth ∷ (masks ++ x)) 2,
-        take-at masks x 6 six,
-      )
-
--- One element more, put where there is room
-module _ (f : Bytes) (table places : List ℕ) (n start end word depth : ℕ) (masks : List ℕ) where
-  pub elements-more : 8 * n + 8 ≤ length table → 2 * n + 2 ≤ length places → length masks ≡ 6
-      → elementsTo f (sets table (8 * n) (word ∷ depth ∷ masks)) (sets places (2 * n) (start ∷ end ∷ [])) (suc n) ≡ rowElement f start end word depth masks ∷ elementsTo f table places n
-  unfolding elementsTo
-  elements-more rows room six =
-      let t = take (8 * n) table in
-      let p = take (2 * n) places in
-      let t-length : length t ≡ 8 * n = length-take-le (8 * n) table (omega arith) in
-      let p-length : length p ≡ 2 * n = length-take-le (2 * n) places (omega arith) in
-      let x = drop (8 * n + 8) table in
-      let y = drop (2 * n + 2) places in
-      let eight : length (word ∷ depth ∷ masks) ≡ 8 = ap (λ m. suc (suc m)) six in
-      let new-table : sets table (8 * n) (word ∷ depth ∷ masks) ≡ t ++ word ∷ depth ∷ (masks ++ x) = laid table (word ∷ depth ∷ masks) (8 * n) 8 eight rows in
-      let new-places : sets places (2 * n) (start ∷ end ∷ []) ≡ p ++ start ∷ end ∷ y = laid places (start ∷ end ∷ []) (2 * n) 2 refl room in
-      ap (λ l. elementsTo f l (sets places (2 * n) (start ∷ end ∷ [])) (suc n)) new-table
-      ∙ ap (λ l. elementsTo f (t ++ word ∷ depth ∷ (masks ++ x)) l (suc n)) new-places
-      ∙ rw (row-behind f t x p y n start end word depth masks t-length p-length six, elements-front f t (word ∷ depth ∷ (masks ++ x)) p (start ∷ end ∷ y) n (omega arith) (omega arith))
-      (ap (λ l. rowElement f start end word depth masks ∷ l) (sym (elements-front f t (drop (8 * n) table) p (drop (2 * n) places) n (omega arith) (omega arith))
-      ∙ rw (take-append-drop, take-append-drop)))
-    where
-      laid : (l vs : List ℕ) (at size : ℕ) → length vs ≡ size → at + size ≤ length l → sets l at vs ≡ take at l ++ (vs ++ drop (at + size) l)
-      laid l vs at size e h = rw (← e) (sets-eq vs l at (rw e h) ∙ append-assoc (take at l) vs (drop (at + length vs) l))
 
 -- One name more that lies in the file, and one line more
 module _ (f : Bytes) (places : List ℕ) (n start end : ℕ) (room : 2 * n + 2 ≤ length places) where
@@ -124,6 +67,31 @@ module _ (f : Bytes) (places : List ℕ) (n start end : ℕ) (room : 2 * n + 2 �
         next = behind ∙ ap lines (omega arith);
         starts = λ i l. ⊎-elim (λ (e : i ≡ n). rw (e, start-new) (lined .next)) (λ (below : i < n). start-old i below ∙ lined .starts i below) (eq-or-lt-of-le (last i l));
       }
+
+-- One element more, put where there is room
+module _ (f : Bytes) (table places : List ℕ) (n start end word depth : ℕ) (masks : List ℕ) (rows : Rows table (n + 1)) (room : 2 * n + 2 ≤ length places) (six : length masks ≡ 6) where
+  abbrev new-table : List ℕ
+  new-table = withRow table n word depth masks
+
+  abbrev new-places : List ℕ
+  new-places = sets places (2 * n) (start ∷ end ∷ [])
+
+  element-new : elementIn f new-table new-places n ≡ rowElement f start end word depth masks
+  unfolding elementIn
+  element-new = rw (start-new f places n start end room, end-new f places n start end room, row-here table n word depth masks rows six)
+
+  element-old : (i : ℕ) → i < n → elementIn f new-table new-places i ≡ elementIn f table places i
+  unfolding elementIn
+  element-old i l = rw (start-old f places n start end room i l, end-old f places n start end room i l, row-other table n word depth masks rows six i l)
+
+  elements-old : (k : ℕ) → k ≤ n → elementsTo f new-table new-places k ≡ elementsTo f table places k
+  unfolding elementsTo
+  elements-old zero l = refl
+  elements-old (suc k) l = rw (element-old k (omega arith), elements-old k (omega arith))
+
+  pub elements-more : elementsTo f new-table new-places (suc n) ≡ rowElement f start end word depth masks ∷ elementsTo f table places n
+  unfolding elementsTo
+  elements-more = rw (element-new, elements-old n (omega arith))
 
 -- The elements: how many there are, and what holds of all holds of each
 module _ (f : Bytes) (table places : List ℕ) where

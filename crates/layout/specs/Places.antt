@@ -10,7 +10,7 @@ use Rattle.meaning.specs.declared.Kind.the-variants.{Set, Policy, Rule}
 use Rattle.meaning.specs.declared.Element.{Element}
 use Rattle.meaning.specs.Text.{Bytes, cut, tab, newline}
 use Rattle.meaning.specs.Model.{Attribute, padded}
-use Rattle.decisions.specs.Table.{elementAt}
+use Rattle.table.specs.Rows.{elementAt}
 use Rattle.layout.specs.declared.Attributes.{Attributes}
 
 -- the bytes from a up to b

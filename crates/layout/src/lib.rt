@@ -1,5 +1,6 @@
 // How a file's attributes and elements lie: places in the file, the table of the elements, and what placing the next needs.
 use meaning::Kind;
+use table::Row;
 ghost use mathlib.Core.Path.{_≡_};
 ghost use mathlib.Core.List.{List, [], _∷_, map};
 ghost use Prim.Native.Nat.{_+_, _*_, _≤_, _<_};
@@ -8,6 +9,7 @@ ghost use lib.Seq.{sets};
 ghost use Rattle.meaning.specs.declared.Element.{Element};
 ghost use Rattle.meaning.specs.Text.{amongNames};
 ghost use Rattle.meaning.specs.Reading.{wellPlaced};
+ghost use Rattle.table.specs.Rows.{Rows, withRow};
 ghost use Rattle.layout.specs.Places.{attributesOf, AllStanding, noAttributes, added, namesTo, Named};
 ghost use Rattle.layout.specs.Nearest.{kindNumber, parentNumber, grown, Stands};
 
@@ -25,13 +27,6 @@ pub struct Tree {
     pub len: usize,
     pub depth: usize,
     pub kinds: [usize; 8],
-}
-
-// An element's row of the table: its word's number, its depth and its masks.
-pub struct Row {
-    pub word: u16,
-    pub depth: u16,
-    pub masks: [u16; 6],
 }
 
 // No attribute.
@@ -125,18 +120,11 @@ pub fn put_element(
     start: usize,
     name_end: usize,
 )
-    requires { ⌜ (8 * i + 8 ≤ length (now table)) × (2 * i + 2 ≤ length (now places)) ⌝ }
-    ensures { λ _. ⌜ now (table .exit) ≡ sets (now (table .entry)) (8 * i) (row .word ∷ row .depth ∷ row .masks) ⌝ }
+    requires { ⌜ Rows (now table) (i + 1) × (2 * i + 2 ≤ length (now places)) ⌝ }
+    ensures { λ _. ⌜ now (table .exit) ≡ withRow (now (table .entry)) i (row .word) (row .depth) (row .masks) ⌝ }
     ensures { λ _. ⌜ now (places .exit) ≡ sets (now (places .entry)) (2 * i) (start ∷ «name_end» ∷ []) ⌝ }
 {
-    let masks = row.masks;
-    table[8 * i] = row.word;
-    table[8 * i + 1] = row.depth;
-    let mut m = 0;
-    while m < 6 {
-        table[8 * i + 2 + m] = masks[m];
-        m += 1;
-    }
+    table::put_row(table, i, row);
     places[2 * i] = start;
     places[2 * i + 1] = name_end;
 }

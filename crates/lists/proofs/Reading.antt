@@ -17,7 +17,7 @@ use Rattle.meaning.specs.Reading.{read}
 use Rattle.meaning.specs.Writing.{listFile}
 use Rattle.meaning.specs.Operations.{answered, lent, readLent}
 use Rattle.laws.proofs.Bools.{Test, passed, failed, test}
-use Rattle.decisions.specs.Table.{elementAt}
+use Rattle.table.specs.Rows.{elementAt}
 use Rattle.layout.specs.Places.{elementIn, elementsTo}
 use Rattle.layout.proofs.Laws.{elements-length}
 use Rattle.reader.specs.declared.Reading.{Reading}

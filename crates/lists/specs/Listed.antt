@@ -10,14 +10,14 @@ use Rattle.meaning.specs.Text.{Bytes}
 use Rattle.meaning.specs.Model.{Result, refused, given}
 use Rattle.meaning.specs.Writing.{listFile}
 use Rattle.meaning.specs.Operations.{answered}
-use Rattle.decisions.specs.Table.{depthOf}
+use Rattle.table.specs.Rows.{Rows, depthOf}
 use Rattle.layout.specs.Places.{Naming}
 use Rattle.elements.specs.Listed.{elementsOf}
 use Rattle.lists.specs.declared.Listing.{Listing}
 
 -- what the table and the places hold of n elements: a row and a name each, and a depth that is no number of a refused file
 pub record Filled (f : Bytes) (table places : List ℕ) (n : ℕ) : Type 0 where
-  pub rows : 8 * n ≤ length table
+  pub rows : Rows table n
   pub naming : Naming f places n
   pub shallow : (i : ℕ) → i < n → depthOf table i ≤ 7
 

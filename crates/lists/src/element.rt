@@ -4,9 +4,9 @@ use meaning::Kind;
 use meaning::Word;
 ghost use mathlib.Core.Path.{_≡_};
 ghost use Prim.Native.Nat.{_+_, _*_, _≤_};
-ghost use lib.ListN.{length, take, drop};
+ghost use lib.ListN.{length};
 ghost use Rattle.meaning.specs.Model.{padded};
-ghost use Rattle.decisions.specs.Table.{wordAt, depthOf};
+ghost use Rattle.table.specs.Rows.{wordAt, depthOf, Rows};
 ghost use Rattle.layout.specs.Places.{kindAt, elementIn, NameAt};
 
 // The kind of a line that starts with the byte.
@@ -23,7 +23,7 @@ fn kind_at(b: u8) -> Kind
 }
 
 // The word of that number.
-fn word_at(number: u16) -> Word
+fn word_of(number: usize) -> Word
     ensures { λ r. ⌜ r ≡ wordAt number ⌝ }
 {
     match number {
@@ -50,23 +50,9 @@ fn padded_name(name: &[u8]) -> [u8; 16]
     all
 }
 
-// The six masks from `at` on.
-fn masks_at(table: &[u16], at: usize) -> [u16; 6]
-    requires { ⌜ at + 6 ≤ length (now table) ⌝ }
-    ensures { λ r. ⌜ r ≡ take 6 (drop at (now (table .entry))) ⌝ }
-{
-    let mut masks = [0u16; 6];
-    let mut i = 0;
-    while i < 6 {
-        masks[i] = table[at + i];
-        i += 1;
-    }
-    masks
-}
-
 // Element i.
 pub(crate) fn element_at(file: &[u8], table: &[u16], places: &[usize], i: usize) -> Element
-    requires { ⌜ NameAt (now file) (now places) i × (8 * i + 8 ≤ length (now table)) × (depthOf (now table) i ≤ 7) ⌝ }
+    requires { ⌜ NameAt (now file) (now places) i × Rows (now table) (i + 1) × (depthOf (now table) i ≤ 7) ⌝ }
     ensures { λ r. ⌜ r ≡ elementIn (now (file .entry)) (now (table .entry)) (now (places .entry)) i ⌝ }
 {
     let line = places[2 * i];
@@ -74,11 +60,11 @@ pub(crate) fn element_at(file: &[u8], table: &[u16], places: &[usize], i: usize)
     let end = places[2 * i + 1];
     let kind = kind_at(file[line]);
     let name = padded_name(&file[start..end]);
-    let word = word_at(table[8 * i]);
-    let masks = masks_at(table, 8 * i + 2);
+    let word = word_of(table::word_at(table, i));
+    let masks = table::masks_at(table, i);
     Element {
         kind,
-        depth: table[8 * i + 1] as u8,
+        depth: table::depth_at(table, i) as u8,
         name,
         len: (end - start) as u8,
         word,

@@ -6,8 +6,8 @@ use native.Mathlib.Omega.{arith}
 use mathlib.Core.Bool.{Bool, true, false, _&&_}
 use mathlib.Core.List.{List, [], _∷_}
 use lib.Dec.{eqb}
-use lib.ListN.{length, take, drop, getD, set, replicate, getD-replicate, length-drop}
-use lib.Seq.{getD-drop, getD-set-other}
+use lib.ListN.{length, take, drop, getD, set, replicate, getD-replicate}
+use lib.Seq.{getD-set-other, drop-cons}
 use borrow.Author.Tests.{eqb-true, eqb-false}
 use Rattle.meaning.specs.Model.{product}
 use Rattle.meaning.specs.Deciding.{bit, within, requestOf, matches}
@@ -15,7 +15,7 @@ use Rattle.laws.proofs.Bits.{bit-zero, bit-above}
 use Rattle.laws.proofs.Bools.{Test, passed, failed, test}
 use Rattle.laws.proofs.Requests.{Positive, product-pos}
 use Rattle.requests.proofs.Laws.{rest-cons, rest-none, counts-positive}
-use Rattle.decisions.specs.Table.{elementAt}
+use Rattle.table.specs.Rows.{elementAt, masksAt}
 use Rattle.matching.specs.Hits.{Hits}
 use Rattle.matching.specs.Planes.{laid, Clear, Plane}
 use Rattle.matching.proofs.Putting.{Put}
@@ -42,10 +42,10 @@ one-clear m a b = go (test (eqb (m / 64) 0))
         rw (getD-set-other {A = ℕ} (replicate 64 0) 0 (m / 64) 1 0 (eqb-false (m / 64) 0 t), getD-replicate {A = ℕ} 64 (m / 64) 0 0 (omega arith))
         (bit-zero (m % 64))
 
-module _ (masks : List ℕ) (at : ℕ) (counts : List ℕ) (len : ℕ) where
+module _ (masks counts : List ℕ) (len : ℕ) where
   -- request m of the attributes from place a on matches their masks
   abbrev pub passes : ℕ → ℕ → Bool
-  passes a m = within (drop a (take 6 (drop at masks))) (requestOf (drop a (take len counts)) m)
+  passes a m = within (drop a masks) (requestOf (drop a (take len counts)) m)
 
   -- the attributes from place a on are looked at
   pub record Looks (plane : List ℕ) (size a : ℕ) : Type 0 where
@@ -53,7 +53,7 @@ module _ (masks : List ℕ) (at : ℕ) (counts : List ℕ) (len : ℕ) where
     pub all : size ≡ product (drop a (take len counts))
     pub bits : Plane plane size (passes a)
 
-  module _ (room : at + 6 ≤ length masks) (short : len ≤ 6) (six : length counts ≡ 6) where
+  module _ (room : length masks ≡ 6) (short : len ≤ 6) (six : length counts ≡ 6) where
     pub looks-none : Looks one 1 len
     looks-none =
         let none = rest-none len len counts (omega arith) refl in
@@ -75,10 +75,8 @@ module _ (masks : List ℕ) (at : ℕ) (counts : List ℕ) (len : ℕ) where
       counts-at : drop (a - 1) (take len counts) ≡ getD counts (a - 1) 0 ∷ drop a (take len counts)
       counts-at = rw back at (rest-cons len (a - 1) counts (omega (arith, so-far .few)) (omega arith))
 
-      masks-at : drop (a - 1) (take 6 (drop at masks)) ≡ getD masks (at + (a - 1)) 0 ∷ drop a (take 6 (drop at masks))
-      masks-at =
-          let enough : 6 ≤ length (drop at masks) = simp length-drop (omega arith) in
-          rw (back, getD-drop) at (rest-cons 6 (a - 1) (drop at masks) (omega (arith, so-far .few)) enough)
+      masks-at : drop (a - 1) masks ≡ getD masks (a - 1) 0 ∷ drop a masks
+      masks-at = let next : suc (a - 1) ≡ a = omega arith in rw next at (drop-cons masks (a - 1) 0 (omega (arith, so-far .few)))
 
       next-size : getD counts (a - 1) 0 * size ≡ product (drop (a - 1) (take len counts))
       next-size = rw (so-far .all, counts-at)
@@ -89,7 +87,7 @@ module _ (masks : List ℕ) (at : ℕ) (counts : List ℕ) (len : ℕ) where
       pub next-small : getD counts (a - 1) 0 * size ≤ 4096
       next-small = rw next-size (le-trans (later (a - 1) (take len counts) (counts-positive (take len counts) some) .1) small)
 
-      pub looks-next : (new : List ℕ) → Plane new (getD counts (a - 1) 0 * size) (spreads plane size (getD masks (at + (a - 1)) 0)) → Looks new (getD counts (a - 1) 0 * size) (a - 1)
+      pub looks-next : (new : List ℕ) → Plane new (getD counts (a - 1) 0 * size) (spreads plane size (getD masks (a - 1) 0)) → Looks new (getD counts (a - 1) 0 * size) (a - 1)
       looks-next new spread =
           record {
             few = omega (arith, so-far .few);
@@ -97,23 +95,23 @@ module _ (masks : List ℕ) (at : ℕ) (counts : List ℕ) (len : ℕ) where
             bits = record { bits = λ m l. spread .bits m l ∙ one-more m; clear = spread .clear };
           }
         where
-          one-more : (m : ℕ) → spreads plane size (getD masks (at + (a - 1)) 0) m ≡ passes (a - 1) m
+          one-more : (m : ℕ) → spreads plane size (getD masks (a - 1) 0) m ≡ passes (a - 1) m
           one-more m =
-              ap (λ b. bit (getD masks (at + (a - 1)) 0) (m / size) && b) (so-far .bits .bits (m % size) (mod-lt m size-some))
+              ap (λ b. bit (getD masks (a - 1) 0) (m / size) && b) (so-far .bits .bits (m % size) (mod-lt m size-some))
               ∙ rw (counts-at, masks-at, so-far .all)
 
 module _ (t counts : List ℕ) where
   pub hits-none : (hits : List ℕ) → Hits t 0 counts hits
   hits-none hits i m l k = absurd (omega arith)
 
-  pub hits-next : {i words : ℕ} {plane old new : List ℕ} → words ≤ 64 → product counts ≤ 64 * words → Hits t i counts old
-      → ((m : ℕ) → m < product counts → laid plane m ≡ within (take 6 (drop (8 * i + 2) t)) (requestOf counts m))
+  pub hits-next : {i words : ℕ} {masks plane old new : List ℕ} → words ≤ 64 → product counts ≤ 64 * words → Hits t i counts old → masks ≡ masksAt t i
+      → ((m : ℕ) → m < product counts → laid plane m ≡ within masks (requestOf counts m))
       → Put plane words (64 * i) old new → Hits t (i + 1) counts new
   unfolding elementAt
-  hits-next {i} {words} {plane} {old} {new} few enough so-far here copied j m l k = go (test (eqb j i))
+  hits-next {i} {words} {masks} {plane} {old} {new} few enough so-far own here copied j m l k = go (test (eqb j i))
     where
       go : Test (eqb j i) → bit (getD new (64 * j + m / 64) 0) (m % 64) ≡ matches (requestOf counts m) (elementAt t j)
-      go (passed e) = rw (eqb-true j i e) (ap (λ x. bit x (m % 64)) (copied .here (m / 64) (omega arith)) ∙ here m k)
+      go (passed e) = rw (eqb-true j i e) (ap (λ x. bit x (m % 64)) (copied .here (m / 64) (omega arith)) ∙ here m k ∙ ap (λ ms. within ms (requestOf counts m)) own)
       go (failed e) =
           let other = eqb-false j i e in
           ap (λ x. bit x (m % 64)) (copied .others (64 * j + m / 64) (λ a. omega (arith, other))) ∙ so-far j m (omega (arith, other)) k

@@ -3,10 +3,12 @@ use Prim.Native.Nat.{ℕ, _+_, _*_, _/_, _%_, _≤_, _<_}
 use mathlib.Core.Path.{_≡_}
 use mathlib.Core.Bool.{Bool, false}
 use mathlib.Core.List.{List}
-use lib.ListN.{length, take, getD}
+use lib.ListN.{length, getD}
 use Rattle.meaning.specs.Model.{product}
 use Rattle.meaning.specs.Deciding.{bit, requestOf, matches}
-use Rattle.decisions.specs.Table.{elementAt}
+use Rattle.table.specs.Rows.{elementAt, Rows}
+use Rattle.table.specs.declared.Shape.{Shape}
+use Rattle.table.specs.Shape.{countsOf}
 
 -- rows of 64 words: row i's bit for request m is bit m % 64 of its word m / 64
 abbrev pub bitOf : List ℕ → ℕ → ℕ → Bool
@@ -31,11 +33,17 @@ abbrev pub Hits : List ℕ → ℕ → List ℕ → List ℕ → Type 0
 Hits t n counts hits = (i m : ℕ) → i < n → m < product counts → bitOf hits i m ≡ matches (requestOf counts m) (elementAt t i)
 
 -- a table of at most 64 elements, at most six attributes and 4,096 requests, and room for a bit of each element and request
-pub record Matchable (t : List ℕ) (n : ℕ) (counts : List ℕ) (len space : ℕ) (hits : List ℕ) : Type 0 where
-  pub rows : 8 * n ≤ length t
-  pub few : n ≤ 64
-  pub attributes : len ≤ 6
-  pub all : product (take len counts) ≡ space
-  pub positive : 0 < space
-  pub small : space ≤ 4096
+pub record Matchable (t : List ℕ) (s : Shape) (hits : List ℕ) : Type 0 where
+  pub rows : Rows t (s .n)
+  pub few : s .n ≤ 64
+  pub attributes : s .len ≤ 6
+  pub all : product (countsOf s) ≡ s .space
+  pub positive : 0 < s .space
+  pub small : s .space ≤ 4096
   pub room : 4096 ≤ length hits
+
+-- the words that tell which requests match each element's own target, and nothing else
+pub record Matched (t hits : List ℕ) (s : Shape) : Type 0 where
+  pub room : 64 * s .n ≤ length hits
+  pub hits-are : Hits t (s .n) (countsOf s) hits
+  pub clear : ClearFrom (s .n) (s .space) hits

@@ -1,13 +1,14 @@
 // Which requests match each element's own target, 64 requests in a word.
+use table::Shape;
 ghost use mathlib.Core.Path.{_≡_};
 ghost use mathlib.Core.Bool.{_&&_, _||_};
 ghost use Prim.Native.Nat.{ℕ, _+_, _*_, _/_, _%_, _≤_, _<_};
-ghost use lib.ListN.{length, take, drop};
+ghost use lib.ListN.{length, take};
 ghost use lib.Seq.{paste};
 ghost use Rattle.meaning.specs.Model.{product};
 ghost use Rattle.meaning.specs.Deciding.{bit, within, requestOf};
 ghost use Rattle.matching.specs.Planes.{laid, raised, Moved, Clear, Plane};
-ghost use Rattle.matching.specs.Hits.{Hits, Rest, Matchable};
+ghost use Rattle.matching.specs.Hits.{Rest, Matchable, Matched};
 
 // A word moved up by s bits, the highest bits of the word before it coming in.
 fn moved(word: u64, before: u64, s: usize) -> u64
@@ -64,10 +65,10 @@ fn spread(plane: &[u64; 64], size: usize, mask: u16, count: usize) -> [u64; 64]
     to
 }
 
-// The requests that match the masks from `at` on, from the last attribute to the first.
-fn match_masks(masks: &[u16], at: usize, counts: [usize; 6], len: usize) -> [u64; 64]
-    requires { ⌜ (at + 6 ≤ length (now masks)) × (len ≤ 6) × (0 < product (take len counts)) × (product (take len counts) ≤ 4096) ⌝ }
-    ensures { λ r. ⌜ Plane r (product (take len counts)) (λ m. within (take 6 (drop at (now (masks .entry)))) (requestOf (take len counts) m)) ⌝ }
+// The requests that match the masks, from the last attribute to the first.
+fn match_masks(masks: [u16; 6], counts: [usize; 6], len: usize) -> [u64; 64]
+    requires { ⌜ (len ≤ 6) × (0 < product (take len counts)) × (product (take len counts) ≤ 4096) ⌝ }
+    ensures { λ r. ⌜ Plane r (product (take len counts)) (λ m. within masks (requestOf (take len counts) m)) ⌝ }
 {
     let mut plane = [0u64; 64];
     plane[0] = 1;
@@ -76,7 +77,7 @@ fn match_masks(masks: &[u16], at: usize, counts: [usize; 6], len: usize) -> [u64
     while 0 < a {
         a -= 1;
         let count = counts[a];
-        plane = spread(&plane, size, masks[at + a], count);
+        plane = spread(&plane, size, masks[a], count);
         size = count * size;
     }
     plane
@@ -95,21 +96,16 @@ pub fn put(plane: &[u64; 64], words: usize, at: usize, hits: &mut [u64])
 }
 
 // Lays down which requests match each element's own target. All other words stay.
-pub fn match_all(
-    table: &[u16],
-    n: usize,
-    counts: [usize; 6],
-    len: usize,
-    space: usize,
-    hits: &mut [u64],
-)
-    requires { ⌜ Matchable (now table) n counts len space (now hits) ⌝ }
-    ensures { λ _. ⌜ Hits (now (table .entry)) n (take len counts) (now (hits .exit)) × Rest n space (now (hits .entry)) (now (hits .exit)) ⌝ }
+pub fn match_all(table: &[u16], shape: Shape, hits: &mut [u64])
+    requires { ⌜ Matchable (now table) shape (now hits) ⌝ }
+    ensures { λ _. ⌜ Matched (now (table .entry)) (now (hits .exit)) shape × Rest (shape .n) (shape .space) (now (hits .entry)) (now (hits .exit)) ⌝ }
 {
-    let words = (space + 63) / 64;
+    let n = shape.n;
+    let counts = shape.counts;
+    let words = (shape.space + 63) / 64;
     let mut i = 0;
     while i < n {
-        let plane = match_masks(table, 8 * i + 2, counts, len);
+        let plane = match_masks(table::masks_at(table, i), counts, shape.len);
         put(&plane, words, 64 * i, hits);
         i += 1;
     }

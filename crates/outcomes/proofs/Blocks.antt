@@ -13,15 +13,16 @@ use Rattle.meaning.specs.declared.Element.{Element}
 use Rattle.meaning.specs.Deciding.{Outcome, requestOf, matches, sameOutcome}
 use Rattle.laws.proofs.Bools.{Test, passed, failed, test}
 use Rattle.laws.proofs.Outcomes.{same-outcome, outcome-same}
+use Rattle.table.specs.declared.Shape.{Shape}
+use Rattle.table.specs.Shape.{countsOf}
 use Rattle.decisions.specs.Replies.{replyAt}
 use Rattle.decisions.proofs.Children.{first-left}
-use Rattle.matching.specs.Hits.{wordsOf}
+use Rattle.matching.specs.Hits.{wordsOf, Matched}
 use Rattle.blocks.specs.declared.Effects.{Effects}
 use Rattle.blocks.specs.declared.Replies.{Replies}
 use Rattle.blocks.specs.Bits.{decisionBit, replyBit, Answers, Block}
-use Rattle.outcomes.specs.declared.Shape.{Shape}
 use Rattle.outcomes.specs.Decided.{toldAt, decidedAt, differsAt}
-use Rattle.outcomes.specs.Ready.{countsOf, Ready, Matched}
+use Rattle.outcomes.specs.Ready.{Ready}
 use Rattle.outcomes.specs.Changes.{Other, InBlock}
 
 -- what a call of `reply` says of the first element's replies in the block

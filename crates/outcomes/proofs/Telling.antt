@@ -11,10 +11,10 @@ use borrow.Author.Tests.{eqb-true, eqb-false, le-leb, lt-leb}
 use Rattle.meaning.specs.declared.Decision.the-variants.{NotApplicable}
 use Rattle.meaning.specs.Deciding.{Outcome, bit}
 use Rattle.laws.proofs.Bools.{Test, passed, failed, test}
+use Rattle.table.specs.declared.Shape.{Shape}
 use Rattle.matching.specs.Hits.{bitOf, wordsOf, Rest}
 use Rattle.blocks.specs.declared.Effects.{Effects}
 use Rattle.blocks.specs.Bits.{decisionBy, decisionBit}
-use Rattle.outcomes.specs.declared.Shape.{Shape}
 use Rattle.outcomes.specs.Decided.{toldAt}
 use Rattle.outcomes.specs.Ready.{Holds}
 use Rattle.outcomes.proofs.Blocks.{toTell}

@@ -4,7 +4,7 @@ use mathlib.Core.Bool.{Bool, not}
 use mathlib.Core.List.{List}
 use lib.ListN.{getD}
 use Rattle.meaning.specs.Deciding.{Outcome, bit, requestOf, matches, firstDecision, sameOutcome}
-use Rattle.decisions.specs.Table.{left}
+use Rattle.table.specs.Tree.{left}
 use Rattle.blocks.specs.Bits.{decisionBy}
 
 -- what two words tell of request m, those permitted and 64 places on those denied

@@ -1,25 +1,22 @@
 -- What the functions ask of the table, the flags and the decisions that are lent.
-use Prim.Native.Nat.{ℕ, _*_, _≤_, _<_}
+use Prim.Native.Nat.{ℕ, _≤_, _<_}
 use mathlib.Core.Path.{_≡_}
 use mathlib.Core.List.{List}
-use lib.ListN.{length, take, getD}
+use lib.ListN.{length, getD}
 use Rattle.meaning.specs.Model.{product}
-use Rattle.decisions.specs.Table.{Leaves, RulesStruck}
-use Rattle.matching.specs.Hits.{Hits, ClearFrom}
-use Rattle.outcomes.specs.declared.Shape.{Shape}
+use Rattle.table.specs.Tree.{Leaves, RulesStruck}
+use Rattle.table.specs.declared.Shape.{Shape}
+use Rattle.table.specs.Rows.{Rows, wordNumber}
+use Rattle.table.specs.Shape.{countsOf}
 use Rattle.outcomes.specs.Decided.{toldAt, decidedAt}
-
--- the value count of each attribute
-abbrev pub countsOf : Shape → List ℕ
-countsOf s = take (s .len) (s .counts)
 
 -- a table of 1 to 64 elements whose first is no rule and whose rules have no children, a flag for each, set for rules alone, and at most 4,096 requests
 pub record Ready (t struck : List ℕ) (s : Shape) : Type 0 where
-  pub rows : 8 * s .n ≤ length t
+  pub rows : Rows t (s .n)
   pub flags : s .n ≤ length struck
   pub some : 1 ≤ s .n
   pub few : s .n ≤ 64
-  pub root : 2 ≤ getD t 0 0
+  pub root : 2 ≤ wordNumber t 0
   pub stays : getD struck 0 0 ≡ 0
   pub leaves : Leaves t (s .n)
   pub rules : RulesStruck t struck (s .n)
@@ -27,12 +24,6 @@ pub record Ready (t struck : List ℕ) (s : Shape) : Type 0 where
   pub all : product (countsOf s) ≡ s .space
   pub positive : 0 < s .space
   pub small : s .space ≤ 4096
-
--- the words that tell which requests match each element's own target, and nothing else
-pub record Matched (t hits : List ℕ) (s : Shape) : Type 0 where
-  pub room : 64 * s .n ≤ length hits
-  pub hits-are : Hits t (s .n) (countsOf s) hits
-  pub clear : ClearFrom (s .n) (s .space) hits
 
 -- the words that tell what each request gets under these flags
 pub record Holds (t struck told : List ℕ) (s : Shape) : Type 0 where

@@ -1,32 +1,17 @@
 // What each request gets, laid down by words of 64 requests, and where it is another than before.
 use blocks::Effects;
+use table::Shape;
 ghost use mathlib.Core.Path.{_≡_};
 ghost use mathlib.Core.List.{_++_, map};
 ghost use Prim.Native.Nat.{_*_, _≤_, _<_};
 ghost use lib.ListN.{length, drop};
 ghost use Rattle.meaning.specs.Text.{counting};
 ghost use Rattle.meaning.specs.Deciding.{decisionNumber};
-ghost use Rattle.matching.specs.Hits.{Rest, Matchable};
+ghost use Rattle.table.specs.Shape.{countsOf};
+ghost use Rattle.matching.specs.Hits.{Rest, Matched};
 ghost use Rattle.outcomes.specs.Decided.{toldAt, differsAt};
-ghost use Rattle.outcomes.specs.Ready.{countsOf, Ready, Matched, Holds};
+ghost use Rattle.outcomes.specs.Ready.{Ready, Holds};
 ghost use Rattle.outcomes.specs.Changes.{Other, InBlock};
-
-// A policy's shape: `n` elements, the value counts of `len` attributes, and their product, the number of requests.
-pub struct Shape {
-    pub n: usize,
-    pub counts: [usize; 6],
-    pub len: usize,
-    pub space: usize,
-}
-
-// Lays down which requests match each element's own target. All other words stay.
-pub fn match_elements(table: &[u16], shape: Shape, hits: &mut [u64])
-    requires { ⌜ Matchable (now table) (shape .n) (shape .counts) (shape .len) (shape .space) (now hits) ⌝ }
-    ensures { λ _. ⌜ Matched (now (table .entry)) (now (hits .exit)) shape × Rest (shape .n) (shape .space) (now (hits .entry)) (now (hits .exit)) ⌝ }
-{
-    let counts = shape.counts;
-    matching::match_all(table, shape.n, counts, shape.len, shape.space, hits);
-}
 
 // Lays down what each request gets, a block of 64 at a time: the words of those permitted, and 64 places on of those denied. All other words stay.
 pub fn decide_all(table: &[u16], struck: &[u8], hits: &[u64], shape: Shape, told: &mut [u64])

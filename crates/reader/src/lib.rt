@@ -9,6 +9,7 @@ ghost use mathlib.Core.Path.{_≡_};
 ghost use Prim.Native.Nat.{_≤_};
 ghost use lib.ListN.{length};
 ghost use Rattle.meaning.specs.Text.{cut, tab};
+ghost use Rattle.table.specs.Rows.{Rows};
 ghost use Rattle.layout.specs.Places.{part};
 ghost use Rattle.attribute_lines.specs.Sofar.{CountIs};
 ghost use Rattle.attribute_lines.specs.Steps.{BeforeLine, Line, StepIs};
@@ -99,7 +100,7 @@ fn finish(st: State, end: usize) -> Reading
 
 // Reads a file into the table and the places; a refused one up to the line that is refused.
 pub fn read(file: &[u8], table: &mut [u16], places: &mut [usize]) -> Reading
-    requires { ⌜ (512 ≤ length (now table)) × (128 ≤ length (now places)) ⌝ }
+    requires { ⌜ Rows (now table) 64 × (128 ≤ length (now places)) ⌝ }
     ensures { λ r. ⌜ ReadIs (now (file .entry)) (now (table .entry)) (now (places .entry)) (now (table .exit)) (now (places .exit)) r ⌝ }
 {
     let mut st = attribute_lines::start();

@@ -22,7 +22,7 @@ fn put_conflict(
     requires { ⌜ NameAt (now file) (now places) i × NameAt (now file) (now places) j × NameAt (now file) (now places) k × (4096 ≤ length (now pairs)) × (j < 64) × (k < 64) × (space ≤ 4096) × (at ≤ 2000000000) ⌝ }
     ensures { λ r. ⌜ Wrote (now (out .entry)) at (conflictLine (now (file .entry)) (now (places .entry)) (now (pairs .entry)) space i j k) (now (out .exit)) r × (r ≤ at + 500) ⌝ }
 {
-    let m = decisions::wide(pairs[64 * j + k]);
+    let m = table::wide(pairs[64 * j + k]);
     if space <= m {
         return at;
     }

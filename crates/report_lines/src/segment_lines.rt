@@ -27,7 +27,7 @@ fn put_segment(
     }
     let first = printing::put_field(out, at, b"G", 9);
     let many = printing::put_number(out, first, m, 9);
-    let decision = printing::put_number(out, many, decisions::wide(size), 9);
+    let decision = printing::put_number(out, many, table::wide(size), 9);
     let names = fields::put_decision(decided[m], out, decision);
     fields::put_names(file, places, n, words[m], out, names)
 }

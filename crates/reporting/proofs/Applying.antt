@@ -12,7 +12,7 @@ use Rattle.meaning.specs.Model.{Policy, sizes}
 use Rattle.meaning.specs.Deciding.{requestOf, matches, above, applies}
 use Rattle.meaning.specs.Segments.{applying, applyingTo}
 use Rattle.laws.proofs.Bools.{Test, passed, failed, test}
-use Rattle.decisions.specs.Table.{elementAt}
+use Rattle.table.specs.Rows.{elementAt}
 use Rattle.layout.specs.Places.{elementIn, elementsTo}
 use Rattle.layout.proofs.Laws.{bare, elements-bare}
 use Rattle.rows.specs.Words.{marks, wordFrom, appliesAt, applyingAt}

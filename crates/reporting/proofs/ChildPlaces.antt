@@ -12,12 +12,13 @@ use Rattle.meaning.specs.Model.{Policy}
 use Rattle.meaning.specs.Segments.{depthAt, parentOf, isPlace, childrenOf}
 use Rattle.laws.proofs.Bools.{Test, passed, failed, test}
 use Rattle.laws.proofs.Search.{counting-only}
-use Rattle.decisions.specs.Table.{depthOf, elementAt, parentOf as parentIn, placeOr}
+use Rattle.laws.proofs.Lists.{keep-alike}
+use Rattle.table.specs.Rows.{depthOf, elementAt}
+use Rattle.table.specs.Tree.{parentOf as parentIn, placeOr}
 use Rattle.layout.specs.Places.{elementIn, elementsTo}
 use Rattle.layout.proofs.Laws.{elements-length}
 use Rattle.trimmed_text.proofs.Table.{element-at}
 use Rattle.trimmed_text.proofs.Tabled.{last-alike}
-use Rattle.laws.proofs.Lists.{keep-alike}
 
 -- a test of two numbers, either way round
 eqb-turned : (a b : ℕ) → eqb a b ≡ eqb b a

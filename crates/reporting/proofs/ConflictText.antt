@@ -16,15 +16,15 @@ use Rattle.meaning.specs.Segments.{childrenOf, decisionAt, shows, Conflict, pai
 use Rattle.meaning.specs.Report.{nameIn as nameOfPlace, conflictFields}
 use Rattle.laws.proofs.Bools.{Test, passed, failed, test}
 use Rattle.laws.proofs.Search.{counting-only, counting-rising, keep-only, keep-rising}
-use Rattle.decisions.specs.Table.{parentOf, placeOr}
+use Rattle.laws.proofs.Lists.{gathered-alike, gathered-keep, gathered-twice, gathered-one, pairs-first, pairs-alike}
+use Rattle.table.specs.Tree.{parentOf, placeOr}
 use Rattle.outcomes.proofs.Searching.{first-alike}
 use Rattle.layout.specs.Places.{nameIn, elementsTo}
+use Rattle.trimmed_text.proofs.Table.{name-at}
 use Rattle.rows.specs.Words.{givesAt}
 use Rattle.conflicts.specs.Pairs.{showsAt, Later}
-use Rattle.trimmed_text.proofs.Table.{name-at}
 use Rattle.report_lines.specs.Lines.{conflictLine, isChild, laterLine, laterLines, pairLines, conflictText}
 use Rattle.reporting.proofs.Applying.{applies-at}
-use Rattle.laws.proofs.Lists.{gathered-alike, gathered-keep, gathered-twice, gathered-one, pairs-first, pairs-alike}
 use Rattle.reporting.proofs.Searched.{first-or}
 use Rattle.reporting.proofs.ChildPlaces.{count-is, children-are}
 use Rattle.reporting.proofs.Giving.{gives-is}

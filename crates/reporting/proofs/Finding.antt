@@ -10,18 +10,20 @@ use Rattle.meaning.specs.declared.Decision.{Decision}
 use Rattle.meaning.specs.Text.{Bytes, counting}
 use Rattle.meaning.specs.Model.{product}
 use Rattle.meaning.specs.Deciding.{decisionNumber}
-use Rattle.decisions.specs.Table.{parentOf, placeOr}
-use Rattle.outcomes.specs.declared.Shape.{Shape}
-use Rattle.trimming.specs.Decided.{onward, shownAt, nextAt, trimmingAt}
+use Rattle.table.specs.Tree.{parentOf, placeOr}
+use Rattle.table.specs.declared.Shape.{Shape}
+use Rattle.table.specs.Shape.{countsOf}
+use Rattle.matching.specs.Hits.{Matched}
 use Rattle.outcomes.specs.Decided.{toldAt}
-use Rattle.outcomes.specs.Ready.{countsOf, Ready, Matched, Holds}
+use Rattle.outcomes.specs.Ready.{Ready, Holds}
+use Rattle.trimming.specs.Decided.{onward, shownAt, nextAt, trimmingAt}
 use Rattle.trimming.specs.Trims.{Trims}
 use Rattle.layout.specs.Places.{Naming}
-use Rattle.segments.specs.Sizes.{sizeAt}
 use Rattle.rows.specs.Rows.{Applied, Given, Marked}
+use Rattle.segments.specs.Sizes.{sizeAt}
 use Rattle.segments.specs.Across.{wordAcross}
-use Rattle.conflicts.specs.Pairs.{shownBy, Pairs}
 use Rattle.segments.proofs.Columns.{across-applying}
+use Rattle.conflicts.specs.Pairs.{shownBy, Pairs}
 use Rattle.conflicts.proofs.Showing.{pairs-by-table}
 use Rattle.report_lines.specs.Ready.{Ordered}
 use Rattle.reporting.specs.Found.{none-struck, trimmedAt, SegmentsFound, ConflictsFound, RulesFound}

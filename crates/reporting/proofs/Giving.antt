@@ -11,12 +11,12 @@ use Rattle.meaning.specs.Text.{Bytes}
 use Rattle.meaning.specs.Model.{Policy, sizes}
 use Rattle.meaning.specs.Deciding.{requestOf, matches, is as isOf, firstDecision}
 use Rattle.meaning.specs.Segments.{decisionAt}
-use Rattle.decisions.specs.Table.{left}
+use Rattle.table.specs.Tree.{left}
 use Rattle.decisions.proofs.Children.{first-left}
 use Rattle.layout.specs.Places.{elementsTo}
 use Rattle.layout.proofs.Laws.{bare, decision-bare}
-use Rattle.rows.specs.Words.{givesAt}
 use Rattle.trimmed_text.proofs.Table.{whole-left}
+use Rattle.rows.specs.Words.{givesAt}
 
 -- what is behind so many of a mapped list
 drop-map : {A B : Type 0} (F : A → B) (j : ℕ) (xs : List A) → drop j (map F xs) ≡ map F (drop j xs)

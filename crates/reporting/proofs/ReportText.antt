@@ -7,8 +7,9 @@ use Rattle.meaning.specs.Text.{Bytes}
 use Rattle.meaning.specs.Model.{Policy, sizes, product, given}
 use Rattle.meaning.specs.Reading.{read}
 use Rattle.meaning.specs.Report.{report}
-use Rattle.outcomes.specs.declared.Shape.{Shape}
-use Rattle.outcomes.specs.Ready.{countsOf, Ready}
+use Rattle.table.specs.declared.Shape.{Shape}
+use Rattle.table.specs.Shape.{countsOf}
+use Rattle.outcomes.specs.Ready.{Ready}
 use Rattle.layout.specs.Places.{elementsTo}
 use Rattle.conflicts.specs.Pairs.{shownFor}
 use Rattle.report_lines.specs.Lines.{struckText, reportText}

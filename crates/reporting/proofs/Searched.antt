@@ -11,7 +11,7 @@ use lib.ListN.{getD, List·getD-append}
 use borrow.Author.Tests.{lt-ltb, le-ltb}
 use Rattle.meaning.specs.Text.{ifSome, counting, firstFrom}
 use Rattle.laws.proofs.Search.{first-some}
-use Rattle.decisions.specs.Table.{placeOr}
+use Rattle.table.specs.Tree.{placeOr}
 use Rattle.outcomes.proofs.Laying.{length-counted, counted-at}
 
 pub first-or : {B : Type 0} (t : ℕ → Bool) (s : ℕ) (F : ℕ → List B) → cond (ltb (placeOr s (firstFrom t 0 s)) s) (F (placeOr s (firstFrom t 0 s))) [] ≡ ifSome (firstFrom t 0 s) F

@@ -18,8 +18,9 @@ use Rattle.laws.proofs.Bools.{Test, passed, failed, test}
 use Rattle.laws.proofs.Search.{last-some, counting-only}
 use Rattle.laws.proofs.Bounds.{bounded}
 use Rattle.laws.proofs.Rewritten.{gathered-map}
-use Rattle.decisions.specs.Table.{placeOr}
+use Rattle.table.specs.Tree.{placeOr, ruleLeft}
 use Rattle.trimming.specs.Decided as table-level
+use Rattle.laws.proofs.Lists.{has-at, gathered-alike, gathered-keep}
 use Rattle.layout.specs.Places.{nameIn, elementsTo}
 use Rattle.trimmed_text.specs.Flags.{Clear, keptAt, trimmingAt, keptPlaces, keptLineAt}
 use Rattle.trimmed_text.proofs.Trimmed.{trimmed-flags, kept-flags}
@@ -27,7 +28,6 @@ use Rattle.trimmed_text.proofs.Table.{name-at}
 use Rattle.trimmed_text.proofs.Tabled.{first-change-is, rule-is, trimming-is}
 use Rattle.report_lines.specs.Lines.{struckLine, struckText, keptLine, keptText}
 use Rattle.reporting.specs.Found.{none-struck, trimmedAt}
-use Rattle.laws.proofs.Lists.{has-at, gathered-alike, gathered-keep}
 use Rattle.reporting.proofs.Searched.{first-or}
 use Rattle.reporting.proofs.ChildPlaces.{count-is}
 
@@ -111,13 +111,13 @@ module _ (f : Bytes) (p : Policy) (h : read f ≡ given p) (table places : List 
         change : Option ℕ
         change = table-level.firstChangeAt table n counts struck i
 
-        rule : table-level.ruleLeft table struck i ≡ keptAt p struck i
+        rule : ruleLeft table struck i ≡ keptAt p struck i
         rule = rule-is f p h table places n is size counts sized struck i l
 
         lineFor : Bytes → ℕ → Bytes
         lineFor b m = line (bytes "K" ∷ b ∷ decimal m ∷ [])
 
-        go : Test (keptAt p struck i) → getD shown i 0 ≡ cond (table-level.ruleLeft table struck i) (placeOr s change) s → keptLine f places shown s i ≡ cond (keptAt p struck i) (keptLineAt p struck i) []
+        go : Test (keptAt p struck i) → getD shown i 0 ≡ cond (ruleLeft table struck i) (placeOr s change) s → keptLine f places shown s i ≡ cond (keptAt p struck i) (keptLineAt p struck i) []
         go (passed e) found =
             let here : getD shown i 0 ≡ placeOr s change = found ∙ ap (λ b. cond b (placeOr s change) s) (rule ∙ e) in
             ap (λ m. cond (ltb m s) (lineFor (nameIn f places i) m) []) here

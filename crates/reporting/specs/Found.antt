@@ -5,9 +5,9 @@ use mathlib.Core.List.{List}
 use lib.ListN.{length, take, getD, replicate}
 use Rattle.meaning.specs.Model.{product}
 use Rattle.meaning.specs.Deciding.{decisionNumber}
-use Rattle.decisions.specs.Table.{parentOf, placeOr}
-use Rattle.trimming.specs.Decided.{Struck, shownAt, trimmingAt}
+use Rattle.table.specs.Tree.{parentOf, placeOr}
 use Rattle.outcomes.specs.Decided.{decidedAt}
+use Rattle.trimming.specs.Decided.{Struck, shownAt, trimmingAt}
 use Rattle.rows.specs.Words.{applyingAt}
 use Rattle.segments.specs.Sizes.{sizeAt}
 use Rattle.conflicts.specs.Pairs.{showsAt, Pairs}

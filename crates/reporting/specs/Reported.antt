@@ -6,8 +6,8 @@ use Rattle.meaning.specs.Text.{Bytes}
 use Rattle.meaning.specs.Model.{Policy, sizes, given}
 use Rattle.meaning.specs.Reading.{read}
 use Rattle.meaning.specs.Report.{report}
-use Rattle.outcomes.specs.declared.Shape.{Shape}
-use Rattle.outcomes.specs.Ready.{countsOf}
+use Rattle.table.specs.declared.Shape.{Shape}
+use Rattle.table.specs.Shape.{countsOf}
 use Rattle.layout.specs.Places.{elementsTo}
 use Rattle.report_lines.specs.Fitted.{Fitted}
 

@@ -1,10 +1,12 @@
 // The report of a policy that was read: everything is found once, then the same code counts the text and writes it.
-use outcomes::Shape;
+use table::Shape;
 ghost use mathlib.Core.Path.{_≡_};
 ghost use mathlib.Core.List.{_++_};
 ghost use Prim.Native.Nat.{_≤_};
 ghost use lib.ListN.{length, drop};
-ghost use Rattle.outcomes.specs.Ready.{countsOf, Ready, Matched, Holds};
+ghost use Rattle.table.specs.Shape.{countsOf};
+ghost use Rattle.matching.specs.Hits.{Matched};
+ghost use Rattle.outcomes.specs.Ready.{Ready, Holds};
 ghost use Rattle.layout.specs.Places.{Naming};
 ghost use Rattle.reporting.specs.Found.{none-struck, SegmentsFound, ConflictsFound, RulesFound};
 ghost use Rattle.reporting.specs.Reported.{Reported};
@@ -15,7 +17,7 @@ fn find_decisions(table: &[u16], shape: Shape, hits: &mut [u64], told: &mut [u64
     ensures { λ _. ⌜ Matched (now (table .entry)) (now (hits .exit)) shape × Holds (now (table .entry)) none-struck (now (told .exit)) shape ⌝ }
 {
     let struck = [0u8; 64];
-    outcomes::match_elements(table, shape, hits);
+    matching::match_all(table, shape, hits);
     outcomes::decide_all(table, &struck, hits, shape, told);
 }
 

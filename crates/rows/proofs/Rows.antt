@@ -17,15 +17,16 @@ use Rattle.meaning.specs.Deciding.{Reply as ChildReply, requestOf, bit, matches
 use Rattle.laws.proofs.Bits.{bit-and}
 use Rattle.laws.proofs.Search.{first-none}
 use Rattle.laws.proofs.Bools.{Test, passed, failed, test}
-use Rattle.decisions.specs.Table.{elementAt, before, depthOf, parentOf, placeOr}
+use Rattle.table.specs.Rows.{elementAt, depthOf}
+use Rattle.table.specs.Tree.{before, parentOf, placeOr}
+use Rattle.table.specs.declared.Shape.{Shape}
+use Rattle.table.specs.Shape.{countsOf}
+use Rattle.table.proofs.Above.{Parent, top}
 use Rattle.decisions.specs.Replies.{replyAt}
-use Rattle.decisions.proofs.Above.{Parent, top}
 use Rattle.matching.specs.Hits.{bitOf, wordsOf, Rest}
 use Rattle.matching.proofs.Putting.{Put, outside}
 use Rattle.blocks.specs.declared.Replies.{Replies}
 use Rattle.blocks.specs.Bits.{decisionBy, replyBit, Answers}
-use Rattle.outcomes.specs.declared.Shape.{Shape}
-use Rattle.outcomes.specs.Ready.{countsOf}
 use Rattle.rows.specs.Words.{appliesAt, givesAt}
 use Rattle.rows.specs.Rows.{Applied, Given, Narrowed, AppliedRow, Marked}
 

@@ -8,11 +8,12 @@ use Rattle.meaning.specs.declared.Decision.{Decision}
 use Rattle.meaning.specs.declared.Element.{Element}
 use Rattle.meaning.specs.Model.{product}
 use Rattle.meaning.specs.Deciding.{requestOf, bit, applies}
-use Rattle.decisions.specs.Table.{elementAt, before}
+use Rattle.table.specs.Rows.{elementAt, Rows}
+use Rattle.table.specs.Tree.{before}
+use Rattle.table.specs.declared.Shape.{Shape}
+use Rattle.table.specs.Shape.{countsOf}
 use Rattle.matching.specs.Hits.{bitOf, Hits, ClearFrom}
 use Rattle.blocks.specs.Bits.{Answers}
-use Rattle.outcomes.specs.declared.Shape.{Shape}
-use Rattle.outcomes.specs.Ready.{countsOf}
 use Rattle.rows.specs.Words.{appliesAt, givesAt}
 
 -- the rows say which requests each element applies to, and on which it gives a decision
@@ -33,14 +34,14 @@ AppliedRow t hits n blocks i row = (b v : ℕ) (hit : Element → Bool) → b < 
 
 -- the table has n rows, and `hits` 64 words for each of at most 64 elements
 pub record Rowed (t hits : List ℕ) (n blocks : ℕ) : Type 0 where
-  pub rows : 8 * n ≤ length t
+  pub rows : Rows t n
   pub few : n ≤ 64
   pub words : 64 * n ≤ length hits
   pub most : blocks ≤ 64
 
 -- a table, its shape, and which requests match each element's own target, and nothing else
 pub record Marked (t : List ℕ) (s : Shape) (hits : List ℕ) : Type 0 where
-  pub rows : 8 * s .n ≤ length t
+  pub rows : Rows t (s .n)
   pub few : s .n ≤ 64
   pub all : product (countsOf s) ≡ s .space
   pub small : s .space ≤ 4096

@@ -5,7 +5,8 @@ use mathlib.Core.List.{List, [], _∷_, map}
 use Rattle.meaning.specs.declared.Decision.{Decision}
 use Rattle.meaning.specs.Text.{counting}
 use Rattle.meaning.specs.Deciding.{requestOf, matches, applies, is}
-use Rattle.decisions.specs.Table.{elementAt, before}
+use Rattle.table.specs.Rows.{elementAt}
+use Rattle.table.specs.Tree.{before}
 use Rattle.decisions.specs.Replies.{replyAt}
 
 -- the word of some tests, the first one lowest

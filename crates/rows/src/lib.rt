@@ -1,6 +1,6 @@
 // Rows of 64 words for each element, a bit for each request: which requests it applies to, permits, denies; and each element's parent.
 use meaning::Decision;
-use outcomes::Shape;
+use table::Shape;
 ghost use mathlib.Core.Path.{_≡_};
 ghost use mathlib.Core.List.{_++_, map};
 ghost use Prim.Native.Nat.{ℕ, _+_, _*_, _≤_, _<_};
@@ -8,9 +8,10 @@ ghost use lib.ListN.{length, getD, drop};
 ghost use lib.Bits.{bitAnd};
 ghost use Rattle.meaning.specs.Text.{counting};
 ghost use Rattle.meaning.specs.Deciding.{bit};
-ghost use Rattle.decisions.specs.Table.{parentOf, placeOr};
+ghost use Rattle.table.specs.Tree.{parentOf, placeOr};
+ghost use Rattle.table.specs.Shape.{countsOf};
+ghost use Rattle.table.specs.Rows.{Rows};
 ghost use Rattle.matching.specs.Hits.{Rest};
-ghost use Rattle.outcomes.specs.Ready.{countsOf};
 ghost use Rattle.rows.specs.Rows.{Applied, Given, Narrowed, AppliedRow, Rowed, Marked};
 
 // Whether bit i of the word is set.
@@ -39,7 +40,7 @@ fn apply(table: &[u16], hits: &[u64], n: usize, blocks: usize, i: usize, row: &m
     ensures { λ _. ⌜ Narrowed (now (table .entry)) (now (hits .entry)) n blocks i (now (row .entry)) (now (row .exit)) ⌝ }
 {
     narrow(hits, 64 * i, blocks, row);
-    let up = decisions::parent(table, n, i);
+    let up = table::parent(table, n, i);
     if up == n {
         return;
     }
@@ -102,12 +103,12 @@ pub fn give_all(
 
 // Lays down the parent of each element, n where there is none. What lies behind them stays.
 pub fn parent_all(table: &[u16], n: usize, parents: &mut [usize])
-    requires { ⌜ (8 * n ≤ length (now table)) × (n ≤ length (now parents)) ⌝ }
+    requires { ⌜ Rows (now table) n × (n ≤ length (now parents)) ⌝ }
     ensures { λ _. ⌜ now (parents .exit) ≡ map (λ i. placeOr n (parentOf (now (table .entry)) i)) (counting 0 n) ++ drop n (now (parents .entry)) ⌝ }
 {
     let mut child = 0;
     while child < n {
-        parents[child] = decisions::parent(table, n, child);
+        parents[child] = table::parent(table, n, child);
         child += 1;
     }
 }

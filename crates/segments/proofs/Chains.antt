@@ -14,7 +14,7 @@ use lib.Seq.{getD-set-same, getD-set-other}
 use Rattle.meaning.specs.Text.{isNone, firstFrom}
 use Rattle.laws.proofs.Bools.{Test, passed, failed, test, contradiction}
 use Rattle.laws.proofs.Search.{First, first-some, first-none, first-is, first-absent}
-use Rattle.decisions.specs.Table.{placeOr}
+use Rattle.table.specs.Tree.{placeOr}
 use Rattle.segments.specs.Sizes.{alike, opensAt}
 use Rattle.segments.specs.Chains.{bucketOf, bucketAt, Opens, Links, Chained}
 

@@ -15,10 +15,10 @@ use lib.Seq.{length-take-le, getD-take, getD-set-same, getD-set-other, drop-set-
 use Rattle.meaning.specs.Text.{isNone, keep, counting, firstFrom}
 use Rattle.laws.proofs.Bools.{Test, passed, failed, test, contradiction, eqb-same}
 use Rattle.laws.proofs.Search.{First, first-some, first-none, first-is, counting-only, keep-none, some-some}
-use Rattle.decisions.specs.Table.{placeOr}
+use Rattle.table.specs.Tree.{placeOr}
 use Rattle.outcomes.proofs.Laying.{length-counted, counted-at}
-use Rattle.segments.specs.Sizes.{alike, sizeAt}
 use Rattle.rows.proofs.Making.{eqb-swap}
+use Rattle.segments.specs.Sizes.{alike, sizeAt}
 
 -- How many numbers pass a test: one number more, and no more than there are
 module _ (p : ℕ → Bool) where

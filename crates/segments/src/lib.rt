@@ -4,7 +4,7 @@ ghost use mathlib.Core.List.{_++_, map};
 ghost use Prim.Native.Nat.{_+_, _*_, _^_, _≤_, _<_};
 ghost use lib.ListN.{length, drop};
 ghost use Rattle.meaning.specs.Text.{counting, firstFrom};
-ghost use Rattle.decisions.specs.Table.{placeOr};
+ghost use Rattle.table.specs.Tree.{placeOr};
 ghost use Rattle.segments.specs.Across.{wordAcross, Column};
 ghost use Rattle.segments.specs.Sizes.{alike, sizeAt};
 ghost use Rattle.segments.specs.Turning.{Mask, ExchangedWord, Exchanged, Turned};

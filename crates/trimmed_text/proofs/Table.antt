@@ -14,7 +14,7 @@ use Rattle.meaning.specs.Model.{nameOf, Policy}
 use Rattle.meaning.specs.Deciding.{matches, firstDecision, decide}
 use Rattle.meaning.specs.Report.{nameIn}
 use Rattle.laws.proofs.Bools.{Test, passed, failed, test}
-use Rattle.decisions.specs.Table.{left}
+use Rattle.table.specs.Tree.{left}
 use Rattle.layout.specs.Places.{nameIn as nameInFile, elementIn, elementsTo}
 use Rattle.layout.proofs.Laws.{elements-length, bare, decision-bare, map-reverse, elements-bare, all-left}
 use Rattle.trimmed_text.specs.Flags.{leftFrom, leftPolicy}

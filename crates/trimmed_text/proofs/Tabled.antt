@@ -1,6 +1,6 @@
 -- Trimming over a table and flags is trimming over the policy that was read into the table.
 use mathlib.Core.Path.{_≡_, refl, sym, ap, ap₂, _∙_}
-use Prim.Native.Nat.{ℕ, zero, suc, _+_, _*_, _≤_, _<_}
+use Prim.Native.Nat.{ℕ, zero, suc, _+_, _≤_, _<_}
 use native.Mathlib.Omega.{arith}
 use mathlib.Core.Bool.{Bool, true, false, _&&_, cond}
 use mathlib.Core.List.{List, [], _∷_, map, reverse}
@@ -18,7 +18,8 @@ use Rattle.meaning.specs.Claims.Texts.{All}
 use Rattle.meaning.specs.Claims.Trimming.{isRule}
 use Rattle.laws.proofs.Children.{accepted-steps, no-deeper}
 use Rattle.laws.proofs.ElementKinds.{isEffect, WordFits, kinds}
-use Rattle.decisions.specs.Table.{wordAt, depthOf, elementAt, Leaves}
+use Rattle.table.specs.Rows.{wordAt, depthOf, elementAt, wordNumber}
+use Rattle.table.specs.Tree.{Leaves, ruleLeft}
 use Rattle.trimming.specs.Decided as table-level
 use Rattle.outcomes.specs.Decided as requests-level
 use Rattle.layout.specs.Places.{elementIn, elementsTo}
@@ -59,24 +60,24 @@ module _ (f : Bytes) (p : Policy) (h : read f ≡ given p) (table places : List 
   first-change-is struck i = λ j. firstFrom (λ m. change-is struck i m j) 0 (product (sizes-are j))
 
   -- a rule that is left, a needless one, and the next to strike
-  effect-is : (i : ℕ) → i < n → ltb (getD table (8 * i) 0) 2 ≡ ruleIn (p .elements) i
+  effect-is : (i : ℕ) → i < n → ltb (wordNumber table i) 2 ≡ ruleIn (p .elements) i
   unfolding elementIn elementAt
-  effect-is i l = effect-number (getD table (8 * i) 0) ∙ sym (element-at f table places n p is (λ e. isEffect (e .word)) false i l) ∙ ap (λ bs. getD bs i false) (words-alike (p .elements) (kinds f p h .words-fit))
+  effect-is i l = effect-number (wordNumber table i) ∙ sym (element-at f table places n p is (λ e. isEffect (e .word)) false i l) ∙ ap (λ bs. getD bs i false) (words-alike (p .elements) (kinds f p h .words-fit))
 
-  pub root-word : 0 < n → 2 ≤ getD table 0 0
-  root-word l = ltb-false (getD table 0 0) 2 (effect-is 0 l ∙ kinds f p h .root)
+  pub root-word : 0 < n → 2 ≤ wordNumber table 0
+  root-word l = ltb-false (wordNumber table 0) 2 (effect-is 0 l ∙ kinds f p h .root)
 
   -- a rule of the table has no children, as none of the file has
   pub leaves : Leaves table n
   unfolding elementIn elementAt
   leaves k l rule =
       let depth-is : (i : ℕ) → i < n → depthAt (p .elements) i ≡ depthOf table i = element-at f table places n p is (λ e. e .depth) 0 in
-      let is-rule : ruleIn (p .elements) k ≡ true = sym (effect-is k (omega arith)) ∙ lt-ltb (getD table (8 * k) 0) 2 rule in
+      let is-rule : ruleIn (p .elements) k ≡ true = sym (effect-is k (omega arith)) ∙ lt-ltb (wordNumber table k) 2 rule in
       let low = no-deeper (p .elements) (accepted-steps f p h) k (omega arith) is-rule in
       let next : k + 1 ≡ suc k = omega arith in
       rw (next, ← depth-is (suc k) (omega arith), ← depth-is k (omega arith)) low
 
-  pub rule-is : (struck : List ℕ) (i : ℕ) → i < n → table-level.ruleLeft table struck i ≡ keptAt p struck i
+  pub rule-is : (struck : List ℕ) (i : ℕ) → i < n → ruleLeft table struck i ≡ keptAt p struck i
   rule-is struck i l = ap (λ b. isLeft struck i && b) (effect-is i l)
 
   needless-is : (struck : List ℕ) (i : ℕ) → i < n → table-level.needlessAt table n counts struck i ≡ needlessAt p struck i

@@ -9,14 +9,15 @@ use lib.ListN.{getD}
 use lib.Bits.{bitAnd}
 use borrow.Author.Tests.{ltb-true, ltb-false}
 use Rattle.meaning.specs.Deciding.{bit, requestOf, matches}
+use Rattle.meaning.specs.Text.{firstFrom}
 use Rattle.laws.proofs.Bools.{Test, passed, failed, test}
 use Rattle.laws.proofs.Search.{first-is, first-absent}
 use Rattle.laws.proofs.Bits.{bit-and, bit-zero}
-use Rattle.meaning.specs.Text.{firstFrom}
-use Rattle.decisions.specs.Table.{elementAt, placeOr, Over}
-use Rattle.outcomes.specs.declared.Shape.{Shape}
+use Rattle.table.specs.Rows.{elementAt}
+use Rattle.table.specs.Tree.{placeOr, Over}
+use Rattle.table.specs.declared.Shape.{Shape}
+use Rattle.table.specs.Shape.{countsOf}
 use Rattle.outcomes.specs.Decided.{differsAt}
-use Rattle.outcomes.specs.Ready.{countsOf}
 use Rattle.outcomes.specs.Changes.{InBlock}
 use Rattle.trimming.specs.Trial.{Trial}
 

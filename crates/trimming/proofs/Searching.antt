@@ -1,13 +1,10 @@
 -- Searches a step at a time.
-use Prim.Native.Nat.{ℕ, zero, suc, _+_, _-_, _<_}
+use Prim.Native.Nat.{ℕ, zero, suc, _-_, _<_}
 use mathlib.Core.Path.{_≡_}
 use mathlib.Core.Bool.{Bool, true, false}
 use mathlib.Core.Option.{none, some}
 use native.Mathlib.Omega.{arith}
-use lib.Dec.{eqb}
-use borrow.Author.Tests.{eqb-true, eqb-false}
 use Rattle.meaning.specs.Text.{lastBelow}
-use Rattle.laws.proofs.Bools.{Test, passed, failed, test}
 
 -- the last number that passes, below i
 module _ (p : ℕ → Bool) where

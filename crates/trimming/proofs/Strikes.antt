@@ -15,11 +15,12 @@ use Rattle.meaning.specs.Model.{product}
 use Rattle.laws.proofs.Bools.{and-true, contradiction}
 use Rattle.laws.proofs.Search.{first-none, last-some}
 use Rattle.laws.proofs.Outcomes.{same-outcome}
-use Rattle.decisions.specs.Table.{placeOr}
-use Rattle.outcomes.specs.declared.Shape.{Shape}
-use Rattle.trimming.specs.Decided.{ruleLeft, changesAt, firstChangeAt, needlessAt, nextAt, trimmingAt}
+use Rattle.table.specs.Tree.{placeOr, ruleLeft}
+use Rattle.table.specs.declared.Shape.{Shape}
+use Rattle.table.specs.Shape.{countsOf}
 use Rattle.outcomes.specs.Decided.{decidedAt}
-use Rattle.outcomes.specs.Ready.{countsOf, Ready, Holds}
+use Rattle.outcomes.specs.Ready.{Ready, Holds}
+use Rattle.trimming.specs.Decided.{changesAt, firstChangeAt, needlessAt, nextAt, trimmingAt}
 use Rattle.trimming.specs.Trims.{Trims}
 use Rattle.trimming.proofs.Trying.{ready-set, rule-word}
 

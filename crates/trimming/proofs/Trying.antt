@@ -1,5 +1,5 @@
 -- Whether a rule is needless, by the decisions without it against those laid down.
-use Prim.Native.Nat.{ℕ, zero, suc, _+_, _*_, _≤_, _<_, zero-le}
+use Prim.Native.Nat.{ℕ, _+_, _≤_, _<_, zero-le}
 use mathlib.Core.Path.{_≡_, refl, sym, ap, _∙_}
 use mathlib.Core.Bool.{Bool, true, false, not}
 use mathlib.Core.List.{List}
@@ -15,13 +15,17 @@ use Rattle.meaning.specs.Deciding.{requestOf, matches, sameOutcome}
 use Rattle.laws.proofs.Bools.{Test, passed, failed, test, contradiction, and-true}
 use Rattle.laws.proofs.Search.{first-some, first-none}
 use Rattle.laws.proofs.Outcomes.{outcome-same}
-use Rattle.decisions.specs.Table.{elementAt, placeOr, Over}
-use Rattle.decisions.proofs.Leaves.{rule-struck, decided-without}
-use Rattle.outcomes.specs.declared.Shape.{Shape}
-use Rattle.trimming.specs.Decided.{ruleLeft, changesAt, firstChangeAt, shownAt, needlessAt}
+use Rattle.table.specs.Rows.{elementAt, wordNumber}
+use Rattle.table.specs.Tree.{placeOr, Over, ruleLeft}
+use Rattle.table.specs.declared.Shape.{Shape}
+use Rattle.table.specs.Shape.{countsOf}
+use Rattle.table.proofs.Children.{rule-struck}
+use Rattle.decisions.proofs.Leaves.{decided-without}
+use Rattle.matching.specs.Hits.{Matched}
 use Rattle.outcomes.specs.Decided.{decidedAt, differsAt}
-use Rattle.outcomes.specs.Ready.{countsOf, Ready, Matched, Holds}
+use Rattle.outcomes.specs.Ready.{Ready, Holds}
 use Rattle.outcomes.proofs.Searching.{first-alike}
+use Rattle.trimming.specs.Decided.{changesAt, firstChangeAt, shownAt, needlessAt}
 use Rattle.trimming.specs.Trial.{Trial}
 
 -- Whether a search finds nothing, by the place that it gives
@@ -49,11 +53,11 @@ module _ (p : ℕ → Bool) (size r : ℕ) where
       go (some m) e = ap isNone e
 
 -- a rule is not the first element
-rule-first : (t : List ℕ) (i : ℕ) → getD t (8 * i) 0 < 2 → 2 ≤ getD t 0 0 → i ≡ 0 → ⊥
-rule-first t i rule root first = let word : getD t (8 * 0) 0 < 2 = rw first at rule in omega arith
+rule-first : (t : List ℕ) (i : ℕ) → wordNumber t i < 2 → 2 ≤ wordNumber t 0 → i ≡ 0 → ⊥
+rule-first t i rule root first = let word : wordNumber t 0 < 2 = rw first at rule in omega arith
 
 -- Element i, which is a rule, is struck
-pub ready-set : {t struck : List ℕ} {s : Shape} (i : ℕ) → getD t (8 * i) 0 < 2 → Ready t struck s → Ready t (set struck i 1) s
+pub ready-set : {t struck : List ℕ} {s : Shape} (i : ℕ) → wordNumber t i < 2 → Ready t struck s → Ready t (set struck i 1) s
 ready-set {t} {struck} {s} i rule ready =
     record {
       rows = ready .rows;
@@ -94,10 +98,10 @@ module _ (t struck told : List ℕ) (s : Shape) (i : ℕ) (ready : Ready t struc
 -- A rule that is left has the flag 0, and the word of an effect
 module _ (t struck : List ℕ) (i : ℕ) (rule : ruleLeft t struck i ≡ true) where
   pub rule-flag : getD struck i 0 ≡ 0
-  rule-flag = eqb-true (getD struck i 0) 0 (and-true (eqb (getD struck i 0) 0) (ltb (getD t (8 * i) 0) 2) rule .0)
+  rule-flag = eqb-true (getD struck i 0) 0 (and-true (eqb (getD struck i 0) 0) (ltb (wordNumber t i) 2) rule .0)
 
-  pub rule-word : getD t (8 * i) 0 < 2
-  rule-word = ltb-true (getD t (8 * i) 0) 2 (and-true (eqb (getD struck i 0) 0) (ltb (getD t (8 * i) 0) 2) rule .1)
+  pub rule-word : wordNumber t i < 2
+  rule-word = ltb-true (wordNumber t i) 2 (and-true (eqb (getD struck i 0) 0) (ltb (wordNumber t i) 2) rule .1)
 
   module _ (hits told : List ℕ) (s : Shape) (ready : Ready t struck s) (holds : Holds t struck told s) (l : i < s .n) where
     -- what stands over it is no rule, and so not struck

@@ -1,19 +1,14 @@
 -- Needless rules and trimming, over a table of elements and a flag for each: an element whose flag is not 0 is struck.
-use Prim.Native.Nat.{ℕ, zero, suc, _*_}
+use Prim.Native.Nat.{ℕ, zero, suc}
 use mathlib.Core.Bool.{Bool, not, cond, _&&_}
 use mathlib.Core.List.{List, [], _∷_}
 use mathlib.Core.Option.{Option, none, some}
-use lib.Dec.{eqb, ltb}
-use lib.ListN.{getD, set}
+use lib.ListN.{set}
 use Rattle.meaning.specs.Text.{isNone, firstFrom, lastBelow}
 use Rattle.meaning.specs.Model.{product}
 use Rattle.meaning.specs.Deciding.{sameOutcome}
-use Rattle.decisions.specs.Table.{placeOr}
+use Rattle.table.specs.Tree.{placeOr, ruleLeft}
 use Rattle.outcomes.specs.Decided.{decidedAt}
-
--- element i is a rule that is left: its flag is 0, and its word an effect
-abbrev pub ruleLeft : List ℕ → List ℕ → ℕ → Bool
-ruleLeft t struck i = eqb (getD struck i 0) 0 && ltb (getD t (8 * i) 0) 2
 
 -- the flags at the end, and the places struck in order
 pub record Struck : Type 0 where

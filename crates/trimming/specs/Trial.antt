@@ -5,10 +5,13 @@ use mathlib.Core.Bool.{false}
 use mathlib.Core.List.{List}
 use lib.ListN.{length}
 use Rattle.meaning.specs.Deciding.{requestOf, matches}
-use Rattle.decisions.specs.Table.{elementAt, Over}
-use Rattle.outcomes.specs.declared.Shape.{Shape}
+use Rattle.table.specs.Rows.{elementAt}
+use Rattle.table.specs.Tree.{Over}
+use Rattle.table.specs.declared.Shape.{Shape}
+use Rattle.table.specs.Shape.{countsOf}
+use Rattle.matching.specs.Hits.{Matched}
 use Rattle.outcomes.specs.Decided.{differsAt}
-use Rattle.outcomes.specs.Ready.{countsOf, Ready, Matched}
+use Rattle.outcomes.specs.Ready.{Ready}
 
 -- Element `rule` is tried: of the requests that do not match it, or an element over it, none gets another decision than the one told
 pub record Trial (t struck hits told : List ℕ) (s : Shape) (rule : ℕ) : Type 0 where

@@ -3,9 +3,10 @@ use Prim.Native.Nat.{ℕ}
 use mathlib.Core.Path.{_≡_}
 use mathlib.Core.List.{List, _++_}
 use lib.ListN.{length, drop}
-use Rattle.outcomes.specs.declared.Shape.{Shape}
+use Rattle.table.specs.declared.Shape.{Shape}
+use Rattle.table.specs.Shape.{countsOf}
+use Rattle.outcomes.specs.Ready.{Ready, Holds}
 use Rattle.trimming.specs.Decided.{trimmingAt}
-use Rattle.outcomes.specs.Ready.{countsOf, Ready, Holds}
 
 -- from the flags `struck` to `flags`, the `count` places struck laid over `old`; what was asked of the flags holds again
 pub record Trims (t told : List ℕ) (s : Shape) (struck flags old order : List ℕ) (count : ℕ) : Type 0 where

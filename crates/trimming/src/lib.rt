@@ -1,15 +1,17 @@
 // Which rules trimming strikes, over a lent table of elements and a flag for each: one that is not 0 strikes its element.
-use outcomes::Shape;
+use table::Shape;
 ghost use mathlib.Core.Path.{_≡_};
 ghost use mathlib.Core.Bool.{true};
 ghost use mathlib.Core.List.{_++_, map};
 ghost use Prim.Native.Nat.{_*_, _≤_, _<_};
 ghost use lib.ListN.{length, drop};
 ghost use Rattle.meaning.specs.Text.{isNone, counting, firstFrom};
-ghost use Rattle.decisions.specs.Table.{placeOr, Over};
+ghost use Rattle.table.specs.Tree.{placeOr, ruleLeft};
+ghost use Rattle.table.specs.Shape.{countsOf};
+ghost use Rattle.matching.specs.Hits.{Matched};
 ghost use Rattle.outcomes.specs.Decided.{differsAt};
-ghost use Rattle.outcomes.specs.Ready.{countsOf, Ready, Matched, Holds};
-ghost use Rattle.trimming.specs.Decided.{ruleLeft, firstChangeAt, shownAt, needlessAt, nextAt};
+ghost use Rattle.outcomes.specs.Ready.{Ready, Holds};
+ghost use Rattle.trimming.specs.Decided.{firstChangeAt, shownAt, needlessAt, nextAt};
 ghost use Rattle.trimming.specs.Trial.{Trial};
 ghost use Rattle.trimming.specs.Trims.{Trims};
 
@@ -17,22 +19,6 @@ ghost use Rattle.trimming.specs.Trims.{Trims};
 pub struct Tried {
     pub needless: bool,
     pub shown: usize,
-}
-
-// The nearest earlier element that is less deep, or the element itself where there is none.
-fn over(table: &[u16], n: usize, i: usize) -> usize
-    requires { ⌜ (8 * n ≤ length (now table)) × (i < n) ⌝ }
-    ensures { λ r. ⌜ Over (now (table .entry)) r i ⌝ }
-{
-    let depth = decisions::depth_at(table, i);
-    let mut j = i;
-    while 0 < j {
-        j -= 1;
-        if decisions::depth_at(table, j) < depth {
-            return j;
-        }
-    }
-    i
 }
 
 // The first request that gets another decision than the one laid down, or the number of requests. Only requests that match the rule and the element over it can.
@@ -48,7 +34,7 @@ fn first_change(
     ensures { λ r. ⌜ r ≡ placeOr (shape .space) (firstFrom (differsAt (now (table .entry)) (shape .n) (countsOf shape) (now (told .entry)) (now (struck .entry))) 0 (shape .space)) ⌝ }
 {
     let space = shape.space;
-    let up = over(table, shape.n, rule);
+    let up = table::over(table, shape.n, rule);
     let mut block = 0;
     while 64 * block < space {
         if hits[64 * rule + block] & hits[64 * up + block] == 0 {
@@ -62,18 +48,6 @@ fn first_change(
         block += 1;
     }
     space
-}
-
-// Whether element i is a rule that is not struck.
-fn is_left(table: &[u16], struck: &[u8], i: usize) -> bool
-    requires { ⌜ (8 * i < length (now table)) × (i < length (now struck)) ⌝ }
-    ensures { λ r. ⌜ r ≡ ruleLeft (now (table .entry)) (now (struck .entry)) i ⌝ }
-{
-    if struck[i] == 0 {
-        table[8 * i] < 2
-    } else {
-        false
-    }
 }
 
 // Whether every request gets the decision laid down without the rule, the hint's block tried first.
@@ -126,7 +100,7 @@ fn needless(
     requires { ⌜ Ready (now table) (now struck) shape × Matched (now table) (now hits) shape × Holds (now table) (now struck) (now told) shape × (i < shape .n) ⌝ }
     ensures { λ r. ⌜ (r .needless ≡ needlessAt (now (table .entry)) (shape .n) (countsOf shape) (now (struck .entry)) i) × (r .shown < shape .space) × (now (struck .exit) ≡ now (struck .entry)) ⌝ }
 {
-    if !is_left(table, struck, i) {
+    if !table::is_left(table, struck, i) {
         return Tried {
             needless: false,
             shown: 0,
@@ -236,7 +210,7 @@ fn shown_by(
     requires { ⌜ Ready (now table) (now struck) shape × Matched (now table) (now hits) shape × Holds (now table) (now struck) (now told) shape × (i < shape .n) ⌝ }
     ensures { λ r. ⌜ (r ≡ shownAt (now (table .entry)) (shape .n) (countsOf shape) (now (struck .entry)) i) × (now (struck .exit) ≡ now (struck .entry)) ⌝ }
 {
-    if !is_left(table, struck, i) {
+    if !table::is_left(table, struck, i) {
         return shape.space;
     }
     needed_by(table, struck, hits, shape, told, i)

@@ -1,8 +1,9 @@
 // Steps through every request of a policy file: each has its number, and the decision that the report gives its segment.
-use outcomes::Shape;
 use requests::Request;
+use table::Shape;
 ghost use Prim.Native.Nat.{_*_, _≤_, _<_};
 ghost use lib.ListN.{length};
+ghost use Rattle.table.specs.Rows.{Rows};
 ghost use Rattle.outcomes.specs.Ready.{Ready};
 
 // The number of a decision by its word, 4 for another word.
@@ -68,12 +69,12 @@ fn lay_decisions(report: &[u8], told: &mut [u8]) {
 
 // Whether element i applies to a request, where the word tells it of those before it.
 fn applies(table: &[u16], n: usize, q: Request, word: u64, i: usize) -> bool
-    requires { ⌜ (8 * n ≤ length (now table)) × (n ≤ 64) × (i < n) × (q .len ≤ 6) ⌝ }
+    requires { ⌜ Rows (now table) n × (n ≤ 64) × (i < n) × (q .len ≤ 6) ⌝ }
 {
-    if !q.matches(table, 8 * i + 2) {
+    if !table::matches(table, i, q) {
         return false;
     }
-    let up = decisions::parent(table, n, i);
+    let up = table::parent(table, n, i);
     if n <= up {
         return true;
     }
@@ -82,7 +83,7 @@ fn applies(table: &[u16], n: usize, q: Request, word: u64, i: usize) -> bool
 
 // The elements that apply to a request, a bit for each.
 fn applying(table: &[u16], n: usize, q: Request) -> u64
-    requires { ⌜ (8 * n ≤ length (now table)) × (n ≤ 64) × (q .len ≤ 6) ⌝ }
+    requires { ⌜ Rows (now table) n × (n ≤ 64) × (q .len ≤ 6) ⌝ }
 {
     let mut word: u64 = 0;
     let mut i = 0;

@@ -2,7 +2,7 @@
 use Prim.Native.Nat.{_-_, _≤_}
 use mathlib.Core.Path.{sym, ap}
 use native.Mathlib.Omega.{arith}
-use Rattle.decisions.specs.Table.{placeOr}
+use Rattle.table.specs.Tree.{placeOr}
 use Rattle.conflicts.proofs.Showing.{Unshown, unshown-next, shown-first, shown-past, shown-none}
 use borrow.Author.Needs.{needs}
 use Rattle.conflicts.proofs.first_shown.Statement.{statement}

@@ -5,15 +5,14 @@ use mathlib.Core.Bool.{true, false}
 use mathlib.Core.List.{_∷_}
 use native.Mathlib.Numerals.{add-one}
 use native.Mathlib.Omega.{arith}
-use lib.ListN.{take, drop, getD}
 use borrow.Author.Needs.{needs}
 use borrow.Author.Tests.{not-true, not-false}
-use Rattle.meaning.specs.Deciding.{matches, within, combined}
+use Rattle.meaning.specs.Deciding.{matches, combined}
 use Rattle.requests.specs.Values.{valuesOf}
-use Rattle.decisions.specs.Table.{algorithmAt, wordAt, depthOf}
+use Rattle.table.specs.Rows.{algorithmAt, wordAt, depthOf, wordNumber, elementAt}
 use Rattle.decisions.specs.Replies.{replyOf, repliesFrom}
 use Rattle.decisions.proofs.Combining.{Settled, neutral, start-settled, step-settled}
-use Rattle.decisions.proofs.Children.{replies-none, replies-struck, replies-over, replies-deeper, replies-step, reply-off, reply-on, target-test, algorithm-word}
+use Rattle.decisions.proofs.Children.{children-none, children-end, child-step, reply-off, reply-on, algorithm-word}
 use borrow.Fn.Kinds.{In}
 use borrow.Fn.PlainCycle.{Measures, is, falls, and}
 use Rattle.decisions.proofs.decide_at.Reads as decide-at
@@ -22,10 +21,11 @@ use Rattle.decisions.proofs.+decide_at+fold.Lts-decide_at as decide-at-
 use Rattle.decisions.proofs.fold.Reads as fold
 use Rattle.decisions.proofs.fold.Kinds as fold-kinds
 use Rattle.decisions.proofs.+decide_at+fold.Lts-fold as fold-lts
-use Rattle.decisions.proofs.depth_at.Reads as depth-at-reads
+use Rattle.table.proofs.depth_at.Reads as depth-at-reads
 use Rattle.decisions.proofs.step.Reads as step-reads
-use Rattle.decisions.proofs.word_at.Reads as word-at-reads
-use Rattle.requests.proofs.Request.matches.Reads as matches-reads
+use Rattle.table.proofs.word_at.Reads as word-at-reads
+use Rattle.table.proofs.next_child.Reads as next-child-reads
+use Rattle.table.proofs.matches.Reads as matches-reads
 use Rattle.decisions.proofs.+decide_at+fold.{statement}
 use Rattle.decisions.proofs.+decide_at+fold.Tie.{close}
 
@@ -53,13 +53,7 @@ abbrev decide-at-claims : ℕ → decide-at-lts.Claims
 decide-at-claims t = (matches-reads.Asked, matches-reads.Learnt, word-at-reads.Asked, word-at-reads.Learnt, depth-at-reads.Asked, depth-at-reads.Learnt, fold-below t, fold.Post)
 
 abbrev fold-claims : ℕ → fold-lts.Claims
-fold-claims t = (depth-at-reads.Asked, depth-at-reads.Learnt, decide-at-below t, decide-at.Post, step-reads.Asked, step-reads.Learnt)
-
-decide-at-mul-matches : (t : ℕ) → decide-at-lts.Need-mul-matches (decide-at-claims t) (decide-at-at t) decide-at.Post
-decide-at-mul-matches t c = search needs
-
-decide-at-add-matches : (t : ℕ) → decide-at-lts.Need-add-matches (decide-at-claims t) (decide-at-at t) decide-at.Post
-decide-at-add-matches t c = search needs
+fold-claims t = (next-child-reads.Asked, next-child-reads.Learnt, decide-at-below t, decide-at.Post, step-reads.Asked, step-reads.Learnt)
 
 decide-at-matches-requires : (t : ℕ) → decide-at-lts.Need-matches-requires (decide-at-claims t) (decide-at-at t) decide-at.Post
 decide-at-matches-requires t c κs = search needs
@@ -67,8 +61,8 @@ decide-at-matches-requires t c κs = search needs
 decide-at-returns : (t : ℕ) → decide-at-lts.Need-returns (decide-at-claims t) (decide-at-at t) decide-at.Post
 decide-at-returns t c =
     let args = c .before .before .before .before .args in
-    let tested : within (take 6 (drop (8 * args .at + 2) (args .table .now))) (valuesOf (args .q)) ≡ false = sym (c .before .matches .ensures) ∙ not-true _ (c .if1 .taken) in
-    let given = reply-off (matches (valuesOf (args .q))) (args .table .now) (args .struck .now) (args .n) (args .at) (target-test (valuesOf (args .q)) (args .table .now) (args .at) false tested) in
+    let tested : matches (valuesOf (args .q)) (elementAt (args .table .now) (args .at)) ≡ false = sym (c .before .matches .ensures) ∙ not-true _ (c .if1 .taken) in
+    let given = reply-off (matches (valuesOf (args .q))) (args .table .now) (args .struck .now) (args .n) (args .at) tested in
     sym given
 
 decide-at-word-at-requires : (t : ℕ) → decide-at-lts.Need-word-at-requires (decide-at-claims t) (decide-at-at t) decide-at.Post
@@ -77,15 +71,15 @@ decide-at-word-at-requires t c κs = search needs
 decide-at-returns-2 : (t : ℕ) → decide-at-lts.Need-returns-2 (decide-at-claims t) (decide-at-at t) decide-at.Post
 decide-at-returns-2 t c =
     let args = c .before .before .before .before .before .before .args in
-    let tested : within (take 6 (drop (8 * args .at + 2) (args .table .now))) (valuesOf (args .q)) ≡ true = sym (c .before .before .before .matches .ensures) ∙ not-false _ (c .before .before .if1 .left) in
-    let given = reply-on (matches (valuesOf (args .q))) (args .table .now) (args .struck .now) (args .n) (args .at) (target-test (valuesOf (args .q)) (args .table .now) (args .at) true tested) in
+    let tested : matches (valuesOf (args .q)) (elementAt (args .table .now) (args .at)) ≡ true = sym (c .before .before .before .matches .ensures) ∙ not-false _ (c .before .before .if1 .left) in
+    let given = reply-on (matches (valuesOf (args .q))) (args .table .now) (args .struck .now) (args .n) (args .at) tested in
     sym (given ∙ rw (← c .before .word-at .ensures, c .if2 .taken))
 
 decide-at-returns-3 : (t : ℕ) → decide-at-lts.Need-returns-3 (decide-at-claims t) (decide-at-at t) decide-at.Post
 decide-at-returns-3 t c =
     let args = c .before .before .before .before .before .before .before .args in
-    let tested : within (take 6 (drop (8 * args .at + 2) (args .table .now))) (valuesOf (args .q)) ≡ true = sym (c .before .before .before .before .matches .ensures) ∙ not-false _ (c .before .before .before .if1 .left) in
-    let given = reply-on (matches (valuesOf (args .q))) (args .table .now) (args .struck .now) (args .n) (args .at) (target-test (valuesOf (args .q)) (args .table .now) (args .at) true tested) in
+    let tested : matches (valuesOf (args .q)) (elementAt (args .table .now) (args .at)) ≡ true = sym (c .before .before .before .before .matches .ensures) ∙ not-false _ (c .before .before .before .if1 .left) in
+    let given = reply-on (matches (valuesOf (args .q))) (args .table .now) (args .struck .now) (args .n) (args .at) tested in
     sym (given ∙ rw (← c .before .before .word-at .ensures, c .if3 .taken))
 
 decide-at-depth-at-requires : (t : ℕ) → decide-at-lts.Need-depth-at-requires (decide-at-claims t) (decide-at-at t) decide-at.Post
@@ -106,11 +100,11 @@ decide-at-fold-requires t c κs = search needs
 decide-at-returns-4 : (t : ℕ) → decide-at-lts.Need-returns-4 (decide-at-claims t) (decide-at-at t) decide-at.Post
 decide-at-returns-4 t c =
     let args = c .before .before .before .before .before .before .before .before .before .args in
-    let tested : within (take 6 (drop (8 * args .at + 2) (args .table .now))) (valuesOf (args .q)) ≡ true = sym (c .before .before .before .before .before .before .matches .ensures) ∙ not-false _ (c .before .before .before .before .before .if1 .left) in
-    let given = reply-on (matches (valuesOf (args .q))) (args .table .now) (args .struck .now) (args .n) (args .at) (target-test (valuesOf (args .q)) (args .table .now) (args .at) true tested) in
+    let tested : matches (valuesOf (args .q)) (elementAt (args .table .now) (args .at)) ≡ true = sym (c .before .before .before .before .before .before .matches .ensures) ∙ not-false _ (c .before .before .before .before .before .if1 .left) in
+    let given = reply-on (matches (valuesOf (args .q))) (args .table .now) (args .struck .now) (args .n) (args .at) tested in
     let word = c .before .before .before .before .word-at in
     let algorithm : wordAt (word .result) ≡ algorithmAt (word .result - 2) = algorithm-word (word .result) (omega arith) in
-    let asked : c .fold .result ≡ combined (wordAt (getD (args .table .now) (8 * args .at) 0)) (repliesFrom (matches (valuesOf (args .q))) (args .table .now) (args .struck .now) (args .n) (suc (depthOf (args .table .now) (args .at))) (args .at + 1)) =
+    let asked : c .fold .result ≡ combined (wordAt (wordNumber (args .table .now) (args .at))) (repliesFrom (matches (valuesOf (args .q))) (args .table .now) (args .struck .now) (args .n) (suc (depthOf (args .table .now) (args .at))) (args .at + 1)) =
     rw (← word .ensures, algorithm, ← add-one (depthOf (args .table .now) (args .at)), ← c .before .depth-at .ensures .0) (c .fold .ensures) in
     sym (given ∙ λ i. record { matched = true; decision = sym asked i })
 
@@ -128,8 +122,20 @@ fold-loop-holds t c =
     let args = c .before .before .args in
     (omega arith, omega arith, start-settled (args .algorithm), sym (neutral (args .algorithm) _))
 
-fold-shared-slice-read-if1 : (t : ℕ) → fold-lts.Need-shared-slice-read-if1 (fold-claims t) (fold-at t) fold.Post fold-Inv-loop fold-μ-loop
-fold-shared-slice-read-if1 t c = search needs
+fold-next-child-requires : (t : ℕ) → fold-lts.Need-next-child-requires (fold-claims t) (fold-at t) fold.Post fold-Inv-loop fold-μ-loop
+fold-next-child-requires t c κs = search needs
+
+fold-returns : (t : ℕ) → fold-lts.Need-returns (fold-claims t) (fold-at t) fold.Post fold-Inv-loop fold-μ-loop
+fold-returns t c =
+    let args = c .before .before .before .before .before .before .args in
+    let turn = c .before .before .before .loop in
+    sym (turn .inv .3 ∙ rw (children-end (matches (valuesOf (args .q))) (args .table .now) (args .struck .now) (args .n) (args .depth) (turn .at) _ (omega arith) (c .before .next-child .ensures .0) (c .if1 .taken)) (turn .inv .2))
+
+fold-decide-at-requires : (t : ℕ) → fold-lts.Need-decide-at-requires (fold-claims t) (fold-at t) fold.Post fold-Inv-loop fold-μ-loop
+fold-decide-at-requires t c κs = search needs
+
+fold-step-requires : (t : ℕ) → fold-lts.Need-step-requires (fold-claims t) (fold-at t) fold.Post fold-Inv-loop fold-μ-loop
+fold-step-requires t c κs = search needs
 
 fold-add-at : (t : ℕ) → fold-lts.Need-add-at (fold-claims t) (fold-at t) fold.Post fold-Inv-loop fold-μ-loop
 fold-add-at t c = search needs
@@ -139,74 +145,26 @@ fold-loop-less t c = search needs
 
 fold-loop-again : (t : ℕ) → fold-lts.Need-loop-again (fold-claims t) (fold-at t) fold.Post fold-Inv-loop fold-μ-loop
 fold-loop-again t c =
-    let args = c .before .before .before .before .before .before .args in
-    let turn = c .before .before .before .loop in
-    let in-table : turn .at < args .n = omega arith in
-    (omega arith, omega arith, turn .inv .2, turn .inv .3 ∙ rw (replies-struck (matches (valuesOf (args .q))) (args .table .now) (args .struck .now) (args .n) (args .depth) (turn .at) in-table (c .if1 .taken)))
-
-fold-depth-at-requires : (t : ℕ) → fold-lts.Need-depth-at-requires (fold-claims t) (fold-at t) fold.Post fold-Inv-loop fold-μ-loop
-fold-depth-at-requires t c κs = search needs
-
-fold-returns : (t : ℕ) → fold-lts.Need-returns (fold-claims t) (fold-at t) fold.Post fold-Inv-loop fold-μ-loop
-fold-returns t c =
     let args = c .before .before .before .before .before .before .before .before .args in
     let turn = c .before .before .before .before .before .loop in
-    let in-table : turn .at < args .n = omega arith in
-    let ended = replies-over (matches (valuesOf (args .q))) (args .table .now) (args .struck .now) (args .n) (args .depth) (turn .at) _ in-table (c .before .before .if1 .left) (c .before .depth-at .ensures .0) (c .if2 .taken) in
-    sym (turn .inv .3 ∙ rw ended (turn .inv .2))
-
-fold-add-at-2 : (t : ℕ) → fold-lts.Need-add-at-2 (fold-claims t) (fold-at t) fold.Post fold-Inv-loop fold-μ-loop
-fold-add-at-2 t c = search needs
-
-fold-loop-less-2 : (t : ℕ) → fold-lts.Need-loop-less-2 (fold-claims t) (fold-at t) fold.Post fold-Inv-loop fold-μ-loop
-fold-loop-less-2 t c = search needs
-
-fold-loop-again-2 : (t : ℕ) → fold-lts.Need-loop-again-2 (fold-claims t) (fold-at t) fold.Post fold-Inv-loop fold-μ-loop
-fold-loop-again-2 t c =
-    let args = c .before .before .before .before .before .before .before .before .before .args in
-    let turn = c .before .before .before .before .before .before .loop in
-    let in-table : turn .at < args .n = omega arith in
-    let passed = replies-deeper (matches (valuesOf (args .q))) (args .table .now) (args .struck .now) (args .n) (args .depth) (turn .at) _ in-table (c .before .before .before .if1 .left) (c .before .before .depth-at .ensures .0) (c .if3 .taken) in
-    (omega arith, omega arith, turn .inv .2, turn .inv .3 ∙ rw passed)
-
-fold-decide-at-requires : (t : ℕ) → fold-lts.Need-decide-at-requires (fold-claims t) (fold-at t) fold.Post fold-Inv-loop fold-μ-loop
-fold-decide-at-requires t c κs = search needs
-
-fold-step-requires : (t : ℕ) → fold-lts.Need-step-requires (fold-claims t) (fold-at t) fold.Post fold-Inv-loop fold-μ-loop
-fold-step-requires t c κs = search needs
-
-fold-add-at-3 : (t : ℕ) → fold-lts.Need-add-at-3 (fold-claims t) (fold-at t) fold.Post fold-Inv-loop fold-μ-loop
-fold-add-at-3 t c = search needs
-
-fold-loop-less-3 : (t : ℕ) → fold-lts.Need-loop-less-3 (fold-claims t) (fold-at t) fold.Post fold-Inv-loop fold-μ-loop
-fold-loop-less-3 t c = search needs
-
-fold-loop-again-3 : (t : ℕ) → fold-lts.Need-loop-again-3 (fold-claims t) (fold-at t) fold.Post fold-Inv-loop fold-μ-loop
-fold-loop-again-3 t c =
-    let args = c .before .before .before .before .before .before .before .before .before .before .before .args in
-    let turn = c .before .before .before .before .before .before .before .before .loop in
-    let in-table : turn .at < args .n = omega arith in
-    let child : c .before .before .before .before .depth-at .result ≡ args .depth = omega arith in (
+    let next = c .before .before .before .next-child in
+    let child = c .before .decide-at in (
       omega arith,
       omega arith,
-      step-settled (args .algorithm) (replyOf (turn .so-far)) (replyOf (c .before .decide-at .result)) (replyOf (c .step .result)) (c .step .ensures),
-      turn .inv .3
-          ∙ replies-step (matches (valuesOf (args .q))) (args .table .now) (args .struck .now) (args .n) (args .depth) (turn .at) _ in-table (c .before .before .before .before .before .if1 .left) (c .before .before .before .before .depth-at .ensures .0)
-          (args .algorithm) (replyOf (turn .so-far)) (replyOf (c .before .decide-at .result)) (replyOf (c .step .result)) child (c .before .decide-at .ensures) (c .step .ensures),
+      step-settled (args .algorithm) (replyOf (turn .so-far)) (replyOf (child .result)) (replyOf (c .step .result)) (c .step .ensures),
+      turn .inv .3 ∙ child-step (matches (valuesOf (args .q))) (args .table .now) (args .struck .now) (args .n) (args .depth) (turn .at) _ (omega arith) (next .ensures .0) (args .algorithm) (omega arith) (replyOf (turn .so-far)) (replyOf (child .result)) (replyOf (c .step .result)) (child .ensures) (c .step .ensures),
     )
 
 fold-returns-2 : (t : ℕ) → fold-lts.Need-returns-2 (fold-claims t) (fold-at t) fold.Post fold-Inv-loop fold-μ-loop
 fold-returns-2 t c =
     let args = c .before .before .before .before .args in
     let turn = c .before .loop in
-    sym (turn .inv .3 ∙ rw (replies-none (matches (valuesOf (args .q))) (args .table .now) (args .struck .now) (args .n) (args .depth) (turn .at) (omega arith)) (turn .inv .2))
+    sym (turn .inv .3 ∙ rw (children-none (matches (valuesOf (args .q))) (args .table .now) (args .struck .now) (args .n) (args .depth) (turn .at) (omega arith)) (turn .inv .2))
 
 pub +decide-at+fold-spec : {M : Type 1} → statement M
 +decide-at+fold-spec = close μ-decide-at μ-fold (λ t. decide-at-lts.spec (decide-at-claims t)
     (decide-at-at t)
     decide-at.Post
-    (decide-at-mul-matches t)
-    (decide-at-add-matches t)
     (decide-at-matches-requires t)
     (decide-at-returns t)
     (decide-at-word-at-requires t)
@@ -224,18 +182,11 @@ pub +decide-at+fold-spec : {M : Type 1} → statement M
     fold-Inv-loop
     fold-μ-loop
     (fold-loop-holds t)
-    (fold-shared-slice-read-if1 t)
+    (fold-next-child-requires t)
+    (fold-returns t)
+    (fold-decide-at-requires t)
+    (fold-step-requires t)
     (fold-add-at t)
     (fold-loop-less t)
     (fold-loop-again t)
-    (fold-depth-at-requires t)
-    (fold-returns t)
-    (fold-add-at-2 t)
-    (fold-loop-less-2 t)
-    (fold-loop-again-2 t)
-    (fold-decide-at-requires t)
-    (fold-step-requires t)
-    (fold-add-at-3 t)
-    (fold-loop-less-3 t)
-    (fold-loop-again-3 t)
     (fold-returns-2 t)

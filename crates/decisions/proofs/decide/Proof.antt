@@ -12,7 +12,7 @@ returns : tie.Need-returns
 returns c =
     let start = c .before .before .before in
     ap (λ r. r .decision) (c .decide-at .ensures)
-    ∙ sym (rw sub-zero at (first-left (matches (valuesOf (start .args .q))) (start .args .table .now) (start .args .struck .now) (start .args .n) 0 (start .pre .0 .place) (start .pre .1)))
+    ∙ sym (rw sub-zero at (first-left (matches (valuesOf (start .args .q))) (start .args .table .now) (start .args .struck .now) (start .args .n) 0 (start .pre .0 .place) (start .pre .2)))
 
 pub decide-spec : {M : Type 1} → statement M
 decide-spec = tie.close (tie.spec (λ c κs. search needs) returns)

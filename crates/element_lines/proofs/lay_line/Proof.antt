@@ -29,7 +29,7 @@ returns c =
     let word = c .before .before .before .before .before .before .before .before .before .before .word-number .ensures .0 ∙ ap (λ w. numberOfWord (wordOf (args .kind) w)) (c .before .before .before .before .before .before .before .before .before .before .before .word-field .ensures) in
     let laid = c .before .before .before .before .before .before .put-element .ensures in
     let tree = c .before .with-element .ensures ∙ ap (grown (args .st .tree) (args .kind)) depth in
-    (rw tree, (laid .0 ∙ same-row (args .table .now) (8 * args .st .tree .len) word depth (args .masks), laid .1 ∙ same-end (args .places .now) (2 * args .st .tree .len) (args .st .at) (c .before .before .before .before .before .before .before .before .before .name-field .ensures)))
+    (rw tree, (laid .0 ∙ same-row (args .table .now) (args .st .tree .len) word depth (args .masks), laid .1 ∙ same-end (args .places .now) (2 * args .st .tree .len) (args .st .at) (c .before .before .before .before .before .before .before .before .before .name-field .ensures)))
 
 pub lay-line-spec : {M : Type 1} → statement M
 lay-line-spec =

@@ -45,7 +45,7 @@ decide-requires c κs =
     let holds = file-read _ _ _ _ (reading .ensures .answer) read-well .2 in
     let few = request-few _ _ _ _ (reading .ensures .answer) read-well (c .before .before .before .before .before .before .before .before .before .before .before .before .before .before .before .before .args .request .now) (asked .result) (asked .ensures) (not-false _ (c .before .before .before .if2 .left)) in
     let elements : reading .result .elements ≤ 64 = omega (arith, holds .rooms .named .room) in
-    (record { rows = omega (arith, holds .rooms .rows, elements); flags = elements; place = holds .some; few = few }, refl)
+    (record { rows = omega (arith, holds .rooms .rows, elements); flags = elements; place = holds .some }, few, refl)
 
 returns-3 : tie.Need-returns-3
 returns-3 c =

@@ -3,7 +3,8 @@ use Prim.Native.Nat.{_+_, _-_, _*_, _/_, _≤_}
 use mathlib.Core.Path.{_≡_, refl, _∙_}
 use native.Mathlib.Omega.{arith}
 use borrow.Author.Needs.{needs}
-use lib.ListN.{length, take}
+use lib.ListN.{length}
+use Rattle.table.specs.Shape.{countsOf}
 use Rattle.matching.specs.Hits.{Hits, Rest}
 use Rattle.matching.proofs.Putting.{put-is, rest-none, rest-next}
 use Rattle.matching.proofs.Targets.{hits-none, hits-next}
@@ -11,35 +12,38 @@ use Rattle.matching.proofs.match_all.Statement.{statement}
 use Rattle.matching.proofs.match_all.Tie as tie
 
 abbrev Inv-loop : tie.InvT-loop
-Inv-loop table n counts len space hits₀ words i₀ hits i = (i ≤ n) × (length hits ≡ length hits₀) × Hits table i (take len counts) hits × Rest i space hits₀ hits
+Inv-loop table shape hits₀ n counts words i₀ hits i = (i ≤ n) × (length hits ≡ length hits₀) × Hits table i (countsOf shape) hits × Rest i (shape .space) hits₀ hits
 
 abbrev μ-loop : tie.MeasureT-loop
-μ-loop table n counts len space hits₀ words i₀ hits i = n - i
+μ-loop table shape hits₀ n counts words i₀ hits i = n - i
 
 loop-holds : tie.Need-loop-holds Inv-loop μ-loop
-loop-holds c = let args = c .before .before .args in (search needs, refl, hits-none (args .table .now) (take (args .len) (args .counts)) (args .hits .now), rest-none (args .space) (args .hits .now))
+loop-holds c = let args = c .before .before .before .before .args in (search needs, refl, hits-none (args .table .now) (countsOf (args .shape)) (args .hits .now), rest-none (args .shape .space) (args .hits .now))
 
 loop-again : tie.Need-loop-again Inv-loop μ-loop
 loop-again c =
-    let start = c .before .before .before .before .before .before .before .before .before .before in
-    let turn = c .before .before .before .before .before .before .before .loop in
+    let start = c .before .before .before .before .before .before .before .before .before .before .before .before .before in
+    let turn = c .before .before .before .before .before .before .before .before .loop in
     let put = c .before .before .put in
     let t = start .args .table .now in
-    let counts = take (start .args .len) (start .args .counts) in
+    let shape = start .args .shape in
+    let own = c .before .before .before .before .before .before .masks-at in
     let masks = c .before .before .before .before .before .match-masks in
     let wide : length (masks .result) ≡ 64 = search needs in
-    let copied = put-is (masks .result) ((start .args .space + 63) / 64) (64 * turn .i) (turn .hits) (put .last .1 .1 .1 .0) (put .ensures) (omega arith) (omega arith) in (
+    let copied = put-is (masks .result) ((shape .space + 63) / 64) (64 * turn .i) (turn .hits) (put .last .1 .1 .1 .0) (put .ensures) (omega arith) (omega arith) in (
       omega arith,
       put .kept .1 .1 .1 .0 ∙ turn .inv .1,
-      hits-next t counts (omega arith) (omega arith) (turn .inv .2) (masks .ensures .bits) copied,
-      rest-next (start .args .space) (start .args .hits .now) (start .pre .small) (λ m a b. masks .ensures .clear m (omega (arith, start .pre .all)) b) (put .kept .1 .1 .1 .0) copied (turn .inv .3),
+      hits-next t (countsOf shape) (omega arith) (omega arith) (turn .inv .2) (own .ensures) (masks .ensures .bits) copied,
+      rest-next (shape .space) (start .args .hits .now) (start .pre .small) (λ m a b. masks .ensures .clear m (omega (arith, start .pre .all)) b) (put .kept .1 .1 .1 .0) copied (turn .inv .3),
     )
 
 returns : tie.Need-returns Inv-loop μ-loop
 returns c =
+    let start = c .before .before .before .before .before .before in
     let turn = c .before .loop in
-    let all : turn .i ≡ c .before .before .before .before .args .n = omega arith in
-    (rw all at (turn .inv .2), rw all at (turn .inv .3))
+    let all : turn .i ≡ start .args .shape .n = omega arith in
+    let rest = rw all at (turn .inv .3) in
+    (record { room = omega (arith, turn .inv .1, start .pre .room, start .pre .few); hits-are = rw all at (turn .inv .2); clear = rest .clear }, rest)
 
 pub match-all-spec : {M : Type 1} → statement M
 match-all-spec =
@@ -49,8 +53,7 @@ match-all-spec =
     μ-loop
     (λ c. search needs)
     loop-holds
-    (λ c. search needs)
-    (λ c. search needs)
+    (λ c κs. search needs)
     (λ c κs. search needs)
     (λ c. search needs)
     (λ c κs. search needs)

@@ -8,43 +8,46 @@ use Rattle.matching.proofs.match_masks.Statement.{statement}
 use Rattle.matching.proofs.match_masks.Tie as tie
 
 abbrev Inv-loop : tie.InvT-loop
-Inv-loop masks at len counts plane₀ size₀ a₀ plane size a = Looks masks at counts len plane size a
+Inv-loop len masks counts plane₀ size₀ a₀ plane size a = Looks masks counts len plane size a
 
 abbrev μ-loop : tie.MeasureT-loop
-μ-loop masks at len counts plane₀ size₀ a₀ plane size a = a
+μ-loop len masks counts plane₀ size₀ a₀ plane size a = a
 
 loop-holds : tie.Need-loop-holds Inv-loop μ-loop
-loop-holds c = let start = c .before in looks-none _ _ _ _ (start .pre .0) (start .pre .1) (search needs)
+loop-holds c = looks-none _ _ _ (search needs) (c .pre .0) (search needs)
 
 spread-requires : tie.Need-spread-requires Inv-loop μ-loop
 spread-requires c κs =
-    let start = c .before .before .before .before .before in
-    let turn = c .before .before .before .loop in
-    let more = c .before .before .loop-test .taken in
+    let start = c .before .before .before in
+    let turn = c .before .before .loop in
+    let more = c .before .loop-test .taken in
     let pre = start .pre in
-    let six : length (start .args .t3) ≡ 6 = search needs in (
-      size-some _ _ _ _ (pre .0) (pre .1) six (pre .2) (pre .3) _ _ _ (turn .inv) more,
-      next-small _ _ _ _ (pre .0) (pre .1) six (pre .2) (pre .3) _ _ _ (turn .inv) more,
+    let six-masks : length (start .args .t1) ≡ 6 = search needs in
+    let six : length (start .args .t2) ≡ 6 = search needs in (
+      size-some _ _ _ six-masks (pre .0) six (pre .1) (pre .2) _ _ _ (turn .inv) more,
+      next-small _ _ _ six-masks (pre .0) six (pre .1) (pre .2) _ _ _ (turn .inv) more,
       turn .inv .bits .clear,
     )
 
 mul-size : tie.Need-mul-size Inv-loop μ-loop
 mul-size c =
-    let start = c .before .before .before .before .before .before in
-    let turn = c .before .before .before .before .loop in
-    let more = c .before .before .before .loop-test .taken in
+    let start = c .before .before .before .before in
+    let turn = c .before .before .before .loop in
+    let more = c .before .before .loop-test .taken in
     let pre = start .pre in
-    let six : length (start .args .t3) ≡ 6 = search needs in
-    omega (arith, next-small _ _ _ _ (pre .0) (pre .1) six (pre .2) (pre .3) _ _ _ (turn .inv) more)
+    let six-masks : length (start .args .t1) ≡ 6 = search needs in
+    let six : length (start .args .t2) ≡ 6 = search needs in
+    omega (arith, next-small _ _ _ six-masks (pre .0) six (pre .1) (pre .2) _ _ _ (turn .inv) more)
 
 loop-again : tie.Need-loop-again Inv-loop μ-loop
 loop-again c =
-    let start = c .before .before .before .before .before .before in
-    let turn = c .before .before .before .before .loop in
-    let more = c .before .before .before .loop-test .taken in
+    let start = c .before .before .before .before in
+    let turn = c .before .before .before .loop in
+    let more = c .before .before .loop-test .taken in
     let pre = start .pre in
-    let six : length (start .args .t3) ≡ 6 = search needs in
-    looks-next _ _ _ _ (pre .0) (pre .1) six (pre .2) (pre .3) _ _ _ (turn .inv) more _ (c .spread .ensures)
+    let six-masks : length (start .args .t1) ≡ 6 = search needs in
+    let six : length (start .args .t2) ≡ 6 = search needs in
+    looks-next _ _ _ six-masks (pre .0) six (pre .1) (pre .2) _ _ _ (turn .inv) more _ (c .spread .ensures)
 
 returns : tie.Need-returns Inv-loop μ-loop
 returns c =
@@ -61,7 +64,6 @@ match-masks-spec =
     μ-loop
     (λ c. search needs)
     loop-holds
-    (λ c. search needs)
     (λ c. search needs)
     (λ c. search needs)
     (λ c. search needs)

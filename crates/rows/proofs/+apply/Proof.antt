@@ -2,8 +2,8 @@
 use mathlib.Core.Path.{sym, _∙_}
 use native.Mathlib.Omega.{arith}
 use borrow.Author.Needs.{needs}
-use Rattle.decisions.specs.Table.{depthOf}
-use Rattle.decisions.proofs.Above.{up}
+use Rattle.table.specs.Rows.{depthOf}
+use Rattle.table.proofs.Above.{up}
 use Rattle.rows.proofs.Rows.{narrowed-top, narrowed-up}
 use Prim.Native.Nat.{ℕ, _<_}
 use borrow.Fn.Kinds.{In}
@@ -11,7 +11,7 @@ use borrow.Fn.PlainCycle.{Measures, is, falls, and}
 use Rattle.rows.proofs.apply.Reads as apply
 use Rattle.rows.proofs.apply.Kinds as apply-kinds
 use Rattle.rows.proofs.+apply.Lts-apply as apply-lts
-use Rattle.decisions.proofs.parent.Reads as parent-reads
+use Rattle.table.proofs.parent.Reads as parent-reads
 use Rattle.rows.proofs.narrow.Reads as narrow-reads
 use Rattle.rows.proofs.+apply.{statement}
 use Rattle.rows.proofs.+apply.Tie.{close}

@@ -2,7 +2,7 @@
 use Prim.Native.Nat.{_-_, _≤_}
 use native.Mathlib.Omega.{arith}
 use borrow.Author.Needs.{needs}
-use Rattle.decisions.specs.Table.{parentOf, placeOr}
+use Rattle.table.specs.Tree.{parentOf, placeOr}
 use Rattle.outcomes.proofs.Laying.{Lays, lays-none, lays-next, lays-all}
 use Rattle.rows.proofs.parent_all.Statement.{statement}
 use Rattle.rows.proofs.parent_all.Tie as tie

@@ -4,7 +4,7 @@ use mathlib.Core.Path.{sym, ap}
 use native.Mathlib.Omega.{arith}
 use borrow.Author.Needs.{needs}
 use borrow.Author.Tests.{eq-eqb, ne-eqb}
-use Rattle.decisions.specs.Table.{placeOr}
+use Rattle.table.specs.Tree.{placeOr}
 use Rattle.segments.proofs.Chains.{Searching, search-from, search-none, search-some, search-on, head-links, next-links}
 use Rattle.segments.proofs.first_alike.Statement.{statement}
 use Rattle.segments.proofs.first_alike.Tie as tie

@@ -1,8 +1,8 @@
 -- `first_change`: no request of the blocks passed gets another decision. Assumes nothing.
 use Prim.Native.Nat.{_+_, _-_, _*_, _<_}
 use native.Mathlib.Omega.{arith}
+use Rattle.table.specs.Shape.{countsOf}
 use Rattle.outcomes.specs.Decided.{differsAt}
-use Rattle.outcomes.specs.Ready.{countsOf}
 use Rattle.trimming.proofs.Blocks.{NoneBelow, block-passed, block-searched, block-found, none-found-at-all, block-off}
 use borrow.Author.Needs.{needs}
 use Rattle.trimming.proofs.first_change.Statement.{statement}

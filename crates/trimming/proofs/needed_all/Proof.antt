@@ -4,9 +4,9 @@ use mathlib.Core.Path.{_≡_, refl, ap, _∙_}
 use native.Mathlib.Omega.{arith}
 use borrow.Author.Needs.{needs}
 use lib.ListN.{length}
-use Rattle.trimming.specs.Decided.{shownAt}
-use Rattle.outcomes.specs.Ready.{countsOf}
+use Rattle.table.specs.Shape.{countsOf}
 use Rattle.outcomes.proofs.Laying.{Lays, lays-none, lays-next, lays-all}
+use Rattle.trimming.specs.Decided.{shownAt}
 use Rattle.trimming.proofs.Trying.{asks}
 use Rattle.trimming.proofs.needed_all.Statement.{statement}
 use Rattle.trimming.proofs.needed_all.Tie as tie

@@ -3,7 +3,7 @@ use mathlib.Core.Path.{refl, sym, _∙_}
 use native.Mathlib.Omega.{arith}
 use borrow.Author.Tests.{not-true, not-false}
 use lib.ListN.{length-set}
-use Rattle.outcomes.specs.Ready.{countsOf}
+use Rattle.table.specs.Shape.{countsOf}
 use Rattle.trimming.proofs.Trying.{set-back, needless-rule, rule-flag, trial, needless-other}
 use borrow.Author.Needs.{needs}
 use Rattle.trimming.proofs.needless.Statement.{statement}

@@ -5,9 +5,9 @@ use native.Mathlib.Omega.{arith}
 use borrow.Author.Needs.{needs}
 use lib.ListN.{length, length-set}
 use Rattle.meaning.specs.Text.{lastBelow}
-use Rattle.decisions.specs.Table.{placeOr}
+use Rattle.table.specs.Tree.{placeOr}
+use Rattle.table.specs.Shape.{countsOf}
 use Rattle.trimming.specs.Decided.{needlessAt, nextAt}
-use Rattle.outcomes.specs.Ready.{countsOf}
 use Rattle.trimming.proofs.Searching.{last-here, last-earlier, last-nowhere}
 use Rattle.trimming.proofs.Trying.{asks, tested}
 use Rattle.trimming.proofs.next_rule.Statement.{statement}

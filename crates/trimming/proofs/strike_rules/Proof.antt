@@ -4,7 +4,8 @@ use mathlib.Core.Path.{_≡_, refl, ap, _∙_}
 use native.Mathlib.Omega.{arith}
 use borrow.Author.Needs.{needs}
 use lib.ListN.{length, length-set}
-use Rattle.outcomes.specs.Ready.{countsOf, Ready, Holds}
+use Rattle.table.specs.Shape.{countsOf}
+use Rattle.outcomes.specs.Ready.{Ready, Holds}
 use Rattle.trimming.proofs.Strikes.{Next, next-found, next-none, trimming-stops, ready-next, holds-next, Strikes, strikes-none, strikes-next, strikes-end, strikes-all}
 use Rattle.trimming.proofs.strike_rules.Statement.{statement}
 use Rattle.trimming.proofs.strike_rules.Tie as tie

@@ -4,7 +4,7 @@ use Rattle.report_lines.proofs.conflict_lines.put_conflict.Statement.{s
 use Rattle.report_lines.proofs.conflict_lines.put_conflict.Tie as tie
 use Rattle.report_lines.proofs.conflict_lines.put_conflict.Reads as reads
 use Rattle.report_lines.proofs.conflict_lines.put_conflict.Lts as lts
-use Rattle.decisions.proofs.wide.Reads as wide-reads
+use Rattle.table.proofs.wide.Reads as wide-reads
 use Rattle.printing.proofs.put_field.Reads as put-field-reads
 use Rattle.printing.proofs.put_number.Reads as put-number-reads
 use Rattle.report_lines.proofs.fields.put_named.Reads as put-named-reads

@@ -5,7 +5,7 @@ use Rattle.report_lines.proofs.segment_lines.put_segment.Statement.{sta
 use Rattle.report_lines.proofs.segment_lines.put_segment.Tie as tie
 use Rattle.report_lines.proofs.segment_lines.put_segment.Reads as reads
 use Rattle.report_lines.proofs.segment_lines.put_segment.Lts as lts
-use Rattle.decisions.proofs.wide.Reads as wide-reads
+use Rattle.table.proofs.wide.Reads as wide-reads
 use Rattle.printing.proofs.put_field.Reads as put-field-reads
 use Rattle.printing.proofs.put_number.Reads as put-number-reads
 use Rattle.report_lines.proofs.fields.put_decision.Reads as put-decision-reads

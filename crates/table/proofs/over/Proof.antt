@@ -6,9 +6,9 @@ use lib.Dec.{eqb}
 use borrow.Author.Tests.{eqb-true, eqb-false}
 use borrow.Author.Needs.{needs}
 use Rattle.laws.proofs.Bools.{Test, passed, failed, test}
-use Rattle.decisions.specs.Table.{depthOf}
-use Rattle.trimming.proofs.over.Statement.{statement}
-use Rattle.trimming.proofs.over.Tie as tie
+use Rattle.table.specs.Rows.{depthOf}
+use Rattle.table.proofs.over.Statement.{statement}
+use Rattle.table.proofs.over.Tie as tie
 
 abbrev Inv-loop : tie.InvT-loop
 Inv-loop table n i depth j₀ j = (j ≤ i) × ((k : ℕ) → j ≤ k → k ≤ i → depth ≤ depthOf table k)
