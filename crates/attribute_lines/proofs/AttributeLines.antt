@@ -19,7 +19,7 @@ use Rattle.layout.specs.Places.{part, attributesOf, elementsTo, lineStart, plac
 use Rattle.layout.proofs.Adding.{added-behind, SixEach, placed-six, placed-more}
 use Rattle.layout.proofs.Laws.{attributes-length}
 use Rattle.attribute_lines.specs.Sofar.{refusalBy, refusalOf, attributeIn, Tested, AttributeRefusal, AttributeLine}
-use Rattle.attribute_lines.specs.Steps.{BeforeLine, Line, behindAttribute, AttributeStep, readSofar, Next, StepIs}
+use Rattle.attribute_lines.specs.Steps.{BeforeLine, EndedLine, behindAttribute, AttributeStep, readSofar, Next, StepIs}
 use Rattle.attribute_lines.specs.declared.State.{State}
 use Rattle.attribute_lines.specs.declared.Step.{Step}
 use Rattle.attribute_lines.proofs.Parts.{field-at, next-start}
@@ -141,7 +141,7 @@ attribute-parts f at end name inside l named =
     }
 
 -- The step over it
-module _ {f : Bytes} {st : State} {end fields : ℕ} {table places : List ℕ} (ready : BeforeLine f table places st) (here : Line f st end) (is : AttributeLine (cut tab (part f (st .at) end)) fields) where
+module _ {f : Bytes} {st : State} {end fields : ℕ} {table places : List ℕ} (ready : BeforeLine f table places st) (here : EndedLine f st end) (is : AttributeLine (cut tab (part f (st .at) end)) fields) where
   line-refusal : {r : ℕ} → AttributeRefusal f (st .attributes) (st .space) (st .tree .len) (cut tab (part f (st .at) end)) fields r → r ≡ refusalOf (readSofar f table places st) (cut tab (part f (st .at) end))
   line-refusal refusal =
       let s = readSofar f table places st in

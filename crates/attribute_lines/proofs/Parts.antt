@@ -8,7 +8,7 @@ use lib.Seq.{length-take-le, take-append-seam, drop-append-add, take-take, take-
 use Rattle.meaning.specs.Text.{Bytes, cut, join, tab, newline}
 use Rattle.laws.proofs.Text.{Frees, join-cut, cut-join, cut-frees}
 use Rattle.layout.specs.Places.{part, lineStart}
-use Rattle.attribute_lines.specs.Steps.{Line}
+use Rattle.attribute_lines.specs.Steps.{EndedLine}
 use Rattle.attribute_lines.specs.declared.State.{State}
 
 -- A part of a part, from its start and up to its end
@@ -53,6 +53,6 @@ field-at f at end p (q ∷ qs) inside some e =
     }
 
 -- The next line starts behind the newline that ends this one
-pub next-start : {f : Bytes} {st : State} {end : ℕ} (k : ℕ) → Line f st end → st .at ≡ lineStart f k → end + 1 ≡ lineStart f (suc k)
+pub next-start : {f : Bytes} {st : State} {end : ℕ} (k : ℕ) → EndedLine f st end → st .at ≡ lineStart f k → end + 1 ≡ lineStart f (suc k)
 unfolding lineStart
 next-start {f} k here e = ap (λ m. m + 1) (here .all-of-it ∙ ap (λ at. at + length (getD (cut newline (drop at f)) 0 [])) e)

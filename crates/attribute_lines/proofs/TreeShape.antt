@@ -12,7 +12,7 @@ use Rattle.meaning.specs.declared.Kind.{Kind}
 use Rattle.meaning.specs.declared.Kind.the-variants.{Set, Policy, Rule}
 use Rattle.meaning.specs.Text.{Bytes, bytes, all, same, isField}
 use Rattle.meaning.specs.Model.{kindText}
-use Rattle.meaning.specs.Reading.{Line as Meant, treeLine, kindOf, lineOf, Sofar, Tests, lowest, wrongFields}
+use Rattle.meaning.specs.Reading.{Line, treeLine, kindOf, lineOf, Sofar, Tests, lowest, wrongFields}
 use Rattle.laws.proofs.Bools.{or-true}
 use Rattle.laws.proofs.Lines.{spelled-some}
 use Rattle.attribute_lines.specs.Sofar.{refusalBy, TreeLine}
@@ -55,7 +55,7 @@ module _ (s : Sofar) (fs : List Bytes) (k : Kind) (n : ℕ) (line : TreeLine fs 
     targets-count (f ∷ g ∷ h ∷ w ∷ ts) l = omega arith
 
     -- with the right count the tests from 3 on refuse it
-    pub by-tests : (tests : Sofar → Meant → Tests) → refusalBy tests s fs ≡ lowest (tests s (treeLine k (getD fs 1 []) (getD fs 2 []) (getD fs 3 []) (drop 4 fs)))
+    pub by-tests : (tests : Sofar → Line → Tests) → refusalBy tests s fs ≡ lowest (tests s (treeLine k (getD fs 1 []) (getD fs 2 []) (getD fs 3 []) (drop 4 fs)))
     unfolding refusalBy
     by-tests tests =
         let right : length (drop 4 fs) ≡ length (s .attributes) = omega (arith, line .count, targets-count fs (omega (arith, line .count))) in

@@ -46,7 +46,7 @@ pub record BeforeLine (f : Bytes) (table places : List ℕ) (st : State) : Type 
   pub places-are : st .attributes ≡ placed f (st .attributes .len)
 
 -- the line at a state's place, which the newline at `end` ends
-pub record Line (f : Bytes) (st : State) (end : ℕ) : Type 0 where
+pub record EndedLine (f : Bytes) (st : State) (end : ℕ) : Type 0 where
   pub starts : st .at ≤ end
   pub ends : end < length f
   pub all-of-it : end ≡ st .at + length (getD (cut newline (drop (st .at) f)) 0 [])

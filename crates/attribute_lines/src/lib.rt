@@ -6,7 +6,7 @@ ghost use mathlib.Core.Path.{_≡_};
 ghost use Rattle.meaning.specs.Text.{cut, tab};
 ghost use Rattle.layout.specs.Places.{part};
 ghost use Rattle.attribute_lines.specs.Sofar.{Tested, AttributeRefusal, AttributeLine, CountIs, shapeOf};
-ghost use Rattle.attribute_lines.specs.Steps.{InFile, Line, beginning, AttributeStep};
+ghost use Rattle.attribute_lines.specs.Steps.{InFile, EndedLine, beginning, AttributeStep};
 
 // Where the reader stands: the next line's start and number, what was read, and the space so far.
 pub struct State {
@@ -87,7 +87,7 @@ fn attribute_refusal(
 
 // An attribute line of so many fields.
 pub fn attribute_line(file: &[u8], st: State, end: usize, fields: usize) -> Step
-    requires { ⌜ InFile (now file) st × Line (now file) st end × AttributeLine (cut tab (part (now file) (st .at) end)) fields ⌝ }
+    requires { ⌜ InFile (now file) st × EndedLine (now file) st end × AttributeLine (cut tab (part (now file) (st .at) end)) fields ⌝ }
     ensures { λ r. ⌜ AttributeStep (now (file .entry)) st end fields r ⌝ }
 {
     let at = st.at;

@@ -1,5 +1,5 @@
 -- The tests 3 to 7 of a tree line, by what the places, the tree and the fields show.
-use Prim.Native.Nat.{ℕ, zero, suc, _-_}
+use Prim.Native.Nat.{ℕ, suc, _-_}
 use mathlib.Core.Path.{_≡_, refl, sym, ap, _∙_}
 use mathlib.Core.Bool.{Bool, true, false, not, _&&_, _||_}
 use mathlib.Core.List.{List, [], _∷_}
@@ -10,7 +10,7 @@ use lib.Seq.{drop-append-seam}
 use borrow.Author.Tests.{ne-eqb}
 use Rattle.meaning.specs.Text.{Bytes, bytes, empty, all, between, same, amongNames, nameByte, isName}
 use Rattle.meaning.specs.Model.{Attribute}
-use Rattle.meaning.specs.Reading.{depthOf, wordOf, elementOf, Sofar, wellPlaced, lowest, nonZero, badName}
+use Rattle.meaning.specs.Reading.{depthOf, wordOf, elementOf, Sofar, wellPlaced, lowest, badName}
 use Rattle.laws.proofs.Types.{Kind}
 use Rattle.laws.proofs.Bounds.{padded-name}
 use Rattle.syntax.specs.Fields.{numberOfWord}
@@ -19,13 +19,10 @@ use Rattle.layout.specs.declared.Attributes.{Attributes}
 use Rattle.layout.specs.declared.Tree.{Tree}
 use Rattle.layout.specs.Places.{namesTo}
 use Rattle.layout.proofs.Laws.{attributes-length}
+use Rattle.tree_fields.proofs.TargetWalk.{zeros}
 use Rattle.element_lines.specs.Elements.{elementFrom, Behind, earlierTests}
 
 -- 3: a name's size is tested twice, and zeros stand behind the name
-pub zeros : (n : ℕ) → nonZero (replicate n 0) ≡ false
-zeros zero = refl
-zeros (suc n) = zeros n
-
 size-twice : (size bytes-good start-good : Bool) → (not size || not (size && bytes-good && start-good) || false) ≡ not (size && bytes-good && start-good)
 size-twice false b c = refl
 size-twice true false c = refl

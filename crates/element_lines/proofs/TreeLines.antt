@@ -30,7 +30,7 @@ use Rattle.layout.proofs.Laws.{attributes-length, elements-more, named-more, li
 use Rattle.attribute_lines.specs.declared.State.{State}
 use Rattle.attribute_lines.specs.Sofar.{refusalOf, TreeLine}
 use Rattle.element_lines.specs.Elements.{elementFrom, earlierTests, Fits, behindTree}
-use Rattle.attribute_lines.specs.Steps.{Rooms, BeforeLine, Line, readSofar, Next}
+use Rattle.attribute_lines.specs.Steps.{Rooms, BeforeLine, EndedLine, readSofar, Next}
 use Rattle.attribute_lines.proofs.TreeShape.{right-fields, by-tests}
 use Rattle.attribute_lines.proofs.Parts.{field-at, next-start}
 
@@ -130,7 +130,7 @@ word-number (some Word.FirstApplicable) h = refl
 word-number (some Word.OnlyOneApplicable) h = refl
 
 -- The element of a tree line is that of the row and the places that are laid for it
-module _ (f table places : List ℕ) (st : State) (end : ℕ) (k : Kind) (n : ℕ) (ready : BeforeLine f table places st) (at : Line f st end) where
+module _ (f table places : List ℕ) (st : State) (end : ℕ) (k : Kind) (n : ℕ) (ready : BeforeLine f table places st) (at : EndedLine f st end) where
   abbrev fs : List Bytes
   fs = cut tab (part f (st .at) end)
 

@@ -19,9 +19,10 @@ use Rattle.layout.specs.Places.{part}
 use Rattle.layout.proofs.Laws.{attributes-length}
 use Rattle.attribute_lines.specs.declared.State.{State}
 use Rattle.attribute_lines.specs.Sofar.{TreeLine}
-use Rattle.element_lines.specs.declared.Masks.{Masks}
-use Rattle.attribute_lines.specs.Steps.{BeforeLine, Line, readSofar, StepIs}
-use Rattle.element_lines.specs.Elements.{masksIn, Fits, behindTree}
+use Rattle.tree_fields.specs.declared.Masks.{Masks}
+use Rattle.attribute_lines.specs.Steps.{BeforeLine, EndedLine, readSofar, StepIs}
+use Rattle.element_lines.specs.Elements.{Fits, behindTree}
+use Rattle.tree_fields.specs.Masks.{masksIn}
 use Rattle.attribute_lines.proofs.LineKinds.{stopped, refused-2}
 use Rattle.attribute_lines.proofs.TreeShape.{wrong-count}
 use Rattle.element_lines.proofs.TreeLines.{earlier, earlier-numbered, earlier-refused, earlier-passed, el, room, tree-next}
@@ -35,7 +36,7 @@ masks-judged attrs ts {m} is = go (test (badMasks attrs (padded 6 (masksOf attrs
     go (passed bad) = (λ h. bad, λ h. contradiction h (ap (λ x. x .good) is ∙ rw bad))
     go (failed fine) = (λ h. contradiction (ap (λ x. x .good) is ∙ rw fine) h, λ h. (fine, ap (λ x. x .masks) is ∙ rw fine))
 
-module _ (f table places : List ℕ) (st : State) (end : ℕ) (k : Kind) (n : ℕ) (ready : BeforeLine f table places st) (at : Line f st end) (line : TreeLine (cut tab (part f (st .at) end)) k n) where
+module _ (f table places : List ℕ) (st : State) (end : ℕ) (k : Kind) (n : ℕ) (ready : BeforeLine f table places st) (at : EndedLine f st end) (line : TreeLine (cut tab (part f (st .at) end)) k n) where
   abbrev fs : List Bytes
   fs = cut tab (part f (st .at) end)
 

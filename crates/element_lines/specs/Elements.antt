@@ -1,22 +1,21 @@
 -- A tree line's element: the tests before that of its targets, its masks, and where it goes.
 use Prim.Native.Nat.{ℕ, _*_, _≤_, _<_, _+_}
 use mathlib.Core.Path.{_≡_}
-use mathlib.Core.Bool.{true, false, cond, _||_, not}
+use mathlib.Core.Bool.{_||_, not}
 use mathlib.Core.List.{List, [], _∷_, map}
 use lib.Dec.{leb}
-use lib.ListN.{length, drop, getD, replicate}
+use lib.ListN.{length, drop, getD}
 use Rattle.meaning.specs.declared.Kind.{Kind}
 use Rattle.meaning.specs.declared.Element.{Element}
 use Rattle.meaning.specs.Text.{Bytes, empty, isNone, amongNames}
-use Rattle.meaning.specs.Model.{Attribute, nameOf, padded, space}
-use Rattle.meaning.specs.Reading.{wordOf, elementOf, Sofar, wellPlaced, Tests, badName, depthOf, masksOf, badMasks}
+use Rattle.meaning.specs.Model.{Attribute, nameOf, space}
+use Rattle.meaning.specs.Reading.{wordOf, elementOf, Sofar, wellPlaced, Tests, badName, depthOf}
 use Rattle.table.specs.Rows.{Rows}
 use Rattle.layout.specs.declared.Attributes.{Attributes}
 use Rattle.layout.specs.declared.Tree.{Tree}
 use Rattle.layout.specs.Places.{attributesOf, namesTo}
 use Rattle.layout.specs.Nearest.{Stands, grown}
 use Rattle.attribute_lines.specs.declared.State.{State}
-use Rattle.element_lines.specs.declared.Masks.{Masks}
 
 -- the element of a tree line of this kind
 abbrev pub elementFrom : List Attribute → Kind → List Bytes → Element
@@ -37,12 +36,6 @@ earlierTests s w e =
     ∷ (6, empty (s .attributes) || not (wellPlaced (e .kind) (e .depth) (s .before)))
     ∷ (7, isNone (wordOf (e .kind) w))
     ∷ []
-
--- the masks of a line that has these targets; zeros where one is bad
-abbrev pub masksIn : List Attribute → List Bytes → Masks
-masksIn attrs ts =
-    let masks = padded 6 (masksOf attrs ts) in
-    cond (badMasks attrs masks) (record { good = false; masks = replicate 6 0 }) (record { good = true; masks = masks })
 
 -- room for the element of a tree line of these fields, and the state behind it
 pub record Fits (table places : List ℕ) (st : State) (end : ℕ) (fs : List Bytes) : Type 0 where

@@ -1,3 +1,2 @@
 -- What the contracts of tree lines cite.
-pub mod Headed
 pub mod Elements

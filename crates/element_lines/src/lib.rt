@@ -1,33 +1,25 @@
 // A tree line: its tests, its masks, and its element laid down behind the others.
-mod heads;
-
 use attribute_lines::State;
 use attribute_lines::Step;
-use heads::FieldEnds;
 use layout::Attributes;
 use layout::Tree;
 use meaning::Kind;
 use table::Row;
+use tree_fields::FieldEnds;
 ghost use mathlib.Core.Path.{_≡_};
 ghost use mathlib.Core.List.{[], _∷_};
-ghost use Prim.Native.Nat.{ℕ, _+_, _*_, _≤_, _<_};
-ghost use lib.ListN.{length, drop, getD};
+ghost use Prim.Native.Nat.{_+_, _*_, _≤_};
+ghost use lib.ListN.{length, getD};
 ghost use lib.Seq.{sets};
 ghost use Rattle.meaning.specs.Text.{cut, tab};
 ghost use Rattle.meaning.specs.Reading.{depthOf, wordOf, Sofar, lowest};
 ghost use Rattle.table.specs.Rows.{withRow};
-ghost use Rattle.layout.specs.Places.{part, attributesOf, AllStanding, Named};
+ghost use Rattle.layout.specs.Places.{part, Named};
 ghost use Rattle.syntax.specs.Fields.{numberOfWord};
-ghost use Rattle.element_lines.specs.Headed.{Headed};
-ghost use Rattle.element_lines.specs.Elements.{elementFrom, Behind, earlierTests, masksIn, Fits, behindTree};
+ghost use Rattle.tree_fields.specs.Headed.{Headed};
+ghost use Rattle.element_lines.specs.Elements.{elementFrom, Behind, earlierTests, Fits, behindTree};
 ghost use Rattle.attribute_lines.specs.Sofar.{TreeLine};
-ghost use Rattle.attribute_lines.specs.Steps.{BeforeLine, Line, StepIs};
-
-// The masks of a tree line where all its targets are good, else zeros.
-pub struct Masks {
-    pub good: bool,
-    pub masks: [u16; 6],
-}
+ghost use Rattle.attribute_lines.specs.Steps.{BeforeLine, EndedLine, StepIs};
 
 // The lowest of 3 to 7 that refuses a tree line of this kind, or 0.
 fn element_refusal(
@@ -43,7 +35,7 @@ fn element_refusal(
     ensures { λ r. ⌜ ((s : Sofar) → Behind (now (file .entry)) a (now (places .entry)) tree s
         → r ≡ lowest (earlierTests s (getD (cut tab (now (line .entry))) 3 []) (elementFrom (s .attributes) kind (cut tab (now (line .entry)))))) ⌝ }
 {
-    let name = heads::name_field(line, e);
+    let name = tree_fields::name_field(line, e);
     if !names::is_name(name) {
         return 3;
     }
@@ -56,46 +48,14 @@ fn element_refusal(
     if a.len == 0 {
         return 6;
     }
-    let depth = syntax::depth_of(heads::depth_field(line, e));
+    let depth = syntax::depth_of(tree_fields::depth_field(line, e));
     if !layout::well_placed(kind, depth, tree) {
         return 6;
     }
-    if syntax::word_number(kind, heads::word_field(line, e)) == 6 {
+    if syntax::word_number(kind, tree_fields::word_field(line, e)) == 6 {
         return 7;
     }
     0
-}
-
-// The masks of a tree line, one for each attribute.
-fn line_masks(file: &[u8], a: Attributes, line: &[u8], e: FieldEnds) -> Masks
-    requires { ⌜ AllStanding (now file) a × ((i : ℕ) → i < a .len → getD (a .counts) i 0 ≤ 16) × (1 ≤ a .len) × (length (cut tab (now line)) ≡ 4 + a .len) × Headed (now line) e ⌝ }
-    ensures { λ r. ⌜ r ≡ masksIn (attributesOf (now (file .entry)) a) (drop 4 (cut tab (now (line .entry)))) ⌝ }
-{
-    let targets = heads::target_fields(line, e);
-    let values = a.values;
-    let ends = a.ends;
-    let counts = a.counts;
-    let mut masks = [0u16; 6];
-    let mut at = 0;
-    let mut i = 0;
-    loop {
-        let end = text::end_of(targets, at, b'\t');
-        let first = values[i];
-        let last = ends[i];
-        let mask = syntax::target_mask(&file[first..last], counts[i], &targets[at..end]);
-        if mask == 0 {
-            return Masks {
-                good: false,
-                masks: [0; 6],
-            };
-        }
-        masks[i] = mask;
-        i += 1;
-        if i == a.len {
-            return Masks { good: true, masks };
-        }
-        at = end + 1;
-    }
 }
 
 // Lays the element of a tree line down behind the others.
@@ -117,9 +77,9 @@ fn lay_line(
     let at = st.at;
     let tree = st.tree;
     let attributes = st.attributes;
-    let depth = syntax::depth_of(heads::depth_field(line, e));
-    let word = syntax::word_number(kind, heads::word_field(line, e));
-    let name = heads::name_field(line, e);
+    let depth = syntax::depth_of(tree_fields::depth_field(line, e));
+    let word = syntax::word_number(kind, tree_fields::word_field(line, e));
+    let name = tree_fields::name_field(line, e);
     let row = Row {
         word: word as u16,
         depth: depth as u16,
@@ -146,7 +106,7 @@ pub fn tree_line(
     table: &mut [u16],
     places: &mut [usize],
 ) -> Step
-    requires { ⌜ BeforeLine (now file) (now table) (now places) st × Line (now file) st end × TreeLine (cut tab (part (now file) (st .at) end)) kind fields ⌝ }
+    requires { ⌜ BeforeLine (now file) (now table) (now places) st × EndedLine (now file) st end × TreeLine (cut tab (part (now file) (st .at) end)) kind fields ⌝ }
     ensures { λ r. ⌜ StepIs (now (file .entry)) (now (table .entry)) (now (places .entry)) (now (table .exit)) (now (places .exit)) st end r ⌝ }
 {
     let at = st.at;
@@ -159,12 +119,12 @@ pub fn tree_line(
             state: st,
         };
     }
-    let e = heads::field_ends(line);
+    let e = tree_fields::field_ends(line);
     let refusal = element_refusal(file, attributes, places, tree, kind, line, e);
     if refusal != 0 {
         return Step { refusal, state: st };
     }
-    let m = line_masks(file, attributes, line, e);
+    let m = tree_fields::line_masks(file, attributes, line, e);
     if !m.good {
         return Step {
             refusal: 8,

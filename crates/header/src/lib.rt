@@ -12,7 +12,7 @@ ghost use Rattle.meaning.specs.Model.{_then_};
 ghost use Rattle.meaning.specs.Reading.{Sofar, readText, short};
 ghost use Rattle.meaning.specs.Writing.{headerTests};
 ghost use Rattle.attribute_lines.specs.Sofar.{TreeLine, refusalBy};
-ghost use Rattle.attribute_lines.specs.Steps.{Line};
+ghost use Rattle.attribute_lines.specs.Steps.{EndedLine};
 ghost use Rattle.header.specs.Among.{Among, Past};
 ghost use Rattle.header.specs.Told.{refusedWith, HeaderAs};
 
@@ -39,7 +39,7 @@ fn tree_refusal(line: &[u8], attributes: usize, fields: usize) -> usize
 
 // One line, which a newline at `end` ends.
 fn header_line(header: &[u8], st: State, end: usize) -> Step
-    requires { ⌜ Among (now header) st × Line (now header) st end ⌝ }
+    requires { ⌜ Among (now header) st × EndedLine (now header) st end ⌝ }
     ensures { λ r. ⌜ Past (now (header .entry)) st end r ⌝ }
 {
     let at = st.at;

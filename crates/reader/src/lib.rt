@@ -12,7 +12,7 @@ ghost use Rattle.meaning.specs.Text.{cut, tab};
 ghost use Rattle.table.specs.Rows.{Rows};
 ghost use Rattle.layout.specs.Places.{part};
 ghost use Rattle.attribute_lines.specs.Sofar.{CountIs};
-ghost use Rattle.attribute_lines.specs.Steps.{BeforeLine, Line, StepIs};
+ghost use Rattle.attribute_lines.specs.Steps.{BeforeLine, EndedLine, StepIs};
 ghost use Rattle.reader.specs.Told.{LineAt, refusedWith, endedAt, ReadIs};
 
 // A file as it was read: a refusal's two numbers and nothing read, or 0, 0 and what was read.
@@ -44,7 +44,7 @@ fn read_line(
     table: &mut [u16],
     places: &mut [usize],
 ) -> Step
-    requires { ⌜ BeforeLine (now file) (now table) (now places) st × Line (now file) st end × CountIs (cut tab (part (now file) (st .at) end)) fields ⌝ }
+    requires { ⌜ BeforeLine (now file) (now table) (now places) st × EndedLine (now file) st end × CountIs (cut tab (part (now file) (st .at) end)) fields ⌝ }
     ensures { λ r. ⌜ StepIs (now (file .entry)) (now (table .entry)) (now (places .entry)) (now (table .exit)) (now (places .exit)) st end r ⌝ }
 {
     let at = st.at;

@@ -35,7 +35,7 @@ field-ends-requires c κs = omega (arith, start c .pre .2 .count)
 element-refusal-requires : tie.Need-element-refusal-requires
 element-refusal-requires c κs =
     let pre = start (c .before .before) .pre in
-    (pre .0 .rooms .named, pre .0 .in-file .shallow, c .before .field-ends .ensures, (_, behind (pre .0)))
+    (pre .0 .rooms .named, pre .0 .in-file .shallow, c .before .field-ends .ensures .1, (_, behind (pre .0)))
 
 returns-2 : tie.Need-returns-2
 returns-2 c =
@@ -50,7 +50,7 @@ line-masks-requires c κs =
     let pre = start counted .pre in
     let lowest = c .before .element-refusal .ensures _ (behind (pre .0)) in
     let attributes = pre .0 .in-file .attributes in
-    (attributes .standing, attributes .few-values, some-attribute _ _ _ _ _ _ _ (pre .0) (pre .1) (pre .2) (counted .if1 .left) _ lowest (c .if2 .left), sym (pre .2 .count) ∙ counted .if1 .left, c .before .before .before .field-ends .ensures)
+    (attributes .standing, attributes .few-values, some-attribute _ _ _ _ _ _ _ (pre .0) (pre .1) (pre .2) (counted .if1 .left) _ lowest (c .if2 .left), sym (pre .2 .count) ∙ counted .if1 .left, c .before .before .before .field-ends .ensures .1)
 
 returns-3 : tie.Need-returns-3
 returns-3 c =
@@ -66,7 +66,7 @@ lay-line-requires c κs =
     let counted = passed .before .before .before .before in
     let pre = start counted .pre in
     let lowest = passed .before .element-refusal .ensures _ (behind (pre .0)) in
-    (room-there _ _ _ _ _ _ _ (pre .0) (pre .1) (pre .2) (counted .if1 .left) _ lowest (passed .if2 .left) (ends-low (start counted)), passed .before .before .before .field-ends .ensures)
+    (room-there _ _ _ _ _ _ _ (pre .0) (pre .1) (pre .2) (counted .if1 .left) _ lowest (passed .if2 .left) (ends-low (start counted)), passed .before .before .before .field-ends .ensures .1)
 
 returns-4 : tie.Need-returns-4
 returns-4 c =

@@ -1,12 +1,12 @@
--- `heads::target_fields` meets its contract: the part behind the word's tab.
+-- `target_fields` meets its contract: the part behind the word's tab.
 use Prim.Native.Nat.{_+_}
 use mathlib.Core.Path.{ap, _∙_}
 use native.Mathlib.Omega.{arith}
 use borrow.Author.Needs.{needs}
 use Rattle.meaning.specs.Text.{cut, tab}
 use Rattle.text.proofs.Pieces.{rest-of}
-use Rattle.element_lines.proofs.heads.target_fields.Statement.{statement}
-use Rattle.element_lines.proofs.heads.target_fields.Tie as tie
+use Rattle.tree_fields.proofs.target_fields.Statement.{statement}
+use Rattle.tree_fields.proofs.target_fields.Tie as tie
 
 sub-result : tie.Need-sub-result
 sub-result c = let behind = c .before .pre .0 .targets (c .before .pre .1) in omega (arith, behind .0)

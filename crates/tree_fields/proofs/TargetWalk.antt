@@ -13,15 +13,19 @@ use lib.Seq.{sets, sets-eq}
 use borrow.Author.Tests.{ne-eqb, le-ltb}
 use Rattle.meaning.specs.Text.{Bytes, cut, tab}
 use Rattle.meaning.specs.Model.{Attribute, padded}
-use Rattle.meaning.specs.Reading.{full, targetOf, orEmpty, masksOf, badMasks}
+use Rattle.meaning.specs.Reading.{nonZero, full, targetOf, orEmpty, masksOf, badMasks}
 use Rattle.laws.proofs.Targets.{field-read}
 use Rattle.laws.proofs.Bounds.{masks-count}
 use Rattle.text.proofs.Pieces.{behind, piece-last, piece-more, piece-at}
 use Rattle.layout.specs.declared.Attributes.{Attributes}
 use Rattle.layout.specs.Places.{attributeAt, attributesFrom, attributesOf}
 use Rattle.layout.proofs.Laws.{attributes-walk, attributes-length}
-use Rattle.element_lines.specs.Elements.{masksIn}
-use Rattle.element_lines.proofs.ElementTests.{zeros}
+use Rattle.tree_fields.specs.Masks.{masksIn}
+
+-- Zeros are no masks
+pub zeros : (n : ℕ) → nonZero (replicate n 0) ≡ false
+zeros zero = refl
+zeros (suc n) = zeros n
 
 -- The mask of a target has no bit too high
 mask-low : (vs : List Bytes) (t : Bytes) → orEmpty (targetOf vs t) ≤ full vs

@@ -6,9 +6,9 @@ use borrow.Author.Needs.{needs}
 use lib.ListN.{drop, length-drop}
 use Rattle.meaning.specs.Text.{cut, tab}
 use Rattle.layout.specs.Places.{Standing}
-use Rattle.element_lines.proofs.TargetWalk.{Walked, walk-starts, walk-on, walk-bad, walk-ends}
-use Rattle.element_lines.proofs.line_masks.Statement.{statement}
-use Rattle.element_lines.proofs.line_masks.Tie as tie
+use Rattle.tree_fields.proofs.TargetWalk.{Walked, walk-starts, walk-on, walk-bad, walk-ends}
+use Rattle.tree_fields.proofs.line_masks.Statement.{statement}
+use Rattle.tree_fields.proofs.line_masks.Tie as tie
 
 abbrev Inv-loop : tie.InvT-loop
 Inv-loop file a line targets values ends counts masks₀ at₀ i₀ masks at i = Walked file a (drop 4 (cut tab line)) targets masks at i

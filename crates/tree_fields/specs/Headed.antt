@@ -1,10 +1,18 @@
 -- Where the fields before the targets of a tree line end.
-use Prim.Native.Nat.{ℕ, _+_, _-_, _≤_, _<_}
+use Prim.Native.Nat.{ℕ, zero, suc, _+_, _-_, _≤_, _<_}
 use mathlib.Core.Path.{_≡_}
 use mathlib.Core.List.{[]}
 use lib.ListN.{length, take, drop, getD}
 use Rattle.meaning.specs.Text.{Bytes, cut, tab}
-use Rattle.element_lines.specs.declared.heads.FieldEnds.{FieldEnds}
+use Rattle.tree_fields.specs.declared.FieldEnds.{FieldEnds}
+
+-- where field k ends
+abbrev pub fieldEnd : Bytes → ℕ → ℕ
+fieldEnd line zero = length (getD (cut tab line) 0 [])
+fieldEnd line (suc k) = fieldEnd line k + 1 + length (getD (cut tab line) (suc k) [])
+
+abbrev pub endsOf : Bytes → FieldEnds
+endsOf line = record { letter = fieldEnd line 0; depth = fieldEnd line 1; name = fieldEnd line 2; word = fieldEnd line 3 }
 
 -- field k stands between two places of a line
 pub record FieldIs (line : Bytes) (k from to : ℕ) : Type 0 where

@@ -1,12 +1,13 @@
--- `heads::field_ends` meets its contract: each field starts behind the tab that ends the one before.
+-- `field_ends` meets its contract: each field starts behind the tab that ends the one before.
 use Prim.Native.Nat.{_+_, _<_}
-use mathlib.Core.Path.{refl, sym}
+use mathlib.Core.Path.{_≡_, refl, sym}
 use native.Mathlib.Omega.{arith}
 use borrow.Author.Needs.{needs}
 use lib.ListN.{length}
-use Rattle.element_lines.proofs.Heading.{Starts, field-is, field-behind}
-use Rattle.element_lines.proofs.heads.field_ends.Statement.{statement}
-use Rattle.element_lines.proofs.heads.field_ends.Tie as tie
+use Rattle.tree_fields.specs.Headed.{fieldEnd}
+use Rattle.tree_fields.proofs.Heading.{Starts, end-is, field-is, field-behind}
+use Rattle.tree_fields.proofs.field_ends.Statement.{statement}
+use Rattle.tree_fields.proofs.field_ends.Tie as tie
 
 -- where the fields behind the letter, the depth and the name start
 letter-ends : (c : tie.After-end-of) → let line = c .before .before .args .line .now in (c .end-of .result < length line) × Starts line 1 (c .end-of .result + 1)
@@ -34,14 +35,20 @@ returns c =
     let depth = name .before in
     let letter = depth .before in
     let word-starts = name-ends name .1 in
-    record {
-      depth = field-is line 1 (letter .end-of .result + 1) (depth .end-of2 .result) (letter-ends letter .1) (depth .end-of2 .ensures);
-      name = field-is line 2 (depth .end-of2 .result + 1) (name .end-of3 .result) (depth-ends depth .1) (name .end-of3 .ensures);
-      word = field-is line 3 (name .end-of3 .result + 1) (c .end-of4 .result) word-starts (c .end-of4 .ensures);
-      targets = λ more.
-          let (l, s) = field-behind line 3 (name .end-of3 .result + 1) (c .end-of4 .result) word-starts (c .end-of4 .ensures) (omega arith) in
-          (l, sym s);
-    }
+    let letter-is : letter .end-of .result ≡ fieldEnd line 0 = omega (arith, end-is line 0 0 (letter .end-of .result) refl (letter .end-of .ensures)) in
+    let depth-is : depth .end-of2 .result ≡ fieldEnd line 1 = omega (arith, letter-is, end-is line 1 (letter .end-of .result + 1) (depth .end-of2 .result) (letter-ends letter .1) (depth .end-of2 .ensures)) in
+    let name-is : name .end-of3 .result ≡ fieldEnd line 2 = omega (arith, depth-is, end-is line 2 (depth .end-of2 .result + 1) (name .end-of3 .result) (depth-ends depth .1) (name .end-of3 .ensures)) in
+    let word-is : c .end-of4 .result ≡ fieldEnd line 3 = omega (arith, name-is, end-is line 3 (name .end-of3 .result + 1) (c .end-of4 .result) word-starts (c .end-of4 .ensures)) in (
+      rw (letter-is, depth-is, name-is, word-is),
+      record {
+        depth = field-is line 1 (letter .end-of .result + 1) (depth .end-of2 .result) (letter-ends letter .1) (depth .end-of2 .ensures);
+        name = field-is line 2 (depth .end-of2 .result + 1) (name .end-of3 .result) (depth-ends depth .1) (name .end-of3 .ensures);
+        word = field-is line 3 (name .end-of3 .result + 1) (c .end-of4 .result) word-starts (c .end-of4 .ensures);
+        targets = λ more.
+            let (l, s) = field-behind line 3 (name .end-of3 .result + 1) (c .end-of4 .result) word-starts (c .end-of4 .ensures) (omega arith) in
+            (l, sym s);
+      },
+    )
 
 pub field-ends-spec : {M : Type 1} → statement M
 field-ends-spec =

@@ -1,10 +1,13 @@
-// The fields before the targets of a tree line: where they end is found once, and each is cut out by it.
+// The fields of a tree line: where those before the targets end, found once, and the masks of its targets.
+use layout::Attributes;
 ghost use mathlib.Core.Path.{_≡_};
 ghost use mathlib.Core.List.{[]};
-ghost use Prim.Native.Nat.{_≤_};
+ghost use Prim.Native.Nat.{_≤_, ℕ, _+_, _<_};
 ghost use lib.ListN.{length, drop, getD};
 ghost use Rattle.meaning.specs.Text.{cut, tab};
-ghost use Rattle.element_lines.specs.Headed.{Headed};
+ghost use Rattle.tree_fields.specs.Headed.{endsOf, Headed};
+ghost use Rattle.layout.specs.Places.{attributesOf, AllStanding};
+ghost use Rattle.tree_fields.specs.Masks.{masksIn};
 
 // Where the letter, the depth, the name and the word end.
 pub struct FieldEnds {
@@ -14,9 +17,16 @@ pub struct FieldEnds {
     pub word: usize,
 }
 
+// The masks of a tree line where all its targets are good, else zeros.
+pub struct Masks {
+    pub good: bool,
+    pub masks: [u16; 6],
+}
+
 pub fn field_ends(line: &[u8]) -> FieldEnds
     requires { ⌜ 4 ≤ length (cut tab (now line)) ⌝ }
-    ensures { λ r. ⌜ Headed (now (line .entry)) r ⌝ }
+    ensures { λ r. ⌜ r ≡ endsOf (now (line .entry)) ⌝ }
+    ensures headed { λ r. ⌜ Headed (now (line .entry)) r ⌝ }
 {
     let letter = text::end_of(line, 0, b'\t');
     let depth = text::end_of(line, letter + 1, b'\t');
@@ -64,4 +74,36 @@ pub fn target_fields(line: &[u8], e: FieldEnds) -> &[u8]
 {
     let from = e.word + 1;
     &line[from..]
+}
+
+// The masks of a tree line, one for each attribute.
+pub fn line_masks(file: &[u8], a: Attributes, line: &[u8], e: FieldEnds) -> Masks
+    requires { ⌜ AllStanding (now file) a × ((i : ℕ) → i < a .len → getD (a .counts) i 0 ≤ 16) × (1 ≤ a .len) × (length (cut tab (now line)) ≡ 4 + a .len) × Headed (now line) e ⌝ }
+    ensures { λ r. ⌜ r ≡ masksIn (attributesOf (now (file .entry)) a) (drop 4 (cut tab (now (line .entry)))) ⌝ }
+{
+    let targets = target_fields(line, e);
+    let values = a.values;
+    let ends = a.ends;
+    let counts = a.counts;
+    let mut masks = [0u16; 6];
+    let mut at = 0;
+    let mut i = 0;
+    loop {
+        let end = text::end_of(targets, at, b'\t');
+        let first = values[i];
+        let last = ends[i];
+        let mask = syntax::target_mask(&file[first..last], counts[i], &targets[at..end]);
+        if mask == 0 {
+            return Masks {
+                good: false,
+                masks: [0; 6],
+            };
+        }
+        masks[i] = mask;
+        i += 1;
+        if i == a.len {
+            return Masks { good: true, masks };
+        }
+        at = end + 1;
+    }
 }

@@ -1,0 +1,3 @@
+-- Laws that the proofs of a tree line's fields cite.
+mod Heading
+pub mod TargetWalk
