@@ -66,7 +66,7 @@ fn attribute_refusal(
     if layout::known_attribute(file, a, fields::field(line, 1)) {
         return 4;
     }
-    if !names::all_distinct(text::from_field(line, 2)) {
+    if !repeats::all_distinct(text::from_field(line, 2)) {
         return 4;
     }
     if 6 <= a.len {

@@ -2,6 +2,3 @@
 pub mod Bytes
 pub mod Fields
 pub mod Ends
-pub mod Marking
-pub mod Backward
-pub mod Repeats

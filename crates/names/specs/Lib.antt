@@ -1,3 +1,2 @@
 -- What the contracts of names cite.
 pub mod Places
-pub mod Marks

@@ -1,12 +1,9 @@
 // Names: what is one, which are equal, and where one stands among the fields of a line.
-mod many;
-mod marks;
-
 ghost use mathlib.Core.Path.{_≡_};
-ghost use mathlib.Core.Bool.{true, false, not};
+ghost use mathlib.Core.Bool.{true, false};
 ghost use Prim.Native.Nat.{ℕ, _-_, _≤_, _<_};
 ghost use lib.ListN.{length, take, drop};
-ghost use Rattle.meaning.specs.Text.{all, sameName, amongNames, repeated, cut, tab, nameByte, isName};
+ghost use Rattle.meaning.specs.Text.{all, sameName, cut, tab, nameByte, isName};
 ghost use Rattle.meaning.specs.Deciding.{valueOf};
 ghost use Rattle.names.specs.Places.{foundOf};
 
@@ -107,41 +104,4 @@ pub fn find(fields: &[u8], name: &[u8]) -> Found
         at = e + 1;
         n += 1;
     }
-}
-
-fn has(fields: &[u8], name: &[u8]) -> bool
-    ensures { λ r. ⌜ r ≡ amongNames (now (name .entry)) (cut tab (now (fields .entry))) ⌝ }
-{
-    match find(fields, name) {
-        Found::At(_) => true,
-        Found::Nothing => false,
-    }
-}
-
-// Whether no field stands twice, by comparing each with those behind it.
-fn few_distinct(fields: &[u8]) -> bool
-    ensures { λ r. ⌜ r ≡ not (repeated (cut tab (now (fields .entry)))) ⌝ }
-{
-    let mut at = 0;
-    loop {
-        let e = text::end_of(fields, at, b'\t');
-        if e == fields.len() {
-            return true;
-        }
-        let next = e + 1;
-        if has(&fields[next..], &fields[at..e]) {
-            return false;
-        }
-        at = next;
-    }
-}
-
-// Whether no field stands twice. 16 names of 16 bytes are few: an attribute line that has more to compare is refused for something.
-pub fn all_distinct(fields: &[u8]) -> bool
-    ensures { λ r. ⌜ r ≡ not (repeated (cut tab (now (fields .entry)))) ⌝ }
-{
-    if fields.len() < 272 {
-        return few_distinct(fields);
-    }
-    many::many_distinct(fields)
 }

@@ -1,0 +1,2 @@
+-- What the contracts of repeats cite.
+pub mod Marks
