@@ -13,8 +13,8 @@ use lib.ListN.{getD}
 use borrow.Author.Tests.{leb-true, leb-false}
 use Rattle.meaning.specs.declared.Decision.{Decision}
 use Rattle.meaning.specs.Text.{firstFrom}
-use Rattle.meaning.specs.Model.{product}
 use Rattle.meaning.specs.Deciding.{bit}
+use Rattle.meaning.specs.declared.Element.{Element}
 use Rattle.laws.proofs.Bits.{bit-and, bit-or, bit-zero}
 use Rattle.laws.proofs.Bools.{Test, passed, failed, test}
 use Rattle.laws.proofs.Search.{First, first-is, first-absent}
@@ -109,14 +109,14 @@ module _ (applied permits denies : List ℕ) (i j k : ℕ) where
     shown-none space past = first-absent shown 0 space (λ m l u. so-far m (omega arith))
 
 -- The rows of a table show what the table does
-module _ (t struck : List ℕ) (n : ℕ) (counts applied permits denies : List ℕ)
-    (applying : Applied t n counts applied) (permitting : Given Decision.Permit t struck n counts permits) (denying : Given Decision.Deny t struck n counts denies) where
-  shown-alike : (i j k m : ℕ) → i < n → j < n → k < n → m < product counts → shownBy applied permits denies i j k m ≡ showsAt t struck n counts i j k m
+module _ (t struck : List ℕ) (n : ℕ) (hit : ℕ → Element → Bool) (space : ℕ) (applied permits denies : List ℕ)
+    (applying : Applied t n hit space applied) (permitting : Given Decision.Permit t struck n hit space permits) (denying : Given Decision.Deny t struck n hit space denies) where
+  shown-alike : (i j k m : ℕ) → i < n → j < n → k < n → m < space → shownBy applied permits denies i j k m ≡ showsAt t struck n hit i j k m
   unfolding shownBy showsAt
   shown-alike i j k m a b c l = λ x. applying i m a l x && ((permitting j m b l x && denying k m c l x) || (denying j m b l x && permitting k m c l x))
 
-  pub pairs-by-table : (parents pairs : List ℕ) → Pairs parents (shownBy applied permits denies) n (product counts) pairs → Pairs parents (showsAt t struck n counts) n (product counts) pairs
+  pub pairs-by-table : (parents pairs : List ℕ) → Pairs parents (shownBy applied permits denies) n space pairs → Pairs parents (showsAt t struck n hit) n space pairs
   unfolding shownFor
   pairs-by-table parents pairs paired j k child =
       paired j k child
-      ∙ ap (placeOr (product counts)) (first-alike _ _ 0 (product counts) (λ m l u. shown-alike (getD parents j 0) j k m (child .some) (omega (arith, child .after, child .within)) (child .within) (omega arith)))
+      ∙ ap (placeOr space) (first-alike _ _ 0 space (λ m l u. shown-alike (getD parents j 0) j k m (child .some) (omega (arith, child .after, child .within)) (child .within) (omega arith)))

@@ -6,7 +6,8 @@ use mathlib.Core.List.{List}
 use lib.ListN.{length, getD}
 use Rattle.meaning.specs.declared.Decision.{Decision}
 use Rattle.meaning.specs.Text.{firstFrom}
-use Rattle.meaning.specs.Deciding.{requestOf, bit}
+use Rattle.meaning.specs.Deciding.{bit}
+use Rattle.meaning.specs.declared.Element.{Element}
 use Rattle.table.specs.Tree.{placeOr}
 use Rattle.matching.specs.Hits.{bitOf}
 use Rattle.rows.specs.Words.{appliesAt, givesAt}
@@ -18,12 +19,11 @@ pub record Lowest (word r : ℕ) : Type 0 where
   pub none-below : (v : ℕ) → v < r → bit word v ≡ false
 
 -- on request m element i applies, and of j and k one permits and the other denies: by a table, and by rows
-unfoldable pub showsAt : (t struck : List ℕ) (n : ℕ) (counts : List ℕ) → (i j k m : ℕ) → Bool
-showsAt t struck n counts i j k m =
-    let q = requestOf counts m in
-    let permits = givesAt Decision.Permit t struck n q in
-    let denies = givesAt Decision.Deny t struck n q in
-    appliesAt t q i && ((permits j && denies k) || (denies j && permits k))
+unfoldable pub showsAt : (t struck : List ℕ) (n : ℕ) (hit : ℕ → Element → Bool) → (i j k m : ℕ) → Bool
+showsAt t struck n hit i j k m =
+    let permits = givesAt Decision.Permit t struck n (hit m) in
+    let denies = givesAt Decision.Deny t struck n (hit m) in
+    appliesAt t (hit m) i && ((permits j && denies k) || (denies j && permits k))
 
 unfoldable pub shownBy : (applied permits denies : List ℕ) → (i j k m : ℕ) → Bool
 shownBy applied permits denies i j k m = bitOf applied i m && ((bitOf permits j m && bitOf denies k m) || (bitOf denies j m && bitOf permits k m))

@@ -19,7 +19,7 @@ use Rattle.report_lines.specs.Fitted.{Fitted}
 use Rattle.reporting.specs.Reported.{Reported}
 use Rattle.jogimaduve.specs.Told.{told, textTold, shapeOf}
 use Rattle.jogimaduve.proofs.Answering.{text-told}
-use Rattle.jogimaduve.proofs.Shaping.{sizes-are}
+use Rattle.jogimaduve.proofs.Shaping.{hits-are, space-is}
 
 -- A file that is refused
 module _ (f table places : List ℕ) (r : Reading) (is-read : ReadAs f table places r (read f)) (out : Bytes) (h : r .number ≡ 0 → ⊥) where
@@ -36,7 +36,7 @@ module _ (f table places : List ℕ) (r : Reading) (p : Policy) (h : read f ≡ 
   -- the report, fitted to the buffer
   module _ (s : Shape) (shaped : s ≡ shapeOf r) (old new : Bytes) (needed : ℕ) (reported : Reported f table places s old new needed) where
     fits : Fitted old (report f p) new needed
-    fits = subst (λ s. Reported f table places s old new needed) shaped reported .written p h (holds .elements) (sizes-are f table places r p h holds)
+    fits = subst (λ s. Reported f table places s old new needed) shaped reported .written p h (holds .elements) (hits-are f table places r p h holds) (space-is f table places r p h holds)
 
     report-is : reportFile (length old) f ≡ fitted (length old) (report f p)
     unfolding reportFile

@@ -6,14 +6,15 @@ use native.Mathlib.Omega.{arith}
 use mathlib.Core.List.{List}
 use lib.ListN.{length, getD, replicate, getD-replicate}
 use Rattle.meaning.specs.Text.{Bytes}
-use Rattle.meaning.specs.Model.{Policy, sizes, product, given}
+use Rattle.meaning.specs.Model.{Policy, sizes, product, given, space}
 use Rattle.meaning.specs.Reading.{read}
+use Rattle.meaning.specs.Deciding.{requestOf, matches, hits}
 use Rattle.laws.proofs.Bounds.{bounded}
 use Rattle.laws.proofs.Requests.{product-pos}
 use Rattle.laws.proofs.Answers.{positive}
 use Rattle.table.specs.Tree.{Leaves}
 use Rattle.table.specs.declared.Shape.{Shape}
-use Rattle.table.specs.Shape.{countsOf}
+use Rattle.table.specs.Shape.{countsOf, hitOf}
 use Rattle.table.proofs.Children.{none-struck}
 use Rattle.outcomes.specs.Ready.{Ready}
 use Rattle.layout.specs.Places.{lineStart}
@@ -41,14 +42,19 @@ module _ (f table places : List ℕ) (r : Reading) (p : Policy) (h : read f ≡ 
   pub attributes-are : length (p .attributes) ≡ r .attributes .len
   attributes-are = ap length (holds .attributes) ∙ attributes-length f (r .attributes)
 
-  pub sizes-are : countsOf (shapeOf r) ≡ sizes (p .attributes)
+  sizes-are : countsOf (shapeOf r) ≡ sizes (p .attributes)
   sizes-are = counts-are f (r .attributes) (holds .spaced .standing) ∙ ap sizes (sym (holds .attributes))
 
-  space-is : product (countsOf (shapeOf r)) ≡ r .space
-  space-is = ap product sizes-are ∙ ap (λ attrs. product (sizes attrs)) (holds .attributes) ∙ sym (holds .space-is)
+  -- its requests are those of the policy, and so many
+  pub hits-are : (m : ℕ) → hitOf (shapeOf r) m ≡ hits p m
+  unfolding hitOf
+  hits-are m = ap (λ c. matches (requestOf c m)) sizes-are
+
+  pub space-is : r .space ≡ space (p .attributes)
+  space-is = holds .space-is ∙ ap space (sym (holds .attributes))
 
   leaves : Leaves table (r .elements)
-  leaves = rules-are-leaves f p h table places (r .elements) (holds .elements) (elements-are f table places r p h holds) (countsOf (shapeOf r)) sizes-are
+  leaves = rules-are-leaves f p h table places (r .elements) (holds .elements) (elements-are f table places r p h holds) (hitOf (shapeOf r)) (r .space) hits-are space-is
 
   pub ready : (s : Shape) → s ≡ shapeOf r → (struck : List ℕ) → 64 ≤ length struck → struck ≡ replicate 64 0 → Ready table struck s
   ready s shaped struck room none = subst (Ready table struck) (sym shaped)
@@ -57,13 +63,12 @@ module _ (f table places : List ℕ) (r : Reading) (p : Policy) (h : read f ≡ 
         flags = omega (arith, few f table places r p h holds);
         some = holds .some;
         few = few f table places r p h holds;
-        root = root-word f p h table places (r .elements) (holds .elements) (elements-are f table places r p h holds) (countsOf (shapeOf r)) sizes-are (holds .some);
+        root = root-word f p h table places (r .elements) (holds .elements) (elements-are f table places r p h holds) (hitOf (shapeOf r)) (r .space) hits-are space-is (holds .some);
         stays = ap (λ flags. getD flags 0 0) none;
         leaves = leaves;
         rules = none-struck table struck (r .elements) (λ k l. ap (λ flags. getD flags k 0) none ∙ getD-replicate 64 k 0 0 (omega (arith, few f table places r p h holds)));
-        attributes = holds .spaced .standing .few;
-        all = space-is;
-        positive = subst (λ m. 0 < m) space-is (rw sizes-are (product-pos (sizes (p .attributes)) (positive (p .attributes) (bounded f p h .attributes-good))));
+        counted = record { attributes = holds .spaced .standing .few; all = ap product sizes-are ∙ sym space-is };
+        positive = subst (λ m. 0 < m) (sym space-is) (product-pos (sizes (p .attributes)) (positive (p .attributes) (bounded f p h .attributes-good)));
         small = rw (holds .space-is) (holds .spaced .small);
       })
 

@@ -13,8 +13,8 @@ use Rattle.meaning.specs.Report.{fitted, trimFile}
 use Rattle.meaning.specs.Operations.{answered, trimAnswer, trimLent}
 use Rattle.laws.proofs.Reading.{accepted}
 use Rattle.table.specs.declared.Shape.{Shape}
+use Rattle.table.specs.Shape.{hitOf}
 use Rattle.trimming.specs.Decided as table-level
-use Rattle.table.specs.Shape.{countsOf}
 use Rattle.trimmed_text.specs.Flags.{textLeft}
 use Rattle.trimmed_text.specs.Copied.{copied}
 use Rattle.trimmed_text.proofs.Trimmed.{trimmed-flags}
@@ -27,7 +27,7 @@ use Rattle.reporting.specs.Found.{none-struck}
 use Rattle.reporting.proofs.StruckText.{none-clear}
 use Rattle.jogimaduve.specs.Told.{told, textTold, shapeOf}
 use Rattle.jogimaduve.proofs.Answering.{text-told}
-use Rattle.jogimaduve.proofs.Shaping.{attributes-are, sizes-are}
+use Rattle.jogimaduve.proofs.Shaping.{attributes-are, hits-are, space-is}
 
 -- A file that is refused
 module _ (f table places : List ℕ) (r : Reading) (is-read : ReadAs f table places r (read f)) (out : Bytes) (h : r .number ≡ 0 → ⊥) where
@@ -41,7 +41,7 @@ module _ (f table places : List ℕ) (r : Reading) (is-read : ReadAs f table pla
 
 -- A file that was read, and the flags that striking leaves
 module _ (f table places : List ℕ) (r : Reading) (p : Policy) (h : read f ≡ given p) (holds : ReadPolicy f table places r p) (s : Shape) (shaped : s ≡ shapeOf r)
-    (flags : List ℕ) (struck : flags ≡ table-level.trimmingAt table (s .n) (countsOf s) (s .n) none-struck .flags) where
+    (flags : List ℕ) (struck : flags ≡ table-level.trimmingAt table (s .n) (hitOf s) (s .space) (s .n) none-struck .flags) where
   abbrev text : Bytes
   text = copied f places flags (r .elements)
 
@@ -50,9 +50,8 @@ module _ (f table places : List ℕ) (r : Reading) (p : Policy) (h : read f ≡ 
   text-is =
       let n = r .elements in
       let size = elements-are f table places r p h holds in
-      let counts = countsOf (shapeOf r) in
-      let here = subst (λ s. flags ≡ table-level.trimmingAt table (s .n) (countsOf s) (s .n) none-struck .flags) shaped struck in
-      let same-flags = ap (λ t. t .flags) (trimming-is f p h table places n (holds .elements) size counts (sizes-are f table places r p h holds) n none-struck) in
+      let here = subst (λ s. flags ≡ table-level.trimmingAt table (s .n) (hitOf s) (s .space) (s .n) none-struck .flags) shaped struck in
+      let same-flags = ap (λ t. t .flags) (trimming-is f p h table places n (holds .elements) size (hitOf (shapeOf r)) (r .space) (hits-are f table places r p h holds) (space-is f table places r p h holds) n none-struck) in
       ap (λ t. t .text) (trimmed-flags f p h n none-struck none-clear (omega (arith, size, few f table places r p h holds)) (omega (arith, size)))
       ∙ ap (textLeft f p) (sym same-flags ∙ sym here)
       ∙ text-copied f p h places flags (r .attributes .len) n (attributes-are f table places r p h holds) size (holds .lined) (holds .some)

@@ -5,7 +5,7 @@ use table::Shape;
 ghost use mathlib.Core.Path.{_≡_};
 ghost use Prim.Native.Nat.{_<_};
 ghost use Rattle.meaning.specs.Operations.{decideAnswer, trimAnswer, trimLent, reportAnswer, reportLent};
-ghost use Rattle.table.specs.Shape.{countsOf};
+ghost use Rattle.table.specs.Shape.{hitOf};
 ghost use Rattle.outcomes.specs.Ready.{Ready};
 ghost use Rattle.trimming.specs.Decided.{trimmingAt};
 ghost use Rattle.jogimaduve.specs.Told.{textTold, shapeOf};
@@ -72,7 +72,7 @@ pub extern "C" fn jogimaduve_decide(file: &[u8], request: &[u8]) -> Answer
 // Strikes every rule that trimming strikes.
 fn strike(table: &[u16], struck: &mut [u8], shape: Shape)
     requires { ⌜ Ready (now table) (now struck) shape ⌝ }
-    ensures { λ _. ⌜ now (struck .exit) ≡ trimmingAt (now (table .entry)) (shape .n) (countsOf shape) (shape .n) (now (struck .entry)) .flags ⌝ }
+    ensures { λ _. ⌜ now (struck .exit) ≡ trimmingAt (now (table .entry)) (shape .n) (hitOf shape) (shape .space) (shape .n) (now (struck .entry)) .flags ⌝ }
 {
     let mut hits = [0u64; 4096];
     matching::match_all(table, shape, &mut hits);

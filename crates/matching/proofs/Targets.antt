@@ -10,12 +10,14 @@ use lib.ListN.{length, take, drop, getD, set, replicate, getD-replicate}
 use lib.Seq.{getD-set-other, drop-cons}
 use borrow.Author.Tests.{eqb-true, eqb-false}
 use Rattle.meaning.specs.Model.{product}
-use Rattle.meaning.specs.Deciding.{bit, within, requestOf, matches}
+use Rattle.meaning.specs.Deciding.{bit, within, requestOf}
 use Rattle.laws.proofs.Bits.{bit-zero, bit-above}
 use Rattle.laws.proofs.Bools.{Test, passed, failed, test}
 use Rattle.laws.proofs.Requests.{Positive, product-pos}
 use Rattle.requests.proofs.Laws.{rest-cons, rest-none, counts-positive}
 use Rattle.table.specs.Rows.{elementAt, masksAt}
+use Rattle.table.specs.declared.Shape.{Shape}
+use Rattle.table.specs.Shape.{countsOf, hitOf}
 use Rattle.matching.specs.Hits.{Hits}
 use Rattle.matching.specs.Planes.{laid, Clear, Plane}
 use Rattle.matching.proofs.Putting.{Put}
@@ -100,18 +102,18 @@ module _ (masks counts : List ℕ) (len : ℕ) where
               ap (λ b. bit (getD masks (a - 1) 0) (m / size) && b) (so-far .bits .bits (m % size) (mod-lt m size-some))
               ∙ rw (counts-at, masks-at, so-far .all)
 
-module _ (t counts : List ℕ) where
-  pub hits-none : (hits : List ℕ) → Hits t 0 counts hits
+module _ (t : List ℕ) (s : Shape) where
+  pub hits-none : (hits : List ℕ) → Hits t 0 (hitOf s) (s .space) hits
   hits-none hits i m l k = absurd (omega arith)
 
-  pub hits-next : {i words : ℕ} {masks plane old new : List ℕ} → words ≤ 64 → product counts ≤ 64 * words → Hits t i counts old → masks ≡ masksAt t i
-      → ((m : ℕ) → m < product counts → laid plane m ≡ within masks (requestOf counts m))
-      → Put plane words (64 * i) old new → Hits t (i + 1) counts new
-  unfolding elementAt
+  pub hits-next : {i words : ℕ} {masks plane old new : List ℕ} → words ≤ 64 → s .space ≤ 64 * words → Hits t i (hitOf s) (s .space) old → masks ≡ masksAt t i
+      → ((m : ℕ) → m < s .space → laid plane m ≡ within masks (requestOf (countsOf s) m))
+      → Put plane words (64 * i) old new → Hits t (i + 1) (hitOf s) (s .space) new
+  unfolding elementAt hitOf
   hits-next {i} {words} {masks} {plane} {old} {new} few enough so-far own here copied j m l k = go (test (eqb j i))
     where
-      go : Test (eqb j i) → bit (getD new (64 * j + m / 64) 0) (m % 64) ≡ matches (requestOf counts m) (elementAt t j)
-      go (passed e) = rw (eqb-true j i e) (ap (λ x. bit x (m % 64)) (copied .here (m / 64) (omega arith)) ∙ here m k ∙ ap (λ ms. within ms (requestOf counts m)) own)
+      go : Test (eqb j i) → bit (getD new (64 * j + m / 64) 0) (m % 64) ≡ hitOf s m (elementAt t j)
+      go (passed e) = rw (eqb-true j i e) (ap (λ x. bit x (m % 64)) (copied .here (m / 64) (omega arith)) ∙ here m k ∙ ap (λ ms. within ms (requestOf (countsOf s) m)) own)
       go (failed e) =
           let other = eqb-false j i e in
           ap (λ x. bit x (m % 64)) (copied .others (64 * j + m / 64) (λ a. omega (arith, other))) ∙ so-far j m (omega (arith, other)) k

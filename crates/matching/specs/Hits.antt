@@ -4,11 +4,11 @@ use mathlib.Core.Path.{_≡_}
 use mathlib.Core.Bool.{Bool, false}
 use mathlib.Core.List.{List}
 use lib.ListN.{length, getD}
-use Rattle.meaning.specs.Model.{product}
-use Rattle.meaning.specs.Deciding.{bit, requestOf, matches}
+use Rattle.meaning.specs.Deciding.{bit}
+use Rattle.meaning.specs.declared.Element.{Element}
 use Rattle.table.specs.Rows.{elementAt, Rows}
 use Rattle.table.specs.declared.Shape.{Shape}
-use Rattle.table.specs.Shape.{countsOf}
+use Rattle.table.specs.Shape.{Counted, hitOf}
 
 -- rows of 64 words: row i's bit for request m is bit m % 64 of its word m / 64
 abbrev pub bitOf : List ℕ → ℕ → ℕ → Bool
@@ -29,15 +29,14 @@ pub record Rest (n space : ℕ) (old new : List ℕ) : Type 0 where
   pub others : (k : ℕ) → (k < 64 * n → wordsOf space ≤ k % 64) → getD new k 0 ≡ getD old k 0
 
 -- element i's bit for request m says whether it matches the element's own target
-abbrev pub Hits : List ℕ → ℕ → List ℕ → List ℕ → Type 0
-Hits t n counts hits = (i m : ℕ) → i < n → m < product counts → bitOf hits i m ≡ matches (requestOf counts m) (elementAt t i)
+abbrev pub Hits : List ℕ → ℕ → (ℕ → Element → Bool) → ℕ → List ℕ → Type 0
+Hits t n hit space hits = (i m : ℕ) → i < n → m < space → bitOf hits i m ≡ hit m (elementAt t i)
 
 -- a table of at most 64 elements, at most six attributes and 4,096 requests, and room for a bit of each element and request
 pub record Matchable (t : List ℕ) (s : Shape) (hits : List ℕ) : Type 0 where
   pub rows : Rows t (s .n)
   pub few : s .n ≤ 64
-  pub attributes : s .len ≤ 6
-  pub all : product (countsOf s) ≡ s .space
+  pub counted : Counted s
   pub positive : 0 < s .space
   pub small : s .space ≤ 4096
   pub room : 4096 ≤ length hits
@@ -45,5 +44,5 @@ pub record Matchable (t : List ℕ) (s : Shape) (hits : List ℕ) : Type 0 where
 -- the words that tell which requests match each element's own target, and nothing else
 pub record Matched (t hits : List ℕ) (s : Shape) : Type 0 where
   pub room : 64 * s .n ≤ length hits
-  pub hits-are : Hits t (s .n) (countsOf s) hits
+  pub hits-are : Hits t (s .n) (hitOf s) (s .space) hits
   pub clear : ClearFrom (s .n) (s .space) hits

@@ -10,11 +10,11 @@ use lib.ListN.{getD}
 use borrow.Author.Tests.{leb-true, leb-false}
 use Rattle.meaning.specs.declared.Decision.the-variants.{NotApplicable}
 use Rattle.meaning.specs.declared.Element.{Element}
-use Rattle.meaning.specs.Deciding.{Outcome, requestOf, matches, sameOutcome}
+use Rattle.meaning.specs.Deciding.{Outcome, sameOutcome}
 use Rattle.laws.proofs.Bools.{Test, passed, failed, test}
 use Rattle.laws.proofs.Outcomes.{same-outcome, outcome-same}
 use Rattle.table.specs.declared.Shape.{Shape}
-use Rattle.table.specs.Shape.{countsOf}
+use Rattle.table.specs.Shape.{hitOf}
 use Rattle.decisions.specs.Replies.{replyAt}
 use Rattle.decisions.proofs.Children.{first-left}
 use Rattle.matching.specs.Hits.{wordsOf, Matched}
@@ -35,7 +35,7 @@ toldOf told block = record { permits = getD told block 0; denies = getD told (64
 
 -- what the bits of request m are to tell: behind the requests nothing
 abbrev pub toTell : List ℕ → List ℕ → Shape → ℕ → Outcome
-toTell t struck s m = cond (leb (s .space) m) NotApplicable (decidedAt t (s .n) (countsOf s) struck m)
+toTell t struck s m = cond (leb (s .space) m) NotApplicable (decidedAt t (s .n) (hitOf s) struck m)
 
 module _ (t struck hits : List ℕ) (s : Shape) (ready : Ready t struck s) (matched : Matched t hits s) (block : ℕ) where
   pub block-room : block < 64 → Block t struck hits (s .n) block 1
@@ -43,11 +43,11 @@ module _ (t struck hits : List ℕ) (s : Shape) (ready : Ready t struck s) (matc
 
   module _ (r : Replies) (is : Replied t struck hits (s .n) block r) where
     -- request m of the block gets what its bits tell
-    given-at : (m : ℕ) → m < s .space → m / 64 ≡ block → decisionBit (r .given) (m % 64) ≡ decidedAt t (s .n) (countsOf s) struck m
+    given-at : (m : ℕ) → m < s .space → m / 64 ≡ block → decisionBit (r .given) (m % 64) ≡ decidedAt t (s .n) (hitOf s) struck m
     unfolding decidedAt
     given-at m l e =
-        let hit = matches (requestOf (countsOf s) m) in
-        let answers : Answers t hits (s .n) block (m % 64) hit = λ i below. rw e at (matched .hits-are i m below (omega (arith, ready .all))) in
+        let hit = hitOf s m in
+        let answers : Answers t hits (s .n) block (m % 64) hit = λ i below. rw e at (matched .hits-are i m below l) in
         let first = first-left hit t struck (s .n) 0 (omega (arith, ready .some)) (ready .stays) in
         ap (λ x. x .decision) (is (m % 64) hit answers) ∙ sym (rw sub-zero at first)
 
@@ -70,21 +70,21 @@ module _ (t struck hits : List ℕ) (s : Shape) (ready : Ready t struck s) (matc
       told-is m e = rw e
 
       -- its test against what was laid down
-      same-bits : (m : ℕ) → m < s .space → m / 64 ≡ block → decisionBit (r .given) (m % 64) ≡ decisionBit (toldOf told block) (m % 64) → differsAt t (s .n) (countsOf s) told struck m ≡ false
+      same-bits : (m : ℕ) → m < s .space → m / 64 ≡ block → decisionBit (r .given) (m % 64) ≡ decisionBit (toldOf told block) (m % 64) → differsAt t (s .n) (hitOf s) told struck m ≡ false
       unfolding differsAt
       same-bits m l e alike =
-          let gets = decidedAt t (s .n) (countsOf s) struck m in
+          let gets = decidedAt t (s .n) (hitOf s) struck m in
           ap (λ d. not (sameOutcome d gets)) (told-is m e ∙ sym alike ∙ given-at m l e) ∙ ap not (outcome-same gets)
 
-      other-bits : (m : ℕ) → m < s .space → m / 64 ≡ block → (decisionBit (r .given) (m % 64) ≡ decisionBit (toldOf told block) (m % 64) → ⊥) → differsAt t (s .n) (countsOf s) told struck m ≡ true
+      other-bits : (m : ℕ) → m < s .space → m / 64 ≡ block → (decisionBit (r .given) (m % 64) ≡ decisionBit (toldOf told block) (m % 64) → ⊥) → differsAt t (s .n) (hitOf s) told struck m ≡ true
       unfolding differsAt
-      other-bits m l e other = go (test (sameOutcome (toldAt told m) (decidedAt t (s .n) (countsOf s) struck m)))
+      other-bits m l e other = go (test (sameOutcome (toldAt told m) (decidedAt t (s .n) (hitOf s) struck m)))
         where
-          go : Test (sameOutcome (toldAt told m) (decidedAt t (s .n) (countsOf s) struck m)) → not (sameOutcome (toldAt told m) (decidedAt t (s .n) (countsOf s) struck m)) ≡ true
+          go : Test (sameOutcome (toldAt told m) (decidedAt t (s .n) (hitOf s) struck m)) → not (sameOutcome (toldAt told m) (decidedAt t (s .n) (hitOf s) struck m)) ≡ true
           go (passed same) = absurd (other (given-at m l e ∙ sym (same-outcome _ _ same) ∙ told-is m e))
           go (failed differ) = ap not differ
 
-      pub block-alike : r .given .permits ≡ getD told block 0 → r .given .denies ≡ getD told (64 + block) 0 → InBlock (differsAt t (s .n) (countsOf s) told struck) (s .space) block (s .space)
+      pub block-alike : r .given .permits ≡ getD told block 0 → r .given .denies ≡ getD told (64 + block) 0 → InBlock (differsAt t (s .n) (hitOf s) told struck) (s .space) block (s .space)
       block-alike permits denies =
           record {
             within = omega arith;
@@ -92,7 +92,7 @@ module _ (t struck hits : List ℕ) (s : Shape) (ready : Ready t struck s) (matc
             none-earlier = λ m low high l. same-bits m l (omega arith) (rw (permits, denies));
           }
 
-      pub block-other : (first : ℕ) → Other (r .given) (toldOf told block) (64 * block) (s .space) first → InBlock (differsAt t (s .n) (countsOf s) told struck) (s .space) block first
+      pub block-other : (first : ℕ) → Other (r .given) (toldOf told block) (64 * block) (s .space) first → InBlock (differsAt t (s .n) (hitOf s) told struck) (s .space) block first
       block-other first other =
           record {
             within = other .within;

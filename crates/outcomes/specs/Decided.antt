@@ -3,7 +3,8 @@ use Prim.Native.Nat.{ℕ, _+_, _/_, _%_}
 use mathlib.Core.Bool.{Bool, not}
 use mathlib.Core.List.{List}
 use lib.ListN.{getD}
-use Rattle.meaning.specs.Deciding.{Outcome, bit, requestOf, matches, firstDecision, sameOutcome}
+use Rattle.meaning.specs.Deciding.{Outcome, bit, firstDecision, sameOutcome}
+use Rattle.meaning.specs.declared.Element.{Element}
 use Rattle.table.specs.Tree.{left}
 use Rattle.blocks.specs.Bits.{decisionBy}
 
@@ -11,11 +12,11 @@ use Rattle.blocks.specs.Bits.{decisionBy}
 abbrev pub toldAt : List ℕ → ℕ → Outcome
 toldAt told m = decisionBy (bit (getD told (m / 64) 0) (m % 64)) (bit (getD told (64 + m / 64) 0) (m % 64))
 
--- A policy: its table, the number of its elements, and the value count of each attribute
-module _ (t : List ℕ) (n : ℕ) (counts : List ℕ) where
+-- A policy: its table, the number of its elements, and which requests match an element's own target
+module _ (t : List ℕ) (n : ℕ) (hit : ℕ → Element → Bool) where
   -- what request m gets from the elements that are left
   unfoldable pub decidedAt : List ℕ → ℕ → Outcome
-  decidedAt struck m = firstDecision (matches (requestOf counts m)) (left t struck 0 n)
+  decidedAt struck m = firstDecision (hit m) (left t struck 0 n)
 
   -- request m gets another decision than the one told
   unfoldable pub differsAt : List ℕ → List ℕ → ℕ → Bool

@@ -3,11 +3,10 @@ use Prim.Native.Nat.{ℕ, _≤_, _<_}
 use mathlib.Core.Path.{_≡_}
 use mathlib.Core.List.{List}
 use lib.ListN.{length, getD}
-use Rattle.meaning.specs.Model.{product}
 use Rattle.table.specs.Tree.{Leaves, RulesStruck}
 use Rattle.table.specs.declared.Shape.{Shape}
 use Rattle.table.specs.Rows.{Rows, wordNumber}
-use Rattle.table.specs.Shape.{countsOf}
+use Rattle.table.specs.Shape.{Counted, hitOf}
 use Rattle.outcomes.specs.Decided.{toldAt, decidedAt}
 
 -- a table of 1 to 64 elements whose first is no rule and whose rules have no children, a flag for each, set for rules alone, and at most 4,096 requests
@@ -20,12 +19,11 @@ pub record Ready (t struck : List ℕ) (s : Shape) : Type 0 where
   pub stays : getD struck 0 0 ≡ 0
   pub leaves : Leaves t (s .n)
   pub rules : RulesStruck t struck (s .n)
-  pub attributes : s .len ≤ 6
-  pub all : product (countsOf s) ≡ s .space
+  pub counted : Counted s
   pub positive : 0 < s .space
   pub small : s .space ≤ 4096
 
 -- the words that tell what each request gets under these flags
 pub record Holds (t struck told : List ℕ) (s : Shape) : Type 0 where
   pub enough : 128 ≤ length told
-  pub tells : (m : ℕ) → m < s .space → toldAt told m ≡ decidedAt t (s .n) (countsOf s) struck m
+  pub tells : (m : ℕ) → m < s .space → toldAt told m ≡ decidedAt t (s .n) (hitOf s) struck m

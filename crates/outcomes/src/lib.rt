@@ -7,7 +7,7 @@ ghost use Prim.Native.Nat.{_*_, _≤_, _<_};
 ghost use lib.ListN.{length, drop};
 ghost use Rattle.meaning.specs.Text.{counting};
 ghost use Rattle.meaning.specs.Deciding.{decisionNumber};
-ghost use Rattle.table.specs.Shape.{countsOf};
+ghost use Rattle.table.specs.Shape.{hitOf};
 ghost use Rattle.matching.specs.Hits.{Rest, Matched};
 ghost use Rattle.outcomes.specs.Decided.{toldAt, differsAt};
 ghost use Rattle.outcomes.specs.Ready.{Ready, Holds};
@@ -73,7 +73,7 @@ pub fn change_in(
     block: usize,
 ) -> usize
     requires { ⌜ Ready (now table) (now struck) shape × Matched (now table) (now hits) shape × (128 ≤ length (now told)) × (64 * block < shape .space) ⌝ }
-    ensures { λ r. ⌜ InBlock (differsAt (now (table .entry)) (shape .n) (countsOf shape) (now (told .entry)) (now (struck .entry))) (shape .space) block r ⌝ }
+    ensures { λ r. ⌜ InBlock (differsAt (now (table .entry)) (shape .n) (hitOf shape) (now (told .entry)) (now (struck .entry))) (shape .space) block r ⌝ }
 {
     let space = shape.space;
     let reply = blocks::reply(table, struck, hits, shape.n, block, 0);

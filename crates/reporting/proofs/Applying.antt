@@ -9,7 +9,7 @@ use lib.ListN.{getD}
 use Rattle.meaning.specs.declared.Element.{Element}
 use Rattle.meaning.specs.Text.{Bytes, all, counting}
 use Rattle.meaning.specs.Model.{Policy, sizes}
-use Rattle.meaning.specs.Deciding.{requestOf, matches, above, applies}
+use Rattle.meaning.specs.Deciding.{requestOf, matches, above, applies, hits}
 use Rattle.meaning.specs.Segments.{applying, applyingTo}
 use Rattle.laws.proofs.Bools.{Test, passed, failed, test}
 use Rattle.table.specs.Rows.{elementAt}
@@ -47,12 +47,12 @@ module _ (q : List ℕ) where
 
 -- an element of the table
 module _ (f : Bytes) (table places : List ℕ) (q : List ℕ) where
-  applies-is : (n : ℕ) → applies (matches q) (elementsTo f table places n) (elementIn f table places n) ≡ appliesAt table q n
+  applies-is : (n : ℕ) → applies (matches q) (elementsTo f table places n) (elementIn f table places n) ≡ appliesAt table (matches q) n
   unfolding appliesAt elementIn elementAt
   applies-is n = sym (applies-bare q (elementsTo f table places n) (elementIn f table places n)) ∙ ap (λ es. applies (matches q) es (elementAt table n)) (elements-bare f table places n)
 
   -- all of them
-  all-applying : (n : ℕ) → applying (matches q) [] (reverse (elementsTo f table places n)) ≡ map (appliesAt table q) (counting 0 n)
+  all-applying : (n : ℕ) → applying (matches q) [] (reverse (elementsTo f table places n)) ≡ map (appliesAt table (matches q)) (counting 0 n)
   unfolding elementsTo
   all-applying zero = refl
   all-applying (suc n) =
@@ -64,20 +64,20 @@ module _ (f : Bytes) (table places : List ℕ) (q : List ℕ) where
       ap (applying (matches q) []) (reverse-cons e es)
       ∙ applying-more (matches q) [] (reverse es) e
       ∙ rw (front, applies-is n, all-applying n)
-      (sym (map-append (appliesAt table q) (counting 0 n) (n ∷ [])) ∙ ap (map (appliesAt table q)) (sym more))
+      (sym (map-append (appliesAt table (matches q)) (counting 0 n) (n ∷ [])) ∙ ap (map (appliesAt table (matches q))) (sym more))
 
-module _ (f : Bytes) (table places : List ℕ) (n : ℕ) (p : Policy) (is : p .elements ≡ reverse (elementsTo f table places n)) (counts : List ℕ) (sized : counts ≡ sizes (p .attributes)) where
-  pub applying-is : (m : ℕ) → applyingTo p m ≡ map (appliesAt table (requestOf counts m)) (counting 0 n)
+module _ (f : Bytes) (table places : List ℕ) (n : ℕ) (p : Policy) (is : p .elements ≡ reverse (elementsTo f table places n)) (hit : ℕ → Element → Bool) (hits-are : (m : ℕ) → hit m ≡ hits p m) where
+  pub applying-is : (m : ℕ) → applyingTo p m ≡ map (appliesAt table (hit m)) (counting 0 n)
   applying-is m =
-      ap (λ c. applying (matches (requestOf c m)) [] (p .elements)) (sym sized)
-      ∙ ap (applying (matches (requestOf counts m)) []) is
-      ∙ all-applying f table places (requestOf counts m) n
+      ap (applying (hits p m) []) is
+      ∙ all-applying f table places (requestOf (sizes (p .attributes)) m) n
+      ∙ ap (λ test. map (appliesAt table test) (counting 0 n)) (sym (hits-are m))
 
   -- one of them
-  pub applies-at : (m i : ℕ) → i < n → appliesAt table (requestOf counts m) i ≡ getD (applyingTo p m) i false
-  applies-at m i l = let here : 0 + i ≡ i = omega arith in sym (ap (λ bs. getD bs i false) (applying-is m) ∙ test-at (appliesAt table (requestOf counts m)) 0 n i l ∙ rw here)
+  pub applies-at : (m i : ℕ) → i < n → appliesAt table (hit m) i ≡ getD (applyingTo p m) i false
+  applies-at m i l = let here : 0 + i ≡ i = omega arith in sym (ap (λ bs. getD bs i false) (applying-is m) ∙ test-at (appliesAt table (hit m)) 0 n i l ∙ rw here)
 
   -- the word of a request has their marks
-  pub word-is : (m : ℕ) → applyingAt table n counts m ≡ marks (applyingTo p m)
+  pub word-is : (m : ℕ) → applyingAt table n hit m ≡ marks (applyingTo p m)
   unfolding wordFrom
   word-is m = ap marks (sym (applying-is m))

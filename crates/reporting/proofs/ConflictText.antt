@@ -10,10 +10,11 @@ use lib.ListN.{length, getD}
 use borrow.Author.Tests.{eqb-true}
 use Rattle.meaning.specs.declared.Decision.{Decision}
 use Rattle.meaning.specs.Text.{Bytes, bytes, keep, gathered, ifSome, counting, firstFrom, line, decimal}
-use Rattle.meaning.specs.Model.{Policy, sizes, product}
-use Rattle.meaning.specs.Deciding.{requestOf, is as isOf}
+use Rattle.meaning.specs.Model.{Policy, space as spaceOf}
+use Rattle.meaning.specs.Deciding.{is as isOf, hits}
 use Rattle.meaning.specs.Segments.{childrenOf, decisionAt, shows, Conflict, pairs as pairsOf, conflictOf, conflicts}
 use Rattle.meaning.specs.Report.{nameIn as nameOfPlace, conflictFields}
+use Rattle.meaning.specs.declared.Element.{Element}
 use Rattle.laws.proofs.Bools.{Test, passed, failed, test}
 use Rattle.laws.proofs.Search.{counting-only, counting-rising, keep-only, keep-rising}
 use Rattle.laws.proofs.Lists.{gathered-alike, gathered-keep, gathered-twice, gathered-one, pairs-first, pairs-alike}
@@ -55,7 +56,7 @@ module _ (f : Bytes) (places : List ℕ) (n : ℕ) (parents pairs : List ℕ) (s
           rw (e, behind, add-one j) (ap₂ (λ xs ys. xs ++ ys) (sym (gathered-keep child (λ k. lineOf (j, k)) (counting (suc j) c))) later ∙ sym (pairs-first lineOf j (kept (suc j) c)))
       go (failed e) later = rw e later
 
-module _ (f : Bytes) (table places : List ℕ) (n : ℕ) (p : Policy) (is : p .elements ≡ reverse (elementsTo f table places n)) (counts : List ℕ) (sized : counts ≡ sizes (p .attributes)) where
+module _ (f : Bytes) (table places : List ℕ) (n : ℕ) (p : Policy) (is : p .elements ≡ reverse (elementsTo f table places n)) (hit : ℕ → Element → Bool) (space : ℕ) (hits-are : (m : ℕ) → hit m ≡ hits p m) (space-is : space ≡ spaceOf (p .attributes)) where
   -- the line of a conflict, and the conflicts of a parent
   abbrev written : Conflict → Bytes
   written c = line (conflictFields (p .elements) c)
@@ -66,43 +67,43 @@ module _ (f : Bytes) (table places : List ℕ) (n : ℕ) (p : Policy) (is : p .e
   module _ (parents struck : List ℕ) (clear : (k : ℕ) → getD struck k 0 ≡ 0)
       (found : (j : ℕ) → j < n → getD parents j 0 ≡ placeOr n (parentOf table j))
       (pairs : List ℕ)
-      (paired : (j k : ℕ) → Later parents n j k → getD pairs (64 * j + k) 0 ≡ placeOr (product counts) (firstFrom (showsAt table struck n counts (getD parents j 0) j k) 0 (product counts))) where
-    gives : (d : Decision) (m j : ℕ) → j < n → givesAt d table struck n (requestOf counts m) j ≡ isOf d (decisionAt p m j)
-    gives = gives-is f table places n p is counts sized struck clear
+      (paired : (j k : ℕ) → Later parents n j k → getD pairs (64 * j + k) 0 ≡ placeOr space (firstFrom (showsAt table struck n hit (getD parents j 0) j k) 0 space)) where
+    gives : (d : Decision) (m j : ℕ) → j < n → givesAt d table struck n (hit m) j ≡ isOf d (decisionAt p m j)
+    gives = gives-is f table places n p is hit hits-are struck clear
 
     -- what a request shows, and the first that shows it
-    shows-is : (i j k m : ℕ) → i < n → j < n → k < n → showsAt table struck n counts i j k m ≡ shows p i j k m
+    shows-is : (i j k m : ℕ) → i < n → j < n → k < n → showsAt table struck n hit i j k m ≡ shows p i j k m
     unfolding showsAt
     shows-is i j k m a b c =
-        λ x. applies-at f table places n p is counts sized m i a x && ((gives Decision.Permit m j b x && gives Decision.Deny m k c x) || (gives Decision.Deny m j b x && gives Decision.Permit m k c x))
+        λ x. applies-at f table places n p is hit hits-are m i a x && ((gives Decision.Permit m j b x && gives Decision.Deny m k c x) || (gives Decision.Deny m j b x && gives Decision.Permit m k c x))
 
-    first-is : (i j k : ℕ) → i < n → j < n → k < n → firstFrom (showsAt table struck n counts i j k) 0 (product counts) ≡ firstFrom (shows p i j k) 0 (product counts)
-    first-is i j k a b c = first-alike (showsAt table struck n counts i j k) (shows p i j k) 0 (product counts) (λ m low high. shows-is i j k m a b c)
+    first-is : (i j k : ℕ) → i < n → j < n → k < n → firstFrom (showsAt table struck n hit i j k) 0 space ≡ firstFrom (shows p i j k) 0 space
+    first-is i j k a b c = first-alike (showsAt table struck n hit i j k) (shows p i j k) 0 space (λ m low high. shows-is i j k m a b c)
 
     -- the request of a pair of children
-    pair-is : (i j k : ℕ) → i < n → j < k → k < n → getD parents j 0 ≡ i → getD parents k 0 ≡ i → getD pairs (64 * j + k) 0 ≡ placeOr (product counts) (firstFrom (shows p i j k) 0 (product counts))
+    pair-is : (i j k : ℕ) → i < n → j < k → k < n → getD parents j 0 ≡ i → getD parents k 0 ≡ i → getD pairs (64 * j + k) 0 ≡ placeOr space (firstFrom (shows p i j k) 0 space)
     pair-is i j k a b c x y =
         paired j k record { after = b; within = c; siblings = x ∙ sym y; some = omega arith }
-        ∙ ap (placeOr (product counts)) (ap (λ i. firstFrom (showsAt table struck n counts i j k) 0 (product counts)) x ∙ first-is i j k a (omega arith) c)
+        ∙ ap (placeOr space) (ap (λ i. firstFrom (showsAt table struck n hit i j k) 0 space) x ∙ first-is i j k a (omega arith) c)
 
     -- the line of a pair
-    line-is : (i j k : ℕ) → i < n → j < k → k < n → getD parents j 0 ≡ i → getD parents k 0 ≡ i → conflictLine f places pairs (product counts) i j k ≡ gathered written (conflictOf p i (j, k))
+    line-is : (i j k : ℕ) → i < n → j < k → k < n → getD parents j 0 ≡ i → getD parents k 0 ≡ i → conflictLine f places pairs space i j k ≡ gathered written (conflictOf p i (j, k))
     unfolding conflictLine
     line-is i j k a b c x y =
-        (λ t. let m = pair-is i j k a b c x y t in cond (ltb m (product counts)) (line (bytes "C" ∷ name i a t ∷ name j (omega arith) t ∷ name k c t ∷ decimal m ∷ [])) [])
-        ∙ first-or (shows p i j k) (product counts) (λ m. line (bytes "C" ∷ nameOfPlace (p .elements) i ∷ nameOfPlace (p .elements) j ∷ nameOfPlace (p .elements) k ∷ decimal m ∷ []))
-        ∙ sym (gathered-one written (λ m. record { parent = i; earlier = j; later = k; request = m }) (firstFrom (shows p i j k) 0 (product counts)))
-        ∙ ap (λ c. gathered written (ifSome (firstFrom (shows p i j k) 0 (product c)) (λ m. record { parent = i; earlier = j; later = k; request = m } ∷ []))) sized
+        (λ t. let m = pair-is i j k a b c x y t in cond (ltb m space) (line (bytes "C" ∷ name i a t ∷ name j (omega arith) t ∷ name k c t ∷ decimal m ∷ [])) [])
+        ∙ first-or (shows p i j k) space (λ m. line (bytes "C" ∷ nameOfPlace (p .elements) i ∷ nameOfPlace (p .elements) j ∷ nameOfPlace (p .elements) k ∷ decimal m ∷ []))
+        ∙ sym (gathered-one written (λ m. record { parent = i; earlier = j; later = k; request = m }) (firstFrom (shows p i j k) 0 space))
+        ∙ ap (λ c. gathered written (ifSome (firstFrom (shows p i j k) 0 c) (λ m. record { parent = i; earlier = j; later = k; request = m } ∷ []))) space-is
       where
         name : (i : ℕ) → i < n → nameIn f places i ≡ nameOfPlace (p .elements) i
         name i l = sym (name-at f table places n p is i l)
 
     -- the lines of a parent
-    parent-lines : (i : ℕ) → i < n → pairLines f places n parents pairs (product counts) i ≡ gathered written (of-parent i)
+    parent-lines : (i : ℕ) → i < n → pairLines f places n parents pairs space i ≡ gathered written (of-parent i)
     unfolding pairLines
     parent-lines i l =
-        pair-lines f places n parents pairs (product counts) i 0 n (omega arith)
-        ∙ pairs-alike (lineOf f places n parents pairs (product counts) i) (λ q. gathered written (conflictOf p i q)) children (keep-rising its (counting 0 n) (counting-rising 0 n))
+        pair-lines f places n parents pairs space i 0 n (omega arith)
+        ∙ pairs-alike (lineOf f places n parents pairs space i) (λ q. gathered written (conflictOf p i q)) children (keep-rising its (counting 0 n) (counting-rising 0 n))
         (λ j k a b u. line-is i j k l u (below k b) (parent j a) (parent k b))
         ∙ ap (λ js. gathered (λ q. gathered written (conflictOf p i q)) (pairsOf js)) (children-are f table places n p is parents found i l)
         ∙ sym (gathered-twice written (conflictOf p i) (pairsOf (childrenOf (p .elements) i)))
@@ -120,9 +121,9 @@ module _ (f : Bytes) (table places : List ℕ) (n : ℕ) (p : Policy) (is : p .e
         parent j m = eqb-true (getD parents j 0) i (keep-only its j (counting 0 n) m .1)
 
     -- the `C` lines
-    pub conflicts-are : conflictText f places n parents pairs (product counts) ≡ gathered (λ c. line (conflictFields (p .elements) c)) (conflicts p)
+    pub conflicts-are : conflictText f places n parents pairs space ≡ gathered (λ c. line (conflictFields (p .elements) c)) (conflicts p)
     unfolding conflictText conflicts
     conflicts-are =
-        gathered-alike (pairLines f places n parents pairs (product counts)) (λ i. gathered written (of-parent i)) (counting 0 n) (λ i m. parent-lines i (omega (arith, counting-only 0 n i m)))
+        gathered-alike (pairLines f places n parents pairs space) (λ i. gathered written (of-parent i)) (counting 0 n) (λ i m. parent-lines i (omega (arith, counting-only 0 n i m)))
         ∙ ap (λ k. gathered (λ i. gathered written (of-parent i)) (counting 0 k)) (sym (count-is f table places n p is))
         ∙ sym (gathered-twice written of-parent (counting 0 (length (p .elements))))

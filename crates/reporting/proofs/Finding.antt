@@ -1,25 +1,25 @@
 -- What was found, from what the functions that find it lay down.
-use mathlib.Core.Path.{_≡_, refl, sym, ap, _∙_, subst}
+use mathlib.Core.Path.{_≡_, sym, ap, _∙_, subst}
 use Prim.Native.Nat.{ℕ, zero, suc, _≤_, _<_}
 use native.Mathlib.Omega.{arith}
 use mathlib.Core.List.{List, _++_, map}
 use mathlib.Core.Option.{Option, none, some}
 use lib.ListN.{length, take, drop, getD, set}
 use lib.Seq.{take-at, getD-take}
+use mathlib.Core.Bool.{Bool}
 use Rattle.meaning.specs.declared.Decision.{Decision}
 use Rattle.meaning.specs.Text.{Bytes, counting}
-use Rattle.meaning.specs.Model.{product}
 use Rattle.meaning.specs.Deciding.{decisionNumber}
+use Rattle.meaning.specs.declared.Element.{Element}
 use Rattle.table.specs.Tree.{parentOf, placeOr}
 use Rattle.table.specs.declared.Shape.{Shape}
-use Rattle.table.specs.Shape.{countsOf}
-use Rattle.matching.specs.Hits.{Matched}
+use Rattle.table.specs.Shape.{hitOf}
 use Rattle.outcomes.specs.Decided.{toldAt}
-use Rattle.outcomes.specs.Ready.{Ready, Holds}
+use Rattle.outcomes.specs.Ready.{Holds}
 use Rattle.trimming.specs.Decided.{onward, shownAt, nextAt, trimmingAt}
 use Rattle.trimming.specs.Trims.{Trims}
 use Rattle.layout.specs.Places.{Naming}
-use Rattle.rows.specs.Rows.{Applied, Given, Marked}
+use Rattle.rows.specs.Rows.{Applied, Given}
 use Rattle.segments.specs.Sizes.{sizeAt}
 use Rattle.segments.specs.Across.{wordAcross}
 use Rattle.segments.proofs.Columns.{across-applying}
@@ -31,61 +31,53 @@ use Rattle.reporting.proofs.Searched.{laid-at}
 use Rattle.reporting.proofs.StruckText.{order-below}
 
 -- striking takes no more steps than there are
-order-few : (t : List ℕ) (n : ℕ) (counts : List ℕ) (steps : ℕ) (struck : List ℕ) → length (trimmingAt t n counts steps struck .order) ≤ steps
+order-few : (t : List ℕ) (n : ℕ) (hit : ℕ → Element → Bool) (space : ℕ) (steps : ℕ) (struck : List ℕ) → length (trimmingAt t n hit space steps struck .order) ≤ steps
 unfolding trimmingAt
-order-few t n counts zero struck = omega arith
-order-few t n counts (suc k) struck = go (nextAt t n counts struck) (λ i. order-few t n counts k (set struck i 1))
+order-few t n hit space zero struck = omega arith
+order-few t n hit space (suc k) struck = go (nextAt t n hit space struck) (λ i. order-few t n hit space k (set struck i 1))
   where
-    go : (o : Option ℕ) → ((i : ℕ) → length (trimmingAt t n counts k (set struck i 1) .order) ≤ k) → length (onward o struck (λ i. trimmingAt t n counts k (set struck i 1)) .order) ≤ suc k
+    go : (o : Option ℕ) → ((i : ℕ) → length (trimmingAt t n hit space k (set struck i 1) .order) ≤ k) → length (onward o struck (λ i. trimmingAt t n hit space k (set struck i 1)) .order) ≤ suc k
     go none later = omega arith
     go (some i) later = omega (arith, later i)
 
 module _ (t : List ℕ) (s : Shape) where
   -- the rules, from the flags that striking left
   module _ (told flags old order behind shown : List ℕ) (count : ℕ) (trims : Trims t told s none-struck flags old order count) where
-    pub rules-found : shown ≡ map (shownAt t (s .n) (countsOf s) flags) (counting 0 (s .n)) ++ behind → RulesFound t (s .n) (countsOf s) order shown count
+    pub rules-found : shown ≡ map (shownAt t (s .n) (hitOf s) (s .space) flags) (counting 0 (s .n)) ++ behind → RulesFound t (s .n) (hitOf s) (s .space) order shown count
     rules-found e =
-        let end = trimmedAt t (s .n) (countsOf s) in
+        let end = trimmedAt t (s .n) (hitOf s) (s .space) in
         record {
           struck = ap (take count) (trims .order-is) ∙ take-at (end .order) (drop count old) count (sym (trims .count-is));
           counted = trims .count-is;
-          few = omega (arith, trims .count-is, order-few t (s .n) (countsOf s) (s .n) none-struck);
-          needed = λ i l. laid-at (shownAt t (s .n) (countsOf s) flags) (s .n) behind e i l ∙ ap (λ fs. shownAt t (s .n) (countsOf s) fs i) (trims .flags-are);
+          few = omega (arith, trims .count-is, order-few t (s .n) (hitOf s) (s .space) (s .n) none-struck);
+          needed = λ i l. laid-at (shownAt t (s .n) (hitOf s) (s .space) flags) (s .n) behind e i l ∙ ap (λ fs. shownAt t (s .n) (hitOf s) (s .space) fs i) (trims .flags-are);
         }
 
-  -- the rows of the elements
-  module _ (ready : Ready t none-struck s) where
-    within : {m : ℕ} → m < product (countsOf s) → m < s .space
-    within l = omega (arith, ready .all)
+  -- segments, from the words of all requests
+  pub segments-found : (words sizes decided rows a b : List ℕ) → Applied t (s .n) (hitOf s) (s .space) rows → words ≡ map (wordAcross rows (s .n)) (counting 0 (s .space)) ++ a
+      → sizes ≡ map (sizeAt words (s .space)) (counting 0 (s .space)) ++ b → (told y : List ℕ) → Holds t none-struck told s → decided ≡ map (λ m. decisionNumber (toldAt told m)) (counting 0 (s .space)) ++ y → SegmentsFound t (s .n) (hitOf s) (s .space) words sizes decided
+  segments-found words sizes decided rows a b applied marked measured told y holds numbers =
+      record {
+        applying = λ m l. laid-at (wordAcross rows (s .n)) (s .space) a marked m l ∙ across-applying t (s .n) (hitOf s) (s .space) rows applied m l;
+        sized = λ m l. laid-at (sizeAt words (s .space)) (s .space) b measured m l;
+        numbered = λ m l. laid-at (λ m. decisionNumber (toldAt told m)) (s .space) y numbers m l ∙ ap decisionNumber (holds .tells m l);
+      }
 
-    pub marked : (hits : List ℕ) → Matched t hits s → 4096 ≤ length hits → Marked t s hits
-    marked hits matched room = record { rows = ready .rows; few = ready .few; all = ready .all; small = ready .small; room = room; each = matched .hits-are; clear = matched .clear }
-
-    -- segments, from the words of all requests
-    pub segments-found : (words sizes decided rows a b : List ℕ) → Applied t (s .n) (countsOf s) rows → words ≡ map (wordAcross rows (s .n)) (counting 0 (s .space)) ++ a
-        → sizes ≡ map (sizeAt words (s .space)) (counting 0 (s .space)) ++ b → (told y : List ℕ) → Holds t none-struck told s → decided ≡ map (λ m. decisionNumber (toldAt told m)) (counting 0 (s .space)) ++ y → SegmentsFound t (s .n) (countsOf s) words sizes decided
-    segments-found words sizes decided rows a b applied marked measured told y holds numbers =
-        record {
-          applying = λ m l. laid-at (wordAcross rows (s .n)) (s .space) a marked m (within l) ∙ across-applying t (s .n) (countsOf s) rows applied m l;
-          sized = λ m l. laid-at (sizeAt words (s .space)) (s .space) b measured m (within l) ∙ ap (λ k. sizeAt words k m) (sym (ready .all));
-          numbered = λ m l. laid-at (λ m. decisionNumber (toldAt told m)) (s .space) y numbers m (within l) ∙ ap decisionNumber (holds .tells m (within l));
-        }
-
-    -- conflicts, from the rows
-    pub conflicts-found : (rows permits denies parents pairs x : List ℕ) → Applied t (s .n) (countsOf s) rows → Given Decision.Permit t none-struck (s .n) (countsOf s) permits → Given Decision.Deny t none-struck (s .n) (countsOf s) denies
-        → parents ≡ map (λ i. placeOr (s .n) (parentOf t i)) (counting 0 (s .n)) ++ x → Pairs parents (shownBy rows permits denies) (s .n) (s .space) pairs → ConflictsFound t (s .n) (countsOf s) parents pairs
-    conflicts-found rows permits denies parents pairs x applied permitted denied above paired =
-        record {
-          parented = λ j l. laid-at (λ i. placeOr (s .n) (parentOf t i)) (s .n) x above j l;
-          paired = pairs-by-table t none-struck (s .n) (countsOf s) rows permits denies applied permitted denied parents pairs (subst (λ k. Pairs parents (shownBy rows permits denies) (s .n) k pairs) (sym (ready .all)) paired);
-        }
+  -- conflicts, from the rows
+  pub conflicts-found : (rows permits denies parents pairs x : List ℕ) → Applied t (s .n) (hitOf s) (s .space) rows → Given Decision.Permit t none-struck (s .n) (hitOf s) (s .space) permits → Given Decision.Deny t none-struck (s .n) (hitOf s) (s .space) denies
+      → parents ≡ map (λ i. placeOr (s .n) (parentOf t i)) (counting 0 (s .n)) ++ x → Pairs parents (shownBy rows permits denies) (s .n) (s .space) pairs → ConflictsFound t (s .n) (hitOf s) (s .space) parents pairs
+  conflicts-found rows permits denies parents pairs x applied permitted denied above paired =
+      record {
+        parented = λ j l. laid-at (λ i. placeOr (s .n) (parentOf t i)) (s .n) x above j l;
+        paired = pairs-by-table t none-struck (s .n) (hitOf s) (s .space) rows permits denies applied permitted denied parents pairs paired;
+      }
 
 -- each place struck has a name
-pub struck-named : (f : Bytes) (places t : List ℕ) (n : ℕ) (counts order shown : List ℕ) (count : ℕ) → Naming f places n → RulesFound t n counts order shown count → 64 ≤ length order → Ordered f places order count
-struck-named f places t n counts order shown count naming rules room =
+pub struck-named : (f : Bytes) (places t : List ℕ) (n : ℕ) (hit : ℕ → Element → Bool) (space : ℕ) (order shown : List ℕ) (count : ℕ) → Naming f places n → RulesFound t n hit space order shown count → 64 ≤ length order → Ordered f places order count
+struck-named f places t n hit space order shown count naming rules room =
     record {
       few = omega (arith, naming .few, rules .few);
       room = omega (arith, naming .few, rules .few);
       each = λ k l. naming .each (getD order k 0)
-          (subst (λ m. m < n) (sym (ap (λ xs. getD xs k 0) (rules .struck)) ∙ getD-take count order k 0 l) (order-below t n counts k (omega (arith, rules .counted))));
+          (subst (λ m. m < n) (sym (ap (λ xs. getD xs k 0) (rules .struck)) ∙ getD-take count order k 0 l) (order-below t n hit space k (omega (arith, rules .counted))));
     }

@@ -6,11 +6,13 @@ use mathlib.Core.List.{List, [], _∷_, map, reverse}
 use lib.ListN.{drop, getD}
 use lib.Seq.{drop-nil}
 use borrow.Author.Tests.{eq-eqb}
+use mathlib.Core.Bool.{Bool}
 use Rattle.meaning.specs.declared.Decision.{Decision}
 use Rattle.meaning.specs.Text.{Bytes}
 use Rattle.meaning.specs.Model.{Policy, sizes}
-use Rattle.meaning.specs.Deciding.{requestOf, matches, is as isOf, firstDecision}
+use Rattle.meaning.specs.Deciding.{requestOf, matches, is as isOf, firstDecision, hits}
 use Rattle.meaning.specs.Segments.{decisionAt}
+use Rattle.meaning.specs.declared.Element.{Element}
 use Rattle.table.specs.Tree.{left}
 use Rattle.decisions.proofs.Children.{first-left}
 use Rattle.layout.specs.Places.{elementsTo}
@@ -38,7 +40,7 @@ module _ (table struck : List ℕ) (clear : (k : ℕ) → getD struck k 0 ≡ 0)
       let fewer : suc c - suc j ≡ c - j = omega arith in
       rw (eq-eqb (getD struck i 0) 0 (clear i), next, fewer) (left-behind (i + 1) c j)
 
-module _ (f : Bytes) (table places : List ℕ) (n : ℕ) (p : Policy) (is : p .elements ≡ reverse (elementsTo f table places n)) (counts : List ℕ) (sized : counts ≡ sizes (p .attributes))
+module _ (f : Bytes) (table places : List ℕ) (n : ℕ) (p : Policy) (is : p .elements ≡ reverse (elementsTo f table places n)) (hit : ℕ → Element → Bool) (hits-are : (m : ℕ) → hit m ≡ hits p m)
     (struck : List ℕ) (clear : (k : ℕ) → getD struck k 0 ≡ 0) where
   -- the elements from a place on
   left-from : (j : ℕ) → left table struck j (n - j) ≡ map bare (drop j (p .elements))
@@ -50,11 +52,11 @@ module _ (f : Bytes) (table places : List ℕ) (n : ℕ) (p : Policy) (is : p .e
       ∙ drop-map bare j (p .elements)
 
   -- what one of them gives
-  pub gives-is : (d : Decision) (m j : ℕ) → j < n → givesAt d table struck n (requestOf counts m) j ≡ isOf d (decisionAt p m j)
+  pub gives-is : (d : Decision) (m j : ℕ) → j < n → givesAt d table struck n (hit m) j ≡ isOf d (decisionAt p m j)
   unfolding givesAt
   gives-is d m j l =
-      let q = requestOf counts m in
-      ap (isOf d) (sym (first-left (matches q) table struck n j l (clear j))
+      let q = requestOf (sizes (p .attributes)) m in
+      ap (λ test. givesAt d table struck n test j) (hits-are m)
+      ∙ ap (isOf d) (sym (first-left (matches q) table struck n j l (clear j))
       ∙ ap (firstDecision (matches q)) (left-from j)
-      ∙ decision-bare q (drop j (p .elements))
-      ∙ ap (λ c. firstDecision (matches (requestOf c m)) (drop j (p .elements))) sized)
+      ∙ decision-bare q (drop j (p .elements)))

@@ -11,8 +11,8 @@ use borrow.Author.Tests.{eqb-true, eq-eqb}
 use Rattle.meaning.specs.declared.Element.{Element}
 use Rattle.meaning.specs.declared.Decision.{Decision}
 use Rattle.meaning.specs.Text.{Bytes, any, keep, gathered, counting, line}
-use Rattle.meaning.specs.Model.{nameOf, Policy, sizes, product}
-use Rattle.meaning.specs.Deciding.{requestOf, bit, decisionNumber, hits, outcome, decide}
+use Rattle.meaning.specs.Model.{nameOf, Policy, sizes, space as spaceOf}
+use Rattle.meaning.specs.Deciding.{requestOf, bit, decisionNumber, hits, outcome, firstDecision}
 use Rattle.meaning.specs.Segments.{applying, applyingTo, together, segments, segmentSize}
 use Rattle.meaning.specs.Report.{marked, segmentFields}
 use Rattle.laws.proofs.Bools.{Test, passed, failed, test, contradiction}
@@ -21,14 +21,15 @@ use Rattle.laws.proofs.Segments.{together-same, same-together}
 use Rattle.outcomes.specs.Decided.{decidedAt}
 use Rattle.layout.specs.Places.{nameIn, elementsTo}
 use Rattle.layout.proofs.Laws as layout-laws
+use Rattle.laws.proofs.Lists.{keep-alike, any-alike, has-some, gathered-alike, gathered-keep, first-any}
+use Rattle.table.specs.Tree.{left}
 use Rattle.trimmed_text.proofs.Table.{name-at}
 use Rattle.rows.specs.Words.{marks, applyingAt}
-use Rattle.segments.specs.Sizes.{alike, opensAt, sizeAt}
 use Rattle.rows.proofs.Marks.{bit-mark, same-marks}
+use Rattle.segments.specs.Sizes.{alike, opensAt, sizeAt}
 use Rattle.report_lines.specs.Lines.{decisionFrom, namesOf, segmentLine, segmentText}
 use Rattle.reporting.proofs.Applying.{word-is}
 use Rattle.reporting.proofs.ChildPlaces.{count-is}
-use Rattle.laws.proofs.Lists.{keep-alike, any-alike, has-some, gathered-alike, gathered-keep, first-any}
 
 -- a decision is that of its number
 decision-again : (d : Decision) → decisionFrom (decisionNumber d) ≡ d
@@ -57,13 +58,13 @@ marked-from F t i (b ∷ bs) (e ∷ es) l names tests =
     go (passed x) name here later = rw (here, x, name, later)
     go (failed x) name here later = rw (here, x, later)
 
-module _ (f : Bytes) (table places : List ℕ) (n : ℕ) (p : Policy) (is : p .elements ≡ reverse (elementsTo f table places n)) (counts : List ℕ) (sized : counts ≡ sizes (p .attributes)) where
+module _ (f : Bytes) (table places : List ℕ) (n : ℕ) (p : Policy) (is : p .elements ≡ reverse (elementsTo f table places n)) (hit : ℕ → Element → Bool) (space : ℕ) (hits-are : (m : ℕ) → hit m ≡ hits p m) (space-is : space ≡ spaceOf (p .attributes)) where
   -- equal words are those of requests in one segment
-  same-words : (m k : ℕ) → eqb (applyingAt table n counts k) (applyingAt table n counts m) ≡ together p m k
+  same-words : (m k : ℕ) → eqb (applyingAt table n hit k) (applyingAt table n hit m) ≡ together p m k
   same-words m k = rw (word m, word k) (go (test (eqb (marks (applyingTo p k)) (marks (applyingTo p m)))) (test (together p m k)))
     where
-      word : (m : ℕ) → applyingAt table n counts m ≡ marks (applyingTo p m)
-      word = word-is f table places n p is counts sized
+      word : (m : ℕ) → applyingAt table n hit m ≡ marks (applyingTo p m)
+      word = word-is f table places n p is hit hits-are
 
       size : (m : ℕ) → length (applyingTo p m) ≡ length (p .elements)
       size m = tests-length (hits p m) [] (p .elements)
@@ -76,59 +77,59 @@ module _ (f : Bytes) (table places : List ℕ) (n : ℕ) (p : Policy) (is : p .e
       go (failed x) (failed t) = x ∙ sym t
 
   -- the names of the elements that apply
-  names-are : (m : ℕ) → namesOf f places n (applyingAt table n counts m) ≡ marked (applyingTo p m) (p .elements)
+  names-are : (m : ℕ) → namesOf f places n (applyingAt table n hit m) ≡ marked (applyingTo p m) (p .elements)
   unfolding namesOf
   names-are m =
       let size : length (p .elements) ≡ n = count-is f table places n p is in
-      ap (λ w. map (nameIn f places) (keep (bit w) (counting 0 n))) (word-is f table places n p is counts sized m)
+      ap (λ w. map (nameIn f places) (keep (bit w) (counting 0 n))) (word-is f table places n p is hit hits-are m)
       ∙ ap (λ k. map (nameIn f places) (keep (bit (marks (applyingTo p m))) (counting 0 k))) (sym size)
       ∙ marked-from (nameIn f places) (bit (marks (applyingTo p m))) 0 (applyingTo p m) (p .elements) (tests-length (hits p m) [] (p .elements))
       (λ k l. rw zero-add (sym (name-at f table places n p is k (omega arith))))
       (λ k. rw zero-add (bit-mark (applyingTo p m) k))
 
   -- the decision
-  decision-is : (struck : List ℕ) → ((k : ℕ) → k < n → getD struck k 0 ≡ 0) → (m : ℕ) → decidedAt table n counts struck m ≡ outcome p m
+  decision-is : (struck : List ℕ) → ((k : ℕ) → k < n → getD struck k 0 ≡ 0) → (m : ℕ) → decidedAt table n hit struck m ≡ outcome p m
   unfolding decidedAt
   decision-is struck live m =
-      layout-laws.decided f table places struck n p (requestOf counts m) is live ∙ ap (λ c. decide p (requestOf c m)) sized
+      ap (λ test. firstDecision test (left table struck 0 n)) (hits-are m) ∙ layout-laws.decided f table places struck n p (requestOf (sizes (p .attributes)) m) is live
 
   -- Words of the requests
   abbrev opens : ℕ → Bool
   opens m = not (any (together p m) (counting 0 m))
 
-  module _ (words : List ℕ) (worded : (m : ℕ) → m < product counts → getD words m 0 ≡ applyingAt table n counts m) where
-    alike-is : (m k : ℕ) → m < product counts → k < product counts → alike words m k ≡ together p m k
+  module _ (words : List ℕ) (worded : (m : ℕ) → m < space → getD words m 0 ≡ applyingAt table n hit m) where
+    alike-is : (m k : ℕ) → m < space → k < space → alike words m k ≡ together p m k
     alike-is m k l u = rw (worded m l, worded k u) (same-words m k)
 
     -- the first request of its segment
-    opens-is : (m : ℕ) → m < product counts → opensAt words m ≡ opens m
+    opens-is : (m : ℕ) → m < space → opensAt words m ≡ opens m
     opens-is m l = first-any (alike words m) 0 m ∙ ap not (any-alike (alike words m) (together p m) (counting 0 m) (λ k i. alike-is m k l (omega (arith, counting-only 0 m k i))))
 
     -- its size, and 0 of every other
-    size-is : (m : ℕ) → m < product counts → sizeAt words (product counts) m ≡ cond (opens m) (segmentSize p m) 0
+    size-is : (m : ℕ) → m < space → sizeAt words space m ≡ cond (opens m) (segmentSize p m) 0
     unfolding sizeAt segmentSize
     size-is m l =
-        let members = keep-alike (alike words m) (together p m) (counting 0 (product counts)) (λ k i. alike-is m k l (omega (arith, counting-only 0 (product counts) k i))) in
-        ap₂ (λ b xs. cond b (length xs) 0) (opens-is m l) (members ∙ ap (λ c. keep (together p m) (counting 0 (product c))) sized)
+        let members = keep-alike (alike words m) (together p m) (counting 0 space) (λ k i. alike-is m k l (omega (arith, counting-only 0 space k i))) in
+        ap₂ (λ b xs. cond b (length xs) 0) (opens-is m l) (members ∙ ap (λ c. keep (together p m) (counting 0 c)) space-is)
 
   -- a segment has its first request
-  size-some : (m : ℕ) → m < product counts → eqb (segmentSize p m) 0 ≡ false
+  size-some : (m : ℕ) → m < space → eqb (segmentSize p m) 0 ≡ false
   unfolding segmentSize
   size-some m l =
-      let u : m < product (sizes (p .attributes)) = rw sized at l in
-      has-some (keep-has (together p m) m (counting-has 0 (product (sizes (p .attributes))) m zero-le (rw zero-add u)) (same-together p m m refl))
+      let u : m < spaceOf (p .attributes) = rw space-is at l in
+      has-some (keep-has (together p m) m (counting-has 0 (spaceOf (p .attributes)) m zero-le (rw zero-add u)) (same-together p m m refl))
 
   -- the `G` lines
   module _ (words lengths decided struck : List ℕ) (live : (k : ℕ) → k < n → getD struck k 0 ≡ 0)
-      (worded : (m : ℕ) → m < product counts → getD words m 0 ≡ applyingAt table n counts m)
-      (counted : (m : ℕ) → m < product counts → getD lengths m 0 ≡ sizeAt words (product counts) m)
-      (numbered : (m : ℕ) → m < product counts → getD decided m 0 ≡ decisionNumber (decidedAt table n counts struck m)) where
-    line-is : (m : ℕ) → m < product counts → segmentLine f places n words lengths decided m ≡ cond (opens m) (line (segmentFields p m)) []
+      (worded : (m : ℕ) → m < space → getD words m 0 ≡ applyingAt table n hit m)
+      (counted : (m : ℕ) → m < space → getD lengths m 0 ≡ sizeAt words space m)
+      (numbered : (m : ℕ) → m < space → getD decided m 0 ≡ decisionNumber (decidedAt table n hit struck m)) where
+    line-is : (m : ℕ) → m < space → segmentLine f places n words lengths decided m ≡ cond (opens m) (line (segmentFields p m)) []
     unfolding segmentLine
     line-is m l = go (test (opens m)) (counted m l ∙ size-is words worded m l)
       where
         shown : decisionFrom (getD decided m 0) ≡ outcome p m
-        shown = ap decisionFrom (numbered m l) ∙ decision-again (decidedAt table n counts struck m) ∙ decision-is struck live m
+        shown = ap decisionFrom (numbered m l) ∙ decision-again (decidedAt table n hit struck m) ∙ decision-is struck live m
 
         named : namesOf f places n (getD words m 0) ≡ marked (applyingTo p m) (p .elements)
         named = ap (namesOf f places n) (worded m l) ∙ names-are m
@@ -137,9 +138,9 @@ module _ (f : Bytes) (table places : List ℕ) (n : ℕ) (p : Policy) (is : p .e
         go (passed e) size = let here : getD lengths m 0 ≡ segmentSize p m = rw e at size in rw (e, here, size-some m l, shown, named)
         go (failed e) size = let here : getD lengths m 0 ≡ 0 = rw e at size in rw (e, here)
 
-    pub segments-are : segmentText f places n words lengths decided (product counts) ≡ gathered (λ m. line (segmentFields p m)) (segments p)
+    pub segments-are : segmentText f places n words lengths decided space ≡ gathered (λ m. line (segmentFields p m)) (segments p)
     unfolding segmentText segments
     segments-are =
-        gathered-alike (segmentLine f places n words lengths decided) (λ m. cond (opens m) (line (segmentFields p m)) []) (counting 0 (product counts)) (λ m i. line-is m (omega (arith, counting-only 0 (product counts) m i)))
-        ∙ sym (gathered-keep opens (λ m. line (segmentFields p m)) (counting 0 (product counts)))
-        ∙ ap (λ c. gathered (λ m. line (segmentFields p m)) (keep opens (counting 0 (product c)))) sized
+        gathered-alike (segmentLine f places n words lengths decided) (λ m. cond (opens m) (line (segmentFields p m)) []) (counting 0 space) (λ m i. line-is m (omega (arith, counting-only 0 space m i)))
+        ∙ sym (gathered-keep opens (λ m. line (segmentFields p m)) (counting 0 space))
+        ∙ ap (λ c. gathered (λ m. line (segmentFields p m)) (keep opens (counting 0 c))) space-is

@@ -3,8 +3,9 @@ use Prim.Native.Nat.{ℕ, _≤_, _<_}
 use mathlib.Core.Path.{_≡_}
 use mathlib.Core.List.{List}
 use lib.ListN.{length, take, getD, replicate}
-use Rattle.meaning.specs.Model.{product}
+use mathlib.Core.Bool.{Bool}
 use Rattle.meaning.specs.Deciding.{decisionNumber}
+use Rattle.meaning.specs.declared.Element.{Element}
 use Rattle.table.specs.Tree.{parentOf, placeOr}
 use Rattle.outcomes.specs.Decided.{decidedAt}
 use Rattle.trimming.specs.Decided.{Struck, shownAt, trimmingAt}
@@ -17,28 +18,28 @@ abbrev pub none-struck : List ℕ
 none-struck = replicate 64 0
 
 -- what striking gives, from there on
-abbrev pub trimmedAt : List ℕ → ℕ → List ℕ → Struck
-trimmedAt table n counts = trimmingAt table n counts n none-struck
+abbrev pub trimmedAt : List ℕ → ℕ → (ℕ → Element → Bool) → ℕ → Struck
+trimmedAt table n hit space = trimmingAt table n hit space n none-struck
 
--- Of a table of n elements, and the value counts of its attributes: what there is to say of each request
-pub record SegmentsFound (table : List ℕ) (n : ℕ) (counts words sizes decided : List ℕ) : Type 0 where
+-- Of a table of n elements, which requests match an element's own target, and how many there are: what there is to say of each request
+pub record SegmentsFound (table : List ℕ) (n : ℕ) (hit : ℕ → Element → Bool) (space : ℕ) (words sizes decided : List ℕ) : Type 0 where
   -- the word of the elements that apply to it
-  pub applying : (m : ℕ) → m < product counts → getD words m 0 ≡ applyingAt table n counts m
+  pub applying : (m : ℕ) → m < space → getD words m 0 ≡ applyingAt table n hit m
   -- the size of the segment whose first request it is, else 0
-  pub sized : (m : ℕ) → m < product counts → getD sizes m 0 ≡ sizeAt words (product counts) m
+  pub sized : (m : ℕ) → m < space → getD sizes m 0 ≡ sizeAt words space m
   -- the number of its decision
-  pub numbered : (m : ℕ) → m < product counts → getD decided m 0 ≡ decisionNumber (decidedAt table n counts none-struck m)
+  pub numbered : (m : ℕ) → m < space → getD decided m 0 ≡ decisionNumber (decidedAt table n hit none-struck m)
 
 -- and of each pair of children
-pub record ConflictsFound (table : List ℕ) (n : ℕ) (counts parents pairs : List ℕ) : Type 0 where
+pub record ConflictsFound (table : List ℕ) (n : ℕ) (hit : ℕ → Element → Bool) (space : ℕ) (parents pairs : List ℕ) : Type 0 where
   -- the place of an element's parent, or n
   pub parented : (j : ℕ) → j < n → getD parents j 0 ≡ placeOr n (parentOf table j)
   -- the first request that shows the conflict of two children, at 64 j + k, or the number of requests
-  pub paired : Pairs parents (showsAt table none-struck n counts) n (product counts) pairs
+  pub paired : Pairs parents (showsAt table none-struck n hit) n space pairs
 
 -- the rules: those struck, in order, and the first request that needs each one kept
-pub record RulesFound (table : List ℕ) (n : ℕ) (counts order shown : List ℕ) (count : ℕ) : Type 0 where
-  pub struck : take count order ≡ trimmedAt table n counts .order
-  pub counted : count ≡ length (trimmedAt table n counts .order)
+pub record RulesFound (table : List ℕ) (n : ℕ) (hit : ℕ → Element → Bool) (space : ℕ) (order shown : List ℕ) (count : ℕ) : Type 0 where
+  pub struck : take count order ≡ trimmedAt table n hit space .order
+  pub counted : count ≡ length (trimmedAt table n hit space .order)
   pub few : count ≤ n
-  pub needed : (i : ℕ) → i < n → getD shown i 0 ≡ shownAt table n counts (trimmedAt table n counts .flags) i
+  pub needed : (i : ℕ) → i < n → getD shown i 0 ≡ shownAt table n hit space (trimmedAt table n hit space .flags) i

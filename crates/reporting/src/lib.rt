@@ -4,7 +4,7 @@ ghost use mathlib.Core.Path.{_≡_};
 ghost use mathlib.Core.List.{_++_};
 ghost use Prim.Native.Nat.{_≤_};
 ghost use lib.ListN.{length, drop};
-ghost use Rattle.table.specs.Shape.{countsOf};
+ghost use Rattle.table.specs.Shape.{hitOf};
 ghost use Rattle.matching.specs.Hits.{Matched};
 ghost use Rattle.outcomes.specs.Ready.{Ready, Holds};
 ghost use Rattle.layout.specs.Places.{Naming};
@@ -31,7 +31,7 @@ fn find_conflicts(
     pairs: &mut [u16],
 )
     requires { ⌜ Ready (now table) none-struck shape × Matched (now table) (now hits) shape × (4096 ≤ length (now hits)) × (4096 ≤ length (now rows)) × (64 ≤ length (now parents)) × (4096 ≤ length (now pairs)) ⌝ }
-    ensures { λ _. ⌜ ConflictsFound (now (table .entry)) (shape .n) (countsOf shape) (now (parents .exit)) (now (pairs .exit)) ⌝ }
+    ensures { λ _. ⌜ ConflictsFound (now (table .entry)) (shape .n) (hitOf shape) (shape .space) (now (parents .exit)) (now (pairs .exit)) ⌝ }
 {
     let n = shape.n;
     let space = shape.space;
@@ -55,7 +55,7 @@ fn find_segments(
     decided: &mut [u8],
 )
     requires { ⌜ Ready (now table) none-struck shape × Matched (now table) (now hits) shape × (4096 ≤ length (now hits)) × Holds (now table) none-struck (now told) shape × (4096 ≤ length (now words)) × (4096 ≤ length (now sizes)) × (4096 ≤ length (now decided)) ⌝ }
-    ensures { λ _. ⌜ SegmentsFound (now (table .entry)) (shape .n) (countsOf shape) (now (words .exit)) (now (sizes .exit)) (now (decided .exit)) ⌝ }
+    ensures { λ _. ⌜ SegmentsFound (now (table .entry)) (shape .n) (hitOf shape) (shape .space) (now (words .exit)) (now (sizes .exit)) (now (decided .exit)) ⌝ }
 {
     let n = shape.n;
     let space = shape.space;
@@ -76,7 +76,7 @@ fn find_rules(
     shown: &mut [usize],
 ) -> usize
     requires { ⌜ Ready (now table) none-struck shape × Matched (now table) (now hits) shape × Holds (now table) none-struck (now told) shape × (64 ≤ length (now order)) × (64 ≤ length (now shown)) ⌝ }
-    ensures { λ r. ⌜ RulesFound (now (table .entry)) (shape .n) (countsOf shape) (now (order .exit)) (now (shown .exit)) r ⌝ }
+    ensures { λ r. ⌜ RulesFound (now (table .entry)) (shape .n) (hitOf shape) (shape .space) (now (order .exit)) (now (shown .exit)) r ⌝ }
 {
     let mut struck = [0u8; 64];
     let count = trimming::trim_flags(table, &mut struck, hits, shape, told, order);

@@ -12,15 +12,14 @@ use borrow.Author.Tests.{eqb-true, eqb-false}
 use Rattle.meaning.specs.declared.Decision.{Decision}
 use Rattle.meaning.specs.declared.Decision.the-variants.{NotApplicable}
 use Rattle.meaning.specs.declared.Element.{Element}
-use Rattle.meaning.specs.Model.{product}
-use Rattle.meaning.specs.Deciding.{Reply as ChildReply, requestOf, bit, matches, applies, is}
+use Rattle.meaning.specs.Deciding.{Reply as ChildReply, bit, applies, is}
 use Rattle.laws.proofs.Bits.{bit-and}
 use Rattle.laws.proofs.Search.{first-none}
 use Rattle.laws.proofs.Bools.{Test, passed, failed, test}
 use Rattle.table.specs.Rows.{elementAt, depthOf}
 use Rattle.table.specs.Tree.{before, parentOf, placeOr}
 use Rattle.table.specs.declared.Shape.{Shape}
-use Rattle.table.specs.Shape.{countsOf}
+use Rattle.table.specs.Shape.{hitOf}
 use Rattle.table.proofs.Above.{Parent, top}
 use Rattle.decisions.specs.Replies.{replyAt}
 use Rattle.matching.specs.Hits.{bitOf, wordsOf, Rest}
@@ -146,10 +145,9 @@ told-rest F t s hits none matched end told =
 
 -- all of them, of requests
 pub told-requests : (F : (Element → Bool) → ℕ → Bool) (t : List ℕ) (s : Shape) (hits : List ℕ) {old rows : List ℕ} {k : ℕ} → Marked t s hits → 64 * s .n ≤ k → Told F t hits (s .n) (wordsOf (s .space)) old rows k
-    → (i m : ℕ) → i < s .n → m < product (countsOf s) → bitOf rows i m ≡ F (matches (requestOf (countsOf s) m)) i
+    → (i m : ℕ) → i < s .n → m < s .space → bitOf rows i m ≡ F (hitOf s m) i
 told-requests F t s hits matched all told i m l u =
-    let inside : m < s .space = omega (arith, matched .all) in
-    told .bits i (m / 64) (m % 64) (matches (requestOf (countsOf s) m)) l (omega arith) (omega arith) (omega (arith, matched .small)) (λ j a. matched .each j m a u)
+    told .bits i (m / 64) (m % 64) (hitOf s m) l (omega arith) (omega arith) (omega (arith, matched .small)) (λ j a. matched .each j m a u)
 
 -- an element applies, or gives a decision
 abbrev pub applying : List ℕ → (Element → Bool) → ℕ → Bool
@@ -159,14 +157,14 @@ abbrev pub giving : Decision → List ℕ → List ℕ → ℕ → (Element → 
 giving d t struck n hit i = is d (replyAt hit t struck n i .decision)
 
 module _ (t : List ℕ) (s : Shape) (hits : List ℕ) {old rows : List ℕ} {k : ℕ} (matched : Marked t s hits) (all : 64 * s .n ≤ k) where
-  pub applied-all : Told (applying t) t hits (s .n) (wordsOf (s .space)) old rows k → Applied t (s .n) (countsOf s) rows
+  pub applied-all : Told (applying t) t hits (s .n) (wordsOf (s .space)) old rows k → Applied t (s .n) (hitOf s) (s .space) rows
   unfolding appliesAt
   applied-all = told-requests (applying t) t s hits matched all
 
   pub applied-rest : k ≡ 64 * s .n → Told (applying t) t hits (s .n) (wordsOf (s .space)) old rows k → Rest (s .n) (s .space) old rows
   applied-rest = told-rest (applying t) t s hits (λ i. refl) matched
 
-  pub given-all : (d : Decision) (struck : List ℕ) → Told (giving d t struck (s .n)) t hits (s .n) (wordsOf (s .space)) old rows k → Given d t struck (s .n) (countsOf s) rows
+  pub given-all : (d : Decision) (struck : List ℕ) → Told (giving d t struck (s .n)) t hits (s .n) (wordsOf (s .space)) old rows k → Given d t struck (s .n) (hitOf s) (s .space) rows
   unfolding givesAt
   given-all d struck = told-requests (giving d t struck (s .n)) t s hits matched all
 

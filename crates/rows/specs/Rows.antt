@@ -6,22 +6,21 @@ use mathlib.Core.List.{List}
 use lib.ListN.{length, getD}
 use Rattle.meaning.specs.declared.Decision.{Decision}
 use Rattle.meaning.specs.declared.Element.{Element}
-use Rattle.meaning.specs.Model.{product}
-use Rattle.meaning.specs.Deciding.{requestOf, bit, applies}
+use Rattle.meaning.specs.Deciding.{bit, applies}
 use Rattle.table.specs.Rows.{elementAt, Rows}
 use Rattle.table.specs.Tree.{before}
 use Rattle.table.specs.declared.Shape.{Shape}
-use Rattle.table.specs.Shape.{countsOf}
+use Rattle.table.specs.Shape.{hitOf}
 use Rattle.matching.specs.Hits.{bitOf, Hits, ClearFrom}
 use Rattle.blocks.specs.Bits.{Answers}
 use Rattle.rows.specs.Words.{appliesAt, givesAt}
 
 -- the rows say which requests each element applies to, and on which it gives a decision
-abbrev pub Applied : List ℕ → ℕ → List ℕ → List ℕ → Type 0
-Applied t n counts rows = (i m : ℕ) → i < n → m < product counts → bitOf rows i m ≡ appliesAt t (requestOf counts m) i
+abbrev pub Applied : List ℕ → ℕ → (ℕ → Element → Bool) → ℕ → List ℕ → Type 0
+Applied t n hit space rows = (i m : ℕ) → i < n → m < space → bitOf rows i m ≡ appliesAt t (hit m) i
 
-abbrev pub Given : Decision → List ℕ → List ℕ → ℕ → List ℕ → List ℕ → Type 0
-Given d t struck n counts rows = (i m : ℕ) → i < n → m < product counts → bitOf rows i m ≡ givesAt d t struck n (requestOf counts m) i
+abbrev pub Given : Decision → List ℕ → List ℕ → ℕ → (ℕ → Element → Bool) → ℕ → List ℕ → Type 0
+Given d t struck n hit space rows = (i m : ℕ) → i < n → m < space → bitOf rows i m ≡ givesAt d t struck n (hit m) i
 
 -- of the bits that a row had, those stay on which element i applies, by the test of targets that the bits answer
 abbrev pub Narrowed : List ℕ → List ℕ → ℕ → ℕ → ℕ → List ℕ → List ℕ → Type 0
@@ -43,8 +42,7 @@ pub record Rowed (t hits : List ℕ) (n blocks : ℕ) : Type 0 where
 pub record Marked (t : List ℕ) (s : Shape) (hits : List ℕ) : Type 0 where
   pub rows : Rows t (s .n)
   pub few : s .n ≤ 64
-  pub all : product (countsOf s) ≡ s .space
   pub small : s .space ≤ 4096
   pub room : 4096 ≤ length hits
-  pub each : Hits t (s .n) (countsOf s) hits
+  pub each : Hits t (s .n) (hitOf s) (s .space) hits
   pub clear : ClearFrom (s .n) (s .space) hits

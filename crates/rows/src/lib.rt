@@ -9,8 +9,8 @@ ghost use lib.Bits.{bitAnd};
 ghost use Rattle.meaning.specs.Text.{counting};
 ghost use Rattle.meaning.specs.Deciding.{bit};
 ghost use Rattle.table.specs.Tree.{parentOf, placeOr};
-ghost use Rattle.table.specs.Shape.{countsOf};
 ghost use Rattle.table.specs.Rows.{Rows};
+ghost use Rattle.table.specs.Shape.{hitOf};
 ghost use Rattle.matching.specs.Hits.{Rest};
 ghost use Rattle.rows.specs.Rows.{Applied, Given, Narrowed, AppliedRow, Rowed, Marked};
 
@@ -60,7 +60,7 @@ fn row_of(table: &[u16], hits: &[u64], n: usize, blocks: usize, i: usize) -> [u6
 // Lays down the requests to which each element applies. All other words stay.
 pub fn apply_all(table: &[u16], hits: &[u64], shape: Shape, applied: &mut [u64])
     requires { ⌜ Marked (now table) shape (now hits) × (4096 ≤ length (now applied)) ⌝ }
-    ensures { λ _. ⌜ Applied (now (table .entry)) (shape .n) (countsOf shape) (now (applied .exit)) × Rest (shape .n) (shape .space) (now (applied .entry)) (now (applied .exit)) ⌝ }
+    ensures { λ _. ⌜ Applied (now (table .entry)) (shape .n) (hitOf shape) (shape .space) (now (applied .exit)) × Rest (shape .n) (shape .space) (now (applied .entry)) (now (applied .exit)) ⌝ }
 {
     let n = shape.n;
     let blocks = (shape.space + 63) / 64;
@@ -82,7 +82,7 @@ pub fn give_all(
     denies: &mut [u64],
 )
     requires { ⌜ Marked (now table) shape (now hits) × (shape .n ≤ length (now struck)) × (4096 ≤ length (now permits)) × (4096 ≤ length (now denies)) ⌝ }
-    ensures { λ _. ⌜ Given Decision.Permit (now (table .entry)) (now (struck .entry)) (shape .n) (countsOf shape) (now (permits .exit)) × Given Decision.Deny (now (table .entry)) (now (struck .entry)) (shape .n) (countsOf shape) (now (denies .exit)) × Rest (shape .n) (shape .space) (now (permits .entry)) (now (permits .exit)) × Rest (shape .n) (shape .space) (now (denies .entry)) (now (denies .exit)) ⌝ }
+    ensures { λ _. ⌜ Given Decision.Permit (now (table .entry)) (now (struck .entry)) (shape .n) (hitOf shape) (shape .space) (now (permits .exit)) × Given Decision.Deny (now (table .entry)) (now (struck .entry)) (shape .n) (hitOf shape) (shape .space) (now (denies .exit)) × Rest (shape .n) (shape .space) (now (permits .entry)) (now (permits .exit)) × Rest (shape .n) (shape .space) (now (denies .entry)) (now (denies .exit)) ⌝ }
 {
     let n = shape.n;
     let blocks = (shape.space + 63) / 64;

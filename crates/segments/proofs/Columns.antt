@@ -9,17 +9,17 @@ use lib.Dec.{eqb, ltb}
 use lib.ListN.{length, getD, set, length-set, replicate, length-replicate, getD-replicate}
 use lib.Seq.{getD-set-same, getD-set-other}
 use borrow.Author.Tests.{eqb-true, eqb-false, ltb-true, ltb-false}
-use Rattle.meaning.specs.Model.{product}
 use Rattle.meaning.specs.Deciding.{bit}
+use Rattle.meaning.specs.declared.Element.{Element}
 use Rattle.laws.proofs.Bits.{bit-zero, bit-above}
 use Rattle.laws.proofs.Bools.{Test, passed, failed, test}
-use Rattle.rows.specs.Words.{wordFrom, applyingAt}
 use Rattle.matching.specs.Hits.{bitOf}
+use Rattle.rows.specs.Words.{wordFrom, applyingAt}
 use Rattle.rows.specs.Rows.{Applied}
-use Rattle.segments.specs.Across.{wordAcross, Column}
-use Rattle.segments.specs.Turning.{Turned}
 use Rattle.rows.proofs.Marks.{bit-lowest, bit-higher, bit-word}
 use Rattle.rows.proofs.Making.{word-small}
+use Rattle.segments.specs.Across.{wordAcross, Column}
+use Rattle.segments.specs.Turning.{Turned}
 
 -- words of tests that agree
 pub word-alike : (f g : ℕ → Bool) (i k : ℕ) → ((j : ℕ) → i ≤ j → j < i + k → f j ≡ g j) → wordFrom f i k ≡ wordFrom g i k
@@ -101,5 +101,5 @@ pub across-same : (rows : List ℕ) (n block : ℕ) {words other : List ℕ} →
 across-same rows n block same across = rw same across
 
 -- the rows of a table give the words of its requests
-pub across-applying : (t : List ℕ) (n : ℕ) (counts rows : List ℕ) → Applied t n counts rows → (m : ℕ) → m < product counts → wordAcross rows n m ≡ applyingAt t n counts m
-across-applying t n counts rows applied m l = word-alike _ _ 0 n (λ i a u. applied i m (omega arith) l)
+pub across-applying : (t : List ℕ) (n : ℕ) (hit : ℕ → Element → Bool) (space : ℕ) (rows : List ℕ) → Applied t n hit space rows → (m : ℕ) → m < space → wordAcross rows n m ≡ applyingAt t n hit m
+across-applying t n hit space rows applied m l = word-alike _ _ 0 n (λ i a u. applied i m (omega arith) l)

@@ -10,16 +10,16 @@ use lib.ListN.{length, getD, set}
 use borrow.Author.Tests.{lt-ltb, le-ltb, ltb-false}
 use Rattle.meaning.specs.declared.Element.{Element}
 use Rattle.meaning.specs.Text.{Bytes, isNone, firstFrom, lastBelow}
-use Rattle.meaning.specs.Model.{Policy, sizes, product, given}
+use Rattle.meaning.specs.Model.{Policy, sizes, given, space as spaceOf}
 use Rattle.meaning.specs.Reading.{read}
-use Rattle.meaning.specs.Deciding.{requestOf, outcome, decide}
+use Rattle.meaning.specs.Deciding.{requestOf, outcome, hits, firstDecision}
 use Rattle.meaning.specs.Segments.{depthAt}
 use Rattle.meaning.specs.Claims.Texts.{All}
 use Rattle.meaning.specs.Claims.Trimming.{isRule}
 use Rattle.laws.proofs.Children.{accepted-steps, no-deeper}
 use Rattle.laws.proofs.ElementKinds.{isEffect, WordFits, kinds}
 use Rattle.table.specs.Rows.{wordAt, depthOf, elementAt, wordNumber}
-use Rattle.table.specs.Tree.{Leaves, ruleLeft}
+use Rattle.table.specs.Tree.{Leaves, ruleLeft, left}
 use Rattle.trimming.specs.Decided as table-level
 use Rattle.outcomes.specs.Decided as requests-level
 use Rattle.layout.specs.Places.{elementIn, elementsTo}
@@ -45,19 +45,19 @@ last-alike F G zero alike = refl
 last-alike F G (suc n) alike = ap₂ (λ b o. cond b (some n) o) (alike n (omega arith)) (last-alike F G n (λ i l. alike i (omega arith)))
 
 module _ (f : Bytes) (p : Policy) (h : read f ≡ given p) (table places : List ℕ) (n : ℕ) (is : p .elements ≡ reverse (elementsTo f table places n)) (size : length (p .elements) ≡ n)
-    (counts : List ℕ) (sizes-are : counts ≡ sizes (p .attributes)) where
-  outcome-is : (struck : List ℕ) (m : ℕ) → requests-level.decidedAt table n counts struck m ≡ outcome (leftPolicy p struck) m
+    (hit : ℕ → Element → Bool) (space : ℕ) (hits-are : (m : ℕ) → hit m ≡ hits p m) (space-is : space ≡ spaceOf (p .attributes)) where
+  outcome-is : (struck : List ℕ) (m : ℕ) → requests-level.decidedAt table n hit struck m ≡ outcome (leftPolicy p struck) m
   unfolding requests-level.decidedAt
-  outcome-is struck m = decided-left f table places n p is struck (requestOf counts m) ∙ ap (λ c. decide (leftPolicy p struck) (requestOf c m)) sizes-are
+  outcome-is struck m = ap (λ test. firstDecision test (left table struck 0 n)) (hits-are m) ∙ decided-left f table places n p is struck (requestOf (sizes (p .attributes)) m)
 
   -- the first request that gets another decision without element i
-  change-is : (struck : List ℕ) (i m : ℕ) → table-level.changesAt table n counts struck i m ≡ changesAt p struck i m
+  change-is : (struck : List ℕ) (i m : ℕ) → table-level.changesAt table n hit struck i m ≡ changesAt p struck i m
   unfolding table-level.changesAt changesAt
   change-is struck i m = rw (outcome-is struck m, outcome-is (set struck i 1) m)
 
-  pub first-change-is : (struck : List ℕ) (i : ℕ) → table-level.firstChangeAt table n counts struck i ≡ firstChangeAt p struck i
+  pub first-change-is : (struck : List ℕ) (i : ℕ) → table-level.firstChangeAt table n hit space struck i ≡ firstChangeAt p struck i
   unfolding table-level.firstChangeAt firstChangeAt
-  first-change-is struck i = λ j. firstFrom (λ m. change-is struck i m j) 0 (product (sizes-are j))
+  first-change-is struck i = λ j. firstFrom (λ m. change-is struck i m j) 0 (space-is j)
 
   -- a rule that is left, a needless one, and the next to strike
   effect-is : (i : ℕ) → i < n → ltb (wordNumber table i) 2 ≡ ruleIn (p .elements) i
@@ -80,21 +80,21 @@ module _ (f : Bytes) (p : Policy) (h : read f ≡ given p) (table places : List 
   pub rule-is : (struck : List ℕ) (i : ℕ) → i < n → ruleLeft table struck i ≡ keptAt p struck i
   rule-is struck i l = ap (λ b. isLeft struck i && b) (effect-is i l)
 
-  needless-is : (struck : List ℕ) (i : ℕ) → i < n → table-level.needlessAt table n counts struck i ≡ needlessAt p struck i
+  needless-is : (struck : List ℕ) (i : ℕ) → i < n → table-level.needlessAt table n hit space struck i ≡ needlessAt p struck i
   unfolding table-level.needlessAt needlessAt
   needless-is struck i l = ap₂ (λ b o. b && isNone o) (rule-is struck i l) (first-change-is struck i)
 
-  next-is : (struck : List ℕ) → table-level.nextAt table n counts struck ≡ nextAt p struck
+  next-is : (struck : List ℕ) → table-level.nextAt table n hit space struck ≡ nextAt p struck
   unfolding table-level.nextAt nextAt
-  next-is struck = last-alike (table-level.needlessAt table n counts struck) (needlessAt p struck) n (needless-is struck) ∙ ap (lastBelow (needlessAt p struck)) (sym size)
+  next-is struck = last-alike (table-level.needlessAt table n hit space struck) (needlessAt p struck) n (needless-is struck) ∙ ap (lastBelow (needlessAt p struck)) (sym size)
 
   -- the same flags at the end, and the same places struck
-  pub trimming-is : (k : ℕ) (struck : List ℕ) → table-level.trimmingAt table n counts k struck ≡ trimmingAt k p struck
+  pub trimming-is : (k : ℕ) (struck : List ℕ) → table-level.trimmingAt table n hit space k struck ≡ trimmingAt k p struck
   unfolding table-level.trimmingAt trimmingAt
   trimming-is zero struck = refl
   trimming-is (suc k) struck = rw (next-is struck) (go (nextAt p struck) (λ i. trimming-is k (set struck i 1)))
     where
-      go : (o : Option ℕ) → ((i : ℕ) → table-level.trimmingAt table n counts k (set struck i 1) ≡ trimmingAt k p (set struck i 1))
-          → table-level.onward o struck (λ i. table-level.trimmingAt table n counts k (set struck i 1)) ≡ table-level.onward o struck (λ i. trimmingAt k p (set struck i 1))
+      go : (o : Option ℕ) → ((i : ℕ) → table-level.trimmingAt table n hit space k (set struck i 1) ≡ trimmingAt k p (set struck i 1))
+          → table-level.onward o struck (λ i. table-level.trimmingAt table n hit space k (set struck i 1)) ≡ table-level.onward o struck (λ i. trimmingAt k p (set struck i 1))
       go none later = refl
       go (some i) later = ap (table-level.struckFirst i) (later i)

@@ -10,15 +10,15 @@ use lib.ListN.{getD, set, length-set}
 use lib.Seq.{getD-set-other, set-set, set-getD}
 use borrow.Author.Tests.{eqb-true, eqb-false, ltb-true}
 use Rattle.meaning.specs.Text.{isNone, firstFrom}
-use Rattle.meaning.specs.Model.{product}
-use Rattle.meaning.specs.Deciding.{requestOf, matches, sameOutcome}
+use Rattle.meaning.specs.Deciding.{sameOutcome}
+use Rattle.meaning.specs.declared.Element.{Element}
 use Rattle.laws.proofs.Bools.{Test, passed, failed, test, contradiction, and-true}
 use Rattle.laws.proofs.Search.{first-some, first-none}
 use Rattle.laws.proofs.Outcomes.{outcome-same}
 use Rattle.table.specs.Rows.{elementAt, wordNumber}
 use Rattle.table.specs.Tree.{placeOr, Over, ruleLeft}
 use Rattle.table.specs.declared.Shape.{Shape}
-use Rattle.table.specs.Shape.{countsOf}
+use Rattle.table.specs.Shape.{hitOf}
 use Rattle.table.proofs.Children.{rule-struck}
 use Rattle.decisions.proofs.Leaves.{decided-without}
 use Rattle.matching.specs.Hits.{Matched}
@@ -68,8 +68,7 @@ ready-set {t} {struck} {s} i rule ready =
       stays = getD-set-other struck i 0 1 0 (λ first. rule-first t i rule (ready .root) (sym first)) ∙ ready .stays;
       leaves = ready .leaves;
       rules = rule-struck t struck (s .n) i (ready .rules) rule;
-      attributes = ready .attributes;
-      all = ready .all;
+      counted = ready .counted;
       positive = ready .positive;
       small = ready .small;
     }
@@ -80,18 +79,18 @@ set-back struck i flag e = set-set struck i 1 flag ∙ ap (set struck i) (sym e)
 
 -- What gets another decision than the one laid down is what changes without element i
 module _ (t struck told : List ℕ) (s : Shape) (i : ℕ) (ready : Ready t struck s) (holds : Holds t struck told s) where
-  differs-changes : (m : ℕ) → m < s .space → differsAt t (s .n) (countsOf s) told (set struck i 1) m ≡ changesAt t (s .n) (countsOf s) struck i m
+  differs-changes : (m : ℕ) → m < s .space → differsAt t (s .n) (hitOf s) told (set struck i 1) m ≡ changesAt t (s .n) (hitOf s) struck i m
   unfolding differsAt changesAt
-  differs-changes m l = ap (λ d. not (sameOutcome d (decidedAt t (s .n) (countsOf s) (set struck i 1) m))) (holds .tells m l)
+  differs-changes m l = ap (λ d. not (sameOutcome d (decidedAt t (s .n) (hitOf s) (set struck i 1) m))) (holds .tells m l)
 
-  first-changes : firstFrom (differsAt t (s .n) (countsOf s) told (set struck i 1)) 0 (s .space) ≡ firstChangeAt t (s .n) (countsOf s) struck i
+  first-changes : firstFrom (differsAt t (s .n) (hitOf s) told (set struck i 1)) 0 (s .space) ≡ firstChangeAt t (s .n) (hitOf s) (s .space) struck i
   unfolding firstChangeAt
-  first-changes = rw (ready .all) (first-alike _ _ 0 (s .space) (λ m low high. differs-changes m (omega arith)))
+  first-changes = first-alike _ _ 0 (s .space) (λ m low high. differs-changes m (omega arith))
 
-  pub first-change-is : (r : ℕ) → r ≡ placeOr (s .space) (firstFrom (differsAt t (s .n) (countsOf s) told (set struck i 1)) 0 (s .space)) → r ≡ placeOr (s .space) (firstChangeAt t (s .n) (countsOf s) struck i)
+  pub first-change-is : (r : ℕ) → r ≡ placeOr (s .space) (firstFrom (differsAt t (s .n) (hitOf s) told (set struck i 1)) 0 (s .space)) → r ≡ placeOr (s .space) (firstChangeAt t (s .n) (hitOf s) (s .space) struck i)
   first-change-is r e = e ∙ ap (placeOr (s .space)) first-changes
 
-  pub needless-rule : (b : Bool) → ruleLeft t struck i ≡ true → b ≡ isNone (firstFrom (differsAt t (s .n) (countsOf s) told (set struck i 1)) 0 (s .space)) → b ≡ needlessAt t (s .n) (countsOf s) struck i
+  pub needless-rule : (b : Bool) → ruleLeft t struck i ≡ true → b ≡ isNone (firstFrom (differsAt t (s .n) (hitOf s) told (set struck i 1)) 0 (s .space)) → b ≡ needlessAt t (s .n) (hitOf s) (s .space) struck i
   unfolding needlessAt
   needless-rule b rule e = rw rule (e ∙ ap isNone first-changes)
 
@@ -119,36 +118,36 @@ module _ (t struck : List ℕ) (i : ℕ) (rule : ruleLeft t struck i ≡ true) w
             absurd no
 
     -- without it, a request that does not match it, or what stands over it, gets the same decision
-    elsewhere : (a m : ℕ) → Over t a i → m < s .space → matches (requestOf (countsOf s) m) (elementAt t a) ≡ false → differsAt t (s .n) (countsOf s) told (set struck i 1) m ≡ false
+    elsewhere : (a m : ℕ) → Over t a i → m < s .space → hitOf s m (elementAt t a) ≡ false → differsAt t (s .n) (hitOf s) told (set struck i 1) m ≡ false
     unfolding differsAt decidedAt
     elsewhere a m above below off =
-        let hit = matches (requestOf (countsOf s) m) in
+        let hit = hitOf s m in
         let later : (i ≡ 0 → ⊥) = rule-first t i rule-word (ready .root) in
         let same = decided-without hit t struck (s .n) i (ready .leaves) (ready .rules) (ready .flags) (ready .stays) (omega arith) l rule-flag rule-word a above (over-lives a above) off in
-        let gets = decidedAt t (s .n) (countsOf s) (set struck i 1) m in
+        let gets = decidedAt t (s .n) (hitOf s) (set struck i 1) m in
         ap (λ d. not (sameOutcome d gets)) (holds .tells m below ∙ sym same) ∙ ap not (outcome-same gets)
 
     -- it is tried by striking it
     pub trial : Matched t hits s → Trial t (set struck i 1) hits told s i
     trial matched = record { ready = ready-set i rule-word ready; matched = matched; room = holds .enough; element = l; elsewhere = elsewhere }
 
-pub needless-other : (t : List ℕ) (n : ℕ) (counts struck : List ℕ) (i : ℕ) → ruleLeft t struck i ≡ false → false ≡ needlessAt t n counts struck i
+pub needless-other : (t : List ℕ) (n : ℕ) (hit : ℕ → Element → Bool) (space : ℕ) (struck : List ℕ) (i : ℕ) → ruleLeft t struck i ≡ false → false ≡ needlessAt t n hit space struck i
 unfolding needlessAt
-needless-other t n counts struck i other = rw other
+needless-other t n hit space struck i other = rw other
 
 -- The request shown for element i
-module _ (t struck : List ℕ) (s : Shape) (i : ℕ) (all : product (countsOf s) ≡ s .space) where
-  pub shown-rule : (r : ℕ) → ruleLeft t struck i ≡ true → r ≡ placeOr (s .space) (firstChangeAt t (s .n) (countsOf s) struck i) → r ≡ shownAt t (s .n) (countsOf s) struck i
+module _ (t struck : List ℕ) (s : Shape) (i : ℕ) where
+  pub shown-rule : (r : ℕ) → ruleLeft t struck i ≡ true → r ≡ placeOr (s .space) (firstChangeAt t (s .n) (hitOf s) (s .space) struck i) → r ≡ shownAt t (s .n) (hitOf s) (s .space) struck i
   unfolding shownAt
-  shown-rule r rule e = rw (rule, all) e
+  shown-rule r rule e = rw rule e
 
-  pub shown-other : ruleLeft t struck i ≡ false → s .space ≡ shownAt t (s .n) (countsOf s) struck i
+  pub shown-other : ruleLeft t struck i ≡ false → s .space ≡ shownAt t (s .n) (hitOf s) (s .space) struck i
   unfolding shownAt
-  shown-other other = rw other (sym all)
+  shown-other other = rw other
 
 -- Flags that are those of the start
 pub asks : {t first struck told : List ℕ} {s : Shape} → struck ≡ first → Ready t first s → Holds t first told s → Ready t struck s × Holds t struck told s
 asks same ready holds = rw same (ready, holds)
 
-pub tested : (t : List ℕ) (n : ℕ) (counts : List ℕ) {first struck : List ℕ} (i : ℕ) {b answer : Bool} → struck ≡ first → b ≡ needlessAt t n counts struck i → b ≡ answer → needlessAt t n counts first i ≡ answer
-tested t n counts i same is told = ap (λ flags. needlessAt t n counts flags i) (sym same) ∙ sym is ∙ told
+pub tested : (t : List ℕ) (n : ℕ) (hit : ℕ → Element → Bool) (space : ℕ) {first struck : List ℕ} (i : ℕ) {b answer : Bool} → struck ≡ first → b ≡ needlessAt t n hit space struck i → b ≡ answer → needlessAt t n hit space first i ≡ answer
+tested t n hit space i same is told = ap (λ flags. needlessAt t n hit space flags i) (sym same) ∙ sym is ∙ told

@@ -5,8 +5,8 @@ use mathlib.Core.List.{List, [], _∷_}
 use mathlib.Core.Option.{Option, none, some}
 use lib.ListN.{set}
 use Rattle.meaning.specs.Text.{isNone, firstFrom, lastBelow}
-use Rattle.meaning.specs.Model.{product}
 use Rattle.meaning.specs.Deciding.{sameOutcome}
+use Rattle.meaning.specs.declared.Element.{Element}
 use Rattle.table.specs.Tree.{placeOr, ruleLeft}
 use Rattle.outcomes.specs.Decided.{decidedAt}
 
@@ -22,18 +22,19 @@ abbrev pub onward : Option ℕ → List ℕ → (ℕ → Struck) → Struck
 onward none struck next = record { flags = struck; order = [] }
 onward (some i) struck next = struckFirst i (next i)
 
--- A policy: its table, the number of its elements, and the value count of each attribute
-module _ (t : List ℕ) (n : ℕ) (counts : List ℕ) where
-  -- request m gets another decision without element i; the first such request
-  unfoldable pub changesAt : List ℕ → ℕ → ℕ → Bool
-  changesAt struck i m = not (sameOutcome (decidedAt t n counts struck m) (decidedAt t n counts (set struck i 1) m))
+-- request m gets another decision without element i
+unfoldable pub changesAt : List ℕ → ℕ → (ℕ → Element → Bool) → List ℕ → ℕ → ℕ → Bool
+changesAt t n hit struck i m = not (sameOutcome (decidedAt t n hit struck m) (decidedAt t n hit (set struck i 1) m))
 
+-- A policy: its table, the number of its elements, which requests match an element's own target, and how many there are
+module _ (t : List ℕ) (n : ℕ) (hit : ℕ → Element → Bool) (space : ℕ) where
+  -- the first such request
   unfoldable pub firstChangeAt : List ℕ → ℕ → Option ℕ
-  firstChangeAt struck i = firstFrom (changesAt struck i) 0 (product counts)
+  firstChangeAt struck i = firstFrom (changesAt t n hit struck i) 0 space
 
   -- that request for a rule that is left; the number of requests where there is none, and for every other element
   unfoldable pub shownAt : List ℕ → ℕ → ℕ
-  shownAt struck i = cond (ruleLeft t struck i) (placeOr (product counts) (firstChangeAt struck i)) (product counts)
+  shownAt struck i = cond (ruleLeft t struck i) (placeOr space (firstChangeAt struck i)) space
 
   -- a rule that is left and without which every request gets the same decision
   unfoldable pub needlessAt : List ℕ → ℕ → Bool

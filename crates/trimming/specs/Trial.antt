@@ -4,11 +4,10 @@ use mathlib.Core.Path.{_≡_}
 use mathlib.Core.Bool.{false}
 use mathlib.Core.List.{List}
 use lib.ListN.{length}
-use Rattle.meaning.specs.Deciding.{requestOf, matches}
 use Rattle.table.specs.Rows.{elementAt}
 use Rattle.table.specs.Tree.{Over}
 use Rattle.table.specs.declared.Shape.{Shape}
-use Rattle.table.specs.Shape.{countsOf}
+use Rattle.table.specs.Shape.{hitOf}
 use Rattle.matching.specs.Hits.{Matched}
 use Rattle.outcomes.specs.Decided.{differsAt}
 use Rattle.outcomes.specs.Ready.{Ready}
@@ -19,4 +18,4 @@ pub record Trial (t struck hits told : List ℕ) (s : Shape) (rule : ℕ) : Type
   pub matched : Matched t hits s
   pub room : 128 ≤ length told
   pub element : rule < s .n
-  pub elsewhere : (a m : ℕ) → Over t a rule → m < s .space → matches (requestOf (countsOf s) m) (elementAt t a) ≡ false → differsAt t (s .n) (countsOf s) told struck m ≡ false
+  pub elsewhere : (a m : ℕ) → Over t a rule → m < s .space → hitOf s m (elementAt t a) ≡ false → differsAt t (s .n) (hitOf s) told struck m ≡ false

@@ -7,7 +7,7 @@ ghost use Prim.Native.Nat.{_*_, _≤_, _<_};
 ghost use lib.ListN.{length, drop};
 ghost use Rattle.meaning.specs.Text.{isNone, counting, firstFrom};
 ghost use Rattle.table.specs.Tree.{placeOr, ruleLeft};
-ghost use Rattle.table.specs.Shape.{countsOf};
+ghost use Rattle.table.specs.Shape.{hitOf};
 ghost use Rattle.matching.specs.Hits.{Matched};
 ghost use Rattle.outcomes.specs.Decided.{differsAt};
 ghost use Rattle.outcomes.specs.Ready.{Ready, Holds};
@@ -31,7 +31,7 @@ fn first_change(
     rule: usize,
 ) -> usize
     requires { ⌜ Trial (now table) (now struck) (now hits) (now told) shape rule ⌝ }
-    ensures { λ r. ⌜ r ≡ placeOr (shape .space) (firstFrom (differsAt (now (table .entry)) (shape .n) (countsOf shape) (now (told .entry)) (now (struck .entry))) 0 (shape .space)) ⌝ }
+    ensures { λ r. ⌜ r ≡ placeOr (shape .space) (firstFrom (differsAt (now (table .entry)) (shape .n) (hitOf shape) (now (told .entry)) (now (struck .entry))) 0 (shape .space)) ⌝ }
 {
     let space = shape.space;
     let up = table::over(table, shape.n, rule);
@@ -61,7 +61,7 @@ fn alike(
     hint: usize,
 ) -> Tried
     requires { ⌜ Trial (now table) (now struck) (now hits) (now told) shape rule ⌝ }
-    ensures { λ r. ⌜ (r .needless ≡ isNone (firstFrom (differsAt (now (table .entry)) (shape .n) (countsOf shape) (now (told .entry)) (now (struck .entry))) 0 (shape .space))) × (r .shown < shape .space) ⌝ }
+    ensures { λ r. ⌜ (r .needless ≡ isNone (firstFrom (differsAt (now (table .entry)) (shape .n) (hitOf shape) (now (told .entry)) (now (struck .entry))) 0 (shape .space))) × (r .shown < shape .space) ⌝ }
 {
     let space = shape.space;
     if hint < space {
@@ -98,7 +98,7 @@ fn needless(
     hint: usize,
 ) -> Tried
     requires { ⌜ Ready (now table) (now struck) shape × Matched (now table) (now hits) shape × Holds (now table) (now struck) (now told) shape × (i < shape .n) ⌝ }
-    ensures { λ r. ⌜ (r .needless ≡ needlessAt (now (table .entry)) (shape .n) (countsOf shape) (now (struck .entry)) i) × (r .shown < shape .space) × (now (struck .exit) ≡ now (struck .entry)) ⌝ }
+    ensures { λ r. ⌜ (r .needless ≡ needlessAt (now (table .entry)) (shape .n) (hitOf shape) (shape .space) (now (struck .entry)) i) × (r .shown < shape .space) × (now (struck .exit) ≡ now (struck .entry)) ⌝ }
 {
     if !table::is_left(table, struck, i) {
         return Tried {
@@ -122,7 +122,7 @@ fn next_rule(
     hints: &mut [u16],
 ) -> usize
     requires { ⌜ Ready (now table) (now struck) shape × Matched (now table) (now hits) shape × Holds (now table) (now struck) (now told) shape × (shape .n ≤ length (now hints)) ⌝ }
-    ensures { λ r. ⌜ (r ≡ placeOr (shape .n) (nextAt (now (table .entry)) (shape .n) (countsOf shape) (now (struck .entry)))) × (now (struck .exit) ≡ now (struck .entry)) ⌝ }
+    ensures { λ r. ⌜ (r ≡ placeOr (shape .n) (nextAt (now (table .entry)) (shape .n) (hitOf shape) (shape .space) (now (struck .entry)))) × (now (struck .exit) ≡ now (struck .entry)) ⌝ }
 {
     let n = shape.n;
     let mut i = n;
@@ -190,7 +190,7 @@ fn needed_by(
     rule: usize,
 ) -> usize
     requires { ⌜ Ready (now table) (now struck) shape × Matched (now table) (now hits) shape × Holds (now table) (now struck) (now told) shape × (rule < shape .n) × (ruleLeft (now table) (now struck) rule ≡ true) ⌝ }
-    ensures { λ r. ⌜ (r ≡ placeOr (shape .space) (firstChangeAt (now (table .entry)) (shape .n) (countsOf shape) (now (struck .entry)) rule)) × (now (struck .exit) ≡ now (struck .entry)) ⌝ }
+    ensures { λ r. ⌜ (r ≡ placeOr (shape .space) (firstChangeAt (now (table .entry)) (shape .n) (hitOf shape) (shape .space) (now (struck .entry)) rule)) × (now (struck .exit) ≡ now (struck .entry)) ⌝ }
 {
     struck[rule] = 1;
     let shown = first_change(table, struck, hits, shape, told, rule);
@@ -208,7 +208,7 @@ fn shown_by(
     i: usize,
 ) -> usize
     requires { ⌜ Ready (now table) (now struck) shape × Matched (now table) (now hits) shape × Holds (now table) (now struck) (now told) shape × (i < shape .n) ⌝ }
-    ensures { λ r. ⌜ (r ≡ shownAt (now (table .entry)) (shape .n) (countsOf shape) (now (struck .entry)) i) × (now (struck .exit) ≡ now (struck .entry)) ⌝ }
+    ensures { λ r. ⌜ (r ≡ shownAt (now (table .entry)) (shape .n) (hitOf shape) (shape .space) (now (struck .entry)) i) × (now (struck .exit) ≡ now (struck .entry)) ⌝ }
 {
     if !table::is_left(table, struck, i) {
         return shape.space;
@@ -226,7 +226,7 @@ pub fn needed_all(
     shown: &mut [usize],
 )
     requires { ⌜ Ready (now table) (now struck) shape × Matched (now table) (now hits) shape × Holds (now table) (now struck) (now told) shape × (shape .n ≤ length (now shown)) ⌝ }
-    ensures { λ _. ⌜ (now (shown .exit) ≡ map (shownAt (now (table .entry)) (shape .n) (countsOf shape) (now (struck .entry))) (counting 0 (shape .n)) ++ drop (shape .n) (now (shown .entry))) × (now (struck .exit) ≡ now (struck .entry)) ⌝ }
+    ensures { λ _. ⌜ (now (shown .exit) ≡ map (shownAt (now (table .entry)) (shape .n) (hitOf shape) (shape .space) (now (struck .entry))) (counting 0 (shape .n)) ++ drop (shape .n) (now (shown .entry))) × (now (struck .exit) ≡ now (struck .entry)) ⌝ }
 {
     let n = shape.n;
     let mut i = 0;

@@ -4,7 +4,7 @@ use mathlib.Core.Path.{_≡_, refl, _∙_}
 use native.Mathlib.Omega.{arith}
 use borrow.Author.Needs.{needs}
 use lib.ListN.{length}
-use Rattle.table.specs.Shape.{countsOf}
+use Rattle.table.specs.Shape.{hitOf}
 use Rattle.matching.specs.Hits.{Hits, Rest}
 use Rattle.matching.proofs.Putting.{put-is, rest-none, rest-next}
 use Rattle.matching.proofs.Targets.{hits-none, hits-next}
@@ -12,13 +12,13 @@ use Rattle.matching.proofs.match_all.Statement.{statement}
 use Rattle.matching.proofs.match_all.Tie as tie
 
 abbrev Inv-loop : tie.InvT-loop
-Inv-loop table shape hits₀ n counts words i₀ hits i = (i ≤ n) × (length hits ≡ length hits₀) × Hits table i (countsOf shape) hits × Rest i (shape .space) hits₀ hits
+Inv-loop table shape hits₀ n counts words i₀ hits i = (i ≤ n) × (length hits ≡ length hits₀) × Hits table i (hitOf shape) (shape .space) hits × Rest i (shape .space) hits₀ hits
 
 abbrev μ-loop : tie.MeasureT-loop
 μ-loop table shape hits₀ n counts words i₀ hits i = n - i
 
 loop-holds : tie.Need-loop-holds Inv-loop μ-loop
-loop-holds c = let args = c .before .before .before .before .args in (search needs, refl, hits-none (args .table .now) (countsOf (args .shape)) (args .hits .now), rest-none (args .shape .space) (args .hits .now))
+loop-holds c = let args = c .before .before .before .before .args in (search needs, refl, hits-none (args .table .now) (args .shape) (args .hits .now), rest-none (args .shape .space) (args .hits .now))
 
 loop-again : tie.Need-loop-again Inv-loop μ-loop
 loop-again c =
@@ -33,8 +33,8 @@ loop-again c =
     let copied = put-is (masks .result) ((shape .space + 63) / 64) (64 * turn .i) (turn .hits) (put .last .1 .1 .1 .0) (put .ensures) (omega arith) (omega arith) in (
       omega arith,
       put .kept .1 .1 .1 .0 ∙ turn .inv .1,
-      hits-next t (countsOf shape) (omega arith) (omega arith) (turn .inv .2) (own .ensures) (masks .ensures .bits) copied,
-      rest-next (shape .space) (start .args .hits .now) (start .pre .small) (λ m a b. masks .ensures .clear m (omega (arith, start .pre .all)) b) (put .kept .1 .1 .1 .0) copied (turn .inv .3),
+      hits-next t shape (omega arith) (omega arith) (turn .inv .2) (own .ensures) (λ m l. masks .ensures .bits m (omega (arith, start .pre .counted .all))) copied,
+      rest-next (shape .space) (start .args .hits .now) (start .pre .small) (λ m a b. masks .ensures .clear m (omega (arith, start .pre .counted .all)) b) (put .kept .1 .1 .1 .0) copied (turn .inv .3),
     )
 
 returns : tie.Need-returns Inv-loop μ-loop

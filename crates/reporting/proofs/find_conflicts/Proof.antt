@@ -8,7 +8,7 @@ returns : tie.Need-returns
 returns c =
     let pre = c .before .before .before .before .before .before .before .before .before .before .before .before .before .before .before .before .before .before .before .before .before .before .before .before .before .before .before .pre in
     let given = c .before .before .before .before .before .before .before .before .before .before .before .before .before .before .give-all .ensures in
-    conflicts-found _ _ (pre .0) (c .before .before .before .before .before .before .before .before .before .before .before .before .before .before .before .before .before .before .before .before .apply-all .last .1 .1 .1 .0) (c .before .before .before .before .before .before .before .before .before .before .before .before .before .before .give-all .last .1 .1 .1 .1 .0) (c .before .before .before .before .before .before .before .before .before .before .before .before .before .before .give-all .last .1 .1 .1 .1 .1 .0) _ _ _ (c .before .before .before .before .before .before .before .before .before .before .before .before .before .before .before .before .before .before .before .before .apply-all .ensures .0) (given .0) (given .1) (c .before .before .before .before .before .before .before .before .before .before .parent-all .ensures) (c .before .before .pair-all .ensures .0)
+    conflicts-found _ _ (c .before .before .before .before .before .before .before .before .before .before .before .before .before .before .before .before .before .before .before .before .apply-all .last .1 .1 .1 .0) (c .before .before .before .before .before .before .before .before .before .before .before .before .before .before .give-all .last .1 .1 .1 .1 .0) (c .before .before .before .before .before .before .before .before .before .before .before .before .before .before .give-all .last .1 .1 .1 .1 .1 .0) _ _ _ (c .before .before .before .before .before .before .before .before .before .before .before .before .before .before .before .before .before .before .before .before .apply-all .ensures .0) (given .0) (given .1) (c .before .before .before .before .before .before .before .before .before .before .parent-all .ensures) (c .before .before .pair-all .ensures .0)
 
 pub find-conflicts-spec : {M : Type 1} → statement M
 find-conflicts-spec =

@@ -12,7 +12,7 @@ returns : tie.Need-returns
 returns c =
     let pre = c .before .before .before .before .before .before .before .before .before .before .before .before .before .before .before .before .before .before .before .before .before .before .before .pre in
     let applied = c .before .before .before .before .before .before .before .before .before .before .before .apply-all in
-    segments-found _ _ (pre .0) _ _ _ (applied .last .1 .1 .1 .0) _ _ (applied .ensures .0) (c .before .before .before .before .before .before .before .words-all .ensures) (c .before .before .size-all .ensures) _ _ (pre .3) (c .before .before .before .before .before .before .before .before .before .before .before .before .before .before .before .number-all .ensures)
+    segments-found _ _ _ _ _ (applied .last .1 .1 .1 .0) _ _ (applied .ensures .0) (c .before .before .before .before .before .before .before .words-all .ensures) (c .before .before .size-all .ensures) _ _ (pre .3) (c .before .before .before .before .before .before .before .before .before .before .before .before .before .before .before .number-all .ensures)
 
 pub find-segments-spec : {M : Type 1} → statement M
 find-segments-spec =

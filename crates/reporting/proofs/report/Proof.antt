@@ -18,12 +18,12 @@ write-report-requires c κs =
       pre .1,
       record { words-room = omega (arith, pre .0 .small); sizes-room = omega (arith, pre .0 .small); decided-room = omega (arith, pre .0 .small); shown-room = omega (arith, pre .0 .few) },
       record { parents-room = omega (arith, pre .0 .few); pairs-room = omega arith; small = pre .0 .small },
-      struck-named _ _ _ _ _ _ _ _ (pre .1) rules (omega arith),
+      struck-named _ _ _ _ _ _ _ _ _ (pre .1) rules (omega arith),
     )
 
 returns : tie.Need-returns
 returns c =
-    reported _ _ _ _ _ _ _ _ _ _ _ _ _ _ _ (c .before .before .before .before .before .before .before .before .before .before .before .before .before .before .before .before .before .before .before .before .before .before .before .before .before .before .before .before .before .before .before .before .before .before .before .before .before .before .before .before .before .before .before .before .pre .0) (c .before .before .before .before .before .before .before .before .before .before .before .before .before .before .before .before .before .before .before .before .before .find-segments .ensures) (c .before .before .before .before .before .before .before .before .before .before .before .before .before .before .before .before .before .before .before .before .before .before .before .before .before .before .before .before .before .before .find-conflicts .ensures) (c .before .before .before .before .before .before .before .before .before .before .before .before .before .find-rules .ensures) (c .before .before .write-report .ensures)
+    reported _ _ _ _ _ _ _ _ _ _ _ _ _ _ _ (c .before .before .before .before .before .before .before .before .before .before .before .before .before .before .before .before .before .before .before .before .before .find-segments .ensures) (c .before .before .before .before .before .before .before .before .before .before .before .before .before .before .before .before .before .before .before .before .before .before .before .before .before .before .before .before .before .before .find-conflicts .ensures) (c .before .before .before .before .before .before .before .before .before .before .before .before .before .find-rules .ensures) (c .before .before .write-report .ensures)
 
 pub report-spec : {M : Type 1} → statement M
 report-spec =

@@ -1,7 +1,7 @@
 -- `first_change`: no request of the blocks passed gets another decision. Assumes nothing.
 use Prim.Native.Nat.{_+_, _-_, _*_, _<_}
 use native.Mathlib.Omega.{arith}
-use Rattle.table.specs.Shape.{countsOf}
+use Rattle.table.specs.Shape.{hitOf}
 use Rattle.outcomes.specs.Decided.{differsAt}
 use Rattle.trimming.proofs.Blocks.{NoneBelow, block-passed, block-searched, block-found, none-found-at-all, block-off}
 use borrow.Author.Needs.{needs}
@@ -10,7 +10,7 @@ use Rattle.trimming.proofs.first_change.Tie as tie
 
 abbrev Inv-loop : tie.InvT-loop
 Inv-loop table struck hits shape told rule space up block₀ block =
-    (64 * block < space + 64) × NoneBelow (differsAt table (shape .n) (countsOf shape) told struck) space block
+    (64 * block < space + 64) × NoneBelow (differsAt table (shape .n) (hitOf shape) told struck) space block
 
 abbrev μ-loop : tie.MeasureT-loop
 μ-loop table struck hits shape told rule space up block₀ block = space + 64 - 64 * block

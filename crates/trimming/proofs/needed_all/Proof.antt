@@ -4,7 +4,7 @@ use mathlib.Core.Path.{_≡_, refl, ap, _∙_}
 use native.Mathlib.Omega.{arith}
 use borrow.Author.Needs.{needs}
 use lib.ListN.{length}
-use Rattle.table.specs.Shape.{countsOf}
+use Rattle.table.specs.Shape.{hitOf}
 use Rattle.outcomes.proofs.Laying.{Lays, lays-none, lays-next, lays-all}
 use Rattle.trimming.specs.Decided.{shownAt}
 use Rattle.trimming.proofs.Trying.{asks}
@@ -13,7 +13,7 @@ use Rattle.trimming.proofs.needed_all.Tie as tie
 
 abbrev Inv-loop : tie.InvT-loop
 Inv-loop table struck₀ hits shape told shown₀ n i₀ struck shown i =
-    (i ≤ n) × (struck ≡ struck₀) × Lays (shownAt table (shape .n) (countsOf shape) struck₀) n shown₀ shown i
+    (i ≤ n) × (struck ≡ struck₀) × Lays (shownAt table (shape .n) (hitOf shape) (shape .space) struck₀) n shown₀ shown i
 
 abbrev μ-loop : tie.MeasureT-loop
 μ-loop table struck₀ hits shape told shown₀ n i₀ struck shown i = n - i
@@ -32,7 +32,7 @@ loop-again c =
     let args = c .before .before .before .before .before .before .before .before .before .before .before .args in
     let turn = c .before .before .before .before .before .loop in
     let shown = c .before .before .shown-by .ensures in
-    let same = ap (λ flags. shownAt (args .table .now) (args .shape .n) (countsOf (args .shape)) flags (turn .i)) (turn .inv .1) in
+    let same = ap (λ flags. shownAt (args .table .now) (args .shape .n) (hitOf (args .shape)) (args .shape .space) flags (turn .i)) (turn .inv .1) in
     (omega arith, shown .1 ∙ turn .inv .1, lays-next _ _ (c .before .before .before .before .loop-test .taken) (shown .0 ∙ same) (turn .inv .2))
 
 same-length : tie.Need-same-length Inv-loop μ-loop

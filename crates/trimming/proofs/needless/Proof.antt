@@ -3,7 +3,7 @@ use mathlib.Core.Path.{refl, sym, _∙_}
 use native.Mathlib.Omega.{arith}
 use borrow.Author.Tests.{not-true, not-false}
 use lib.ListN.{length-set}
-use Rattle.table.specs.Shape.{countsOf}
+use Rattle.table.specs.Shape.{hitOf}
 use Rattle.trimming.proofs.Trying.{set-back, needless-rule, rule-flag, trial, needless-other}
 use borrow.Author.Needs.{needs}
 use Rattle.trimming.proofs.needless.Statement.{statement}
@@ -13,7 +13,7 @@ returns : tie.Need-returns
 returns c =
     let start = c .before .before .before .before .before .before .before in
     let other = sym (c .before .is-left .ensures) ∙ not-true _ (c .if1 .taken) in
-    (needless-other (start .args .table .now) (start .args .shape .n) (countsOf (start .args .shape)) (start .args .struck .now) (start .args .i) other, start .pre .0 .positive, refl)
+    (needless-other (start .args .table .now) (start .args .shape .n) (hitOf (start .args .shape)) (start .args .shape .space) (start .args .struck .now) (start .args .i) other, start .pre .0 .positive, refl)
 
 alike-requires : tie.Need-alike-requires
 alike-requires c κs =

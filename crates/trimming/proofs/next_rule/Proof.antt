@@ -6,7 +6,7 @@ use borrow.Author.Needs.{needs}
 use lib.ListN.{length, length-set}
 use Rattle.meaning.specs.Text.{lastBelow}
 use Rattle.table.specs.Tree.{placeOr}
-use Rattle.table.specs.Shape.{countsOf}
+use Rattle.table.specs.Shape.{hitOf}
 use Rattle.trimming.specs.Decided.{needlessAt, nextAt}
 use Rattle.trimming.proofs.Searching.{last-here, last-earlier, last-nowhere}
 use Rattle.trimming.proofs.Trying.{asks, tested}
@@ -15,7 +15,7 @@ use Rattle.trimming.proofs.next_rule.Tie as tie
 
 abbrev Inv-loop : tie.InvT-loop
 Inv-loop table struck₀ hits shape told hints₀ n i₀ struck hints i =
-    let test = needlessAt table (shape .n) (countsOf shape) struck₀ in
+    let test = needlessAt table (shape .n) (hitOf shape) (shape .space) struck₀ in
     (i ≤ n) × (struck ≡ struck₀) × (length hints ≡ length hints₀) × (lastBelow test n ≡ lastBelow test i)
 
 abbrev μ-loop : tie.MeasureT-loop
@@ -42,7 +42,7 @@ returns c =
     let start = c .before .before .before .before .before .before .before .before .before .before .before .before .before in
     let turn = c .before .before .before .before .before .before .before .loop in
     let tried = c .before .before .before .needless .ensures in
-    let here = tested (start .args .table .now) (start .args .shape .n) (countsOf (start .args .shape)) _ (turn .inv .1) (tried .0) (c .if1 .taken) in
+    let here = tested (start .args .table .now) (start .args .shape .n) (hitOf (start .args .shape)) (start .args .shape .space) _ (turn .inv .1) (tried .0) (c .if1 .taken) in
     (sym (ap (placeOr (start .args .shape .n)) (turn .inv .3 ∙ last-here _ (turn .i) (omega arith) here)), tried .2 ∙ turn .inv .1)
 
 cast-hints : tie.Need-cast-hints Inv-loop μ-loop
@@ -53,7 +53,7 @@ loop-again c =
     let start = c .before .before .before .before .before .before .before .before .before .before .before .before .before .before in
     let turn = c .before .before .before .before .before .before .before .before .loop in
     let tried = c .before .before .before .before .needless .ensures in
-    let needed = tested (start .args .table .now) (start .args .shape .n) (countsOf (start .args .shape)) _ (turn .inv .1) (tried .0) (c .before .if1 .left) in
+    let needed = tested (start .args .table .now) (start .args .shape .n) (hitOf (start .args .shape)) (start .args .shape .space) _ (turn .inv .1) (tried .0) (c .before .if1 .left) in
     (omega arith, tried .2 ∙ turn .inv .1, rw length-set (turn .inv .2), turn .inv .3 ∙ last-earlier _ (turn .i) (omega arith) needed)
 
 same-length-3 : tie.Need-same-length-3 Inv-loop μ-loop

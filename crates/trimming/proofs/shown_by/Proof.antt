@@ -9,7 +9,7 @@ use Rattle.trimming.proofs.shown_by.Tie as tie
 returns : tie.Need-returns
 returns c =
     let start = c .before .before .before .before .before .before .before in
-    (shown-other _ _ (start .args .shape) _ (start .pre .0 .all) (sym (c .before .is-left .ensures) ∙ not-true _ (c .if1 .taken)), refl)
+    (shown-other _ _ (start .args .shape) _ (sym (c .before .is-left .ensures) ∙ not-true _ (c .if1 .taken)), refl)
 
 needed-by-requires : tie.Need-needed-by-requires
 needed-by-requires c κs =
@@ -21,7 +21,7 @@ returns-2 c =
     let start = c .before .before .before .before .before .before .before .before .before .before .before in
     let rule = sym (c .before .before .before .before .before .is-left .ensures) ∙ not-false _ (c .before .before .before .before .if1 .left) in
     let needed = c .before .before .needed-by .ensures in
-    (shown-rule _ _ (start .args .shape) _ (start .pre .0 .all) _ rule (needed .0), needed .1)
+    (shown-rule _ _ (start .args .shape) _ _ rule (needed .0), needed .1)
 
 pub shown-by-spec : {M : Type 1} → statement M
 shown-by-spec =

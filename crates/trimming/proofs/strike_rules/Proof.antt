@@ -4,7 +4,7 @@ use mathlib.Core.Path.{_≡_, refl, ap, _∙_}
 use native.Mathlib.Omega.{arith}
 use borrow.Author.Needs.{needs}
 use lib.ListN.{length, length-set}
-use Rattle.table.specs.Shape.{countsOf}
+use Rattle.table.specs.Shape.{hitOf}
 use Rattle.outcomes.specs.Ready.{Ready, Holds}
 use Rattle.trimming.proofs.Strikes.{Next, next-found, next-none, trimming-stops, ready-next, holds-next, Strikes, strikes-none, strikes-next, strikes-end, strikes-all}
 use Rattle.trimming.proofs.strike_rules.Statement.{statement}
@@ -33,15 +33,15 @@ returns c =
     let found = c .before .before .before .before .before .next-rule .ensures in
     let t = start .args .table .now in
     let shape = start .args .shape in
-    let end = trimming-stops t (shape .n) (countsOf shape) (turn .struck) (shape .n - turn .count) (next-none t (shape .n) (countsOf shape) (turn .struck) _ (found .0) (c .if1 .taken)) in
+    let end = trimming-stops t (shape .n) (hitOf shape) (shape .space) (turn .struck) (shape .n - turn .count) (next-none t (shape .n) (hitOf shape) (shape .space) (turn .struck) _ (found .0) (c .if1 .taken)) in
     strikes-end t shape _ _ _ _ _ (turn .inv .6) _ _ (found .1) end (turn .inv .0) (start .pre .4) (turn .inv .4) (turn .inv .5)
 
 -- the rule that is struck
 struck-rule : (c : tie.Else1 Inv-loop μ-loop)
-    → let args = c .before .before .before .before .before .before .before .before .before .before .before .before .before .before .before .before .args in Next (args .table .now) (args .shape .n) (countsOf (args .shape)) (c .before .before .before .before .before .before .before .before .before .loop .struck) (c .before .before .before .before .before .next-rule .result)
+    → let args = c .before .before .before .before .before .before .before .before .before .before .before .before .before .before .before .before .args in Next (args .table .now) (args .shape .n) (hitOf (args .shape)) (args .shape .space) (c .before .before .before .before .before .before .before .before .before .loop .struck) (c .before .before .before .before .before .next-rule .result)
 struck-rule c =
     let args = c .before .before .before .before .before .before .before .before .before .before .before .before .before .before .before .before .args in
-    next-found (args .table .now) (args .shape .n) (countsOf (args .shape)) (c .before .before .before .before .before .before .before .before .before .loop .struck) _ (c .before .before .before .before .before .next-rule .ensures .0) (c .if1 .left)
+    next-found (args .table .now) (args .shape .n) (hitOf (args .shape)) (args .shape .space) (c .before .before .before .before .before .before .before .before .before .loop .struck) _ (c .before .before .before .before .before .next-rule .ensures .0) (c .if1 .left)
 
 slice-write-struck : tie.Need-slice-write-struck Inv-loop μ-loop
 slice-write-struck c = omega (arith, struck-rule c .below, ap length (c .before .before .before .before .before .next-rule .ensures .1), c .before .before .before .before .before .before .before .before .before .loop .inv .4 .flags)
