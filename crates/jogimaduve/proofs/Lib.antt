@@ -1,5 +1,4 @@
 -- Laws that the proofs of the operations cite; those of a policy's shape serve the vectors program too.
-mod Answering
 mod Deciding
 pub mod Shaping
 mod Trimming

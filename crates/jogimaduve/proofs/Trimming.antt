@@ -2,19 +2,20 @@
 use mathlib.Core.Path.{_≡_, sym, ap, _∙_, subst}
 use Prim.Native.Nat.{ℕ, _≤_, _<_}
 use native.Mathlib.Omega.{arith}
-use mathlib.Core.List.{List, _++_}
-use lib.ListN.{length, drop}
-use borrow.Author.Tests.{lt-ltb, le-ltb}
+use mathlib.Core.List.{List}
+use lib.ListN.{length}
+use Rattle.meaning.specs.declared.Answer.{Answer}
 use Rattle.meaning.specs.Text.{Bytes}
 use Rattle.meaning.specs.Model.{Policy, given}
 use Rattle.meaning.specs.Reading.{read}
 use Rattle.meaning.specs.Trimming.{trimmed}
-use Rattle.meaning.specs.Report.{fitted, trimFile}
-use Rattle.meaning.specs.Operations.{answered, trimAnswer, trimLent}
+use Rattle.meaning.specs.Report.{trimFile}
+use Rattle.meaning.specs.Operations.{trimAnswer, trimLent}
 use Rattle.laws.proofs.Reading.{accepted}
 use Rattle.table.specs.declared.Shape.{Shape}
 use Rattle.table.specs.Shape.{hitOf}
 use Rattle.trimming.specs.Decided as table-level
+use Rattle.printing.specs.Fitted.{Fitted}
 use Rattle.trimmed_text.specs.Flags.{textLeft}
 use Rattle.trimmed_text.specs.Copied.{copied}
 use Rattle.trimmed_text.proofs.Trimmed.{trimmed-flags}
@@ -25,8 +26,7 @@ use Rattle.reader.specs.Told.{ReadPolicy, ReadAs}
 use Rattle.reader.proofs.FileRead.{file-refused, elements-are, few}
 use Rattle.reporting.specs.Found.{none-struck}
 use Rattle.reporting.proofs.StruckText.{none-clear}
-use Rattle.jogimaduve.specs.Told.{told, textTold, shapeOf}
-use Rattle.jogimaduve.proofs.Answering.{text-told}
+use Rattle.jogimaduve.specs.Told.{told, shapeOf}
 use Rattle.jogimaduve.proofs.Shaping.{attributes-are, hits-are, space-is}
 
 -- A file that is refused
@@ -39,7 +39,11 @@ module _ (f table places : List ℕ) (r : Reading) (is-read : ReadAs f table pla
   unfolding trimFile
   refusal-lent = rw (file-refused f table places r is-read h)
 
--- A file that was read, and the flags that striking leaves
+-- A file that was read is short, and so is a part of it
+pub small-text : (f : Bytes) (p : Policy) (h : read f ≡ given p) (needed : ℕ) → needed ≤ length f → needed < 4294967296
+small-text f p h needed l = omega (arith, accepted f p h .size)
+
+-- The flags that striking leaves
 module _ (f table places : List ℕ) (r : Reading) (p : Policy) (h : read f ≡ given p) (holds : ReadPolicy f table places r p) (s : Shape) (shaped : s ≡ shapeOf r)
     (flags : List ℕ) (struck : flags ≡ table-level.trimmingAt table (s .n) (hitOf s) (s .space) (s .n) none-struck .flags) where
   abbrev text : Bytes
@@ -56,20 +60,7 @@ module _ (f table places : List ℕ) (r : Reading) (p : Policy) (h : read f ≡ 
       ∙ ap (textLeft f p) (sym same-flags ∙ sym here)
       ∙ text-copied f p h places flags (r .attributes .len) n (attributes-are f table places r p h holds) size (holds .lined) (holds .some)
 
-  pub small-text : (needed : ℕ) → needed ≤ length f → needed < 4294967296
-  small-text needed l = omega (arith, accepted f p h .size)
-
-  module _ (out : Bytes) (needed : ℕ) (is-length : needed ≡ length text) where
-    trim-is : trimFile (length out) f ≡ fitted (length out) text
-    unfolding trimFile
-    trim-is = rw (h, text-is)
-
-    pub trim-answered : textTold needed (length out) ≡ trimAnswer f out
-    trim-answered = text-told text needed (length out) is-length ∙ ap (answered length) (sym trim-is)
-
-    -- a buffer that is too short, and one that holds the text
-    pub short-lent : length out < needed → out ≡ trimLent f out
-    short-lent short = rw (trim-is, ← is-length, lt-ltb (length out) needed short)
-
-    pub text-lent : needed ≤ length out → text ++ drop (length text) out ≡ trimLent f out
-    text-lent enough = rw (trim-is, ← is-length, le-ltb (length out) needed enough) (ap (λ k. text ++ drop k out) is-length)
+  -- that text fitted to the buffer
+  pub trim-fitted : {out new : Bytes} {a : Answer} → Fitted out text new a → (a ≡ trimAnswer f out) × (new ≡ trimLent f out)
+  unfolding trimFile
+  trim-fitted fits = (fits .answers ∙ rw (h, text-is), fits .lends ∙ rw (h, text-is))

@@ -3,12 +3,11 @@ use meaning::Answer;
 use reader::Reading;
 use table::Shape;
 ghost use mathlib.Core.Path.{_≡_};
-ghost use Prim.Native.Nat.{_<_};
 ghost use Rattle.meaning.specs.Operations.{decideAnswer, trimAnswer, trimLent, reportAnswer, reportLent};
 ghost use Rattle.table.specs.Shape.{hitOf};
 ghost use Rattle.outcomes.specs.Ready.{Ready};
 ghost use Rattle.trimming.specs.Decided.{trimmingAt};
-ghost use Rattle.jogimaduve.specs.Told.{textTold, shapeOf};
+ghost use Rattle.jogimaduve.specs.Told.{shapeOf};
 
 // The shape of the policy that was read.
 fn shape_of(reading: Reading) -> Shape
@@ -21,23 +20,6 @@ fn shape_of(reading: Reading) -> Shape
         counts,
         len: attributes.len,
         space: reading.space,
-    }
-}
-
-// The answer for a text of so many bytes, and a buffer that has so many.
-fn text_answer(needed: usize, room: usize) -> Answer
-    requires { ⌜ needed < 4294967296 ⌝ }
-    ensures { λ r. ⌜ r ≡ textTold needed room ⌝ }
-{
-    if room < needed {
-        return Answer {
-            number: 11,
-            second: needed as u32,
-        };
-    }
-    Answer {
-        number: 0,
-        second: needed as u32,
     }
 }
 
@@ -97,13 +79,12 @@ pub extern "C" fn jogimaduve_trim(file: &[u8], out: &mut [u8]) -> Answer
     let n = reading.elements;
     let mut struck = [0u8; 64];
     strike(&table, &mut struck, shape_of(reading));
+    let mut none = [0u8; 0];
+    let needed = trimmed_text::put_text(file, &places, &struck, n, &mut none);
     let room = out.len();
-    let length = trimmed_text::text_length(file, &places, &struck, n);
-    if room < length {
-        return text_answer(length, room);
-    }
-    trimmed_text::copy_text(file, &places, &struck, n, out);
-    text_answer(length, room)
+    let part = printing::lend(needed, room);
+    trimmed_text::put_text(file, &places, &struck, n, &mut out[..part]);
+    printing::text_answer(needed, room)
 }
 
 // The report of a policy file, in a lent buffer.
@@ -118,7 +99,5 @@ pub extern "C" fn jogimaduve_report(file: &[u8], out: &mut [u8]) -> Answer
     if reading.number != 0 {
         return reader::refusal(reading);
     }
-    let room = out.len();
-    let needed = reporting::report(file, &table, &places, shape_of(reading), out);
-    text_answer(needed, room)
+    reporting::report(file, &table, &places, shape_of(reading), out)
 }

@@ -1,10 +1,12 @@
 // Text laid into a lent buffer. What does not fit is not stored, and the place moves on all the same: with an empty buffer the same code counts.
+use meaning::Answer;
 ghost use mathlib.Core.Path.{_≡_};
-ghost use Prim.Native.Nat.{_+_, _/_, _≤_, _<_, _^_};
+ghost use Prim.Native.Nat.{_+_, _/_, _≤_, _<_, _^_, min};
 ghost use mathlib.Core.List.{[], _∷_, _++_};
 ghost use lib.ListN.{length};
 ghost use Rattle.meaning.specs.Text.{decimal};
 ghost use Rattle.printing.specs.Wrote.{Wrote};
+ghost use Rattle.printing.specs.Fitted.{lendable, textTold};
 
 // Stores a byte.
 pub fn put(out: &mut [u8], at: usize, b: u8) -> usize
@@ -18,7 +20,17 @@ pub fn put(out: &mut [u8], at: usize, b: u8) -> usize
     at + 1
 }
 
-// Stores bytes one behind the other.
+// The smaller of two numbers.
+fn smaller(a: usize, b: usize) -> usize
+    ensures { λ r. ⌜ r ≡ min a b ⌝ }
+{
+    if b < a {
+        return b;
+    }
+    a
+}
+
+// Stores bytes one behind the other: how many fit is known first, so that the loop is a plain copy.
 pub fn put_bytes(out: &mut [u8], at: usize, bytes: &[u8]) -> usize
     requires { ⌜ at + length (now bytes) < 2 ^ 64 ⌝ }
     ensures { λ r. ⌜ Wrote (now (out .entry)) at (now (bytes .entry)) (now (out .exit)) r ⌝ }
@@ -26,13 +38,13 @@ pub fn put_bytes(out: &mut [u8], at: usize, bytes: &[u8]) -> usize
     if out.len() <= at {
         return at + bytes.len();
     }
-    let mut n = at;
-    let mut i = 0;
-    while i < bytes.len() {
-        n = put(out, n, bytes[i]);
-        i += 1;
+    let fit = smaller(bytes.len(), out.len() - at);
+    let mut j = 0;
+    while j < fit {
+        out[at + j] = bytes[j];
+        j += 1;
     }
-    n
+    at + bytes.len()
 }
 
 // Stores a number in decimal.
@@ -63,4 +75,32 @@ pub fn put_number(out: &mut [u8], at: usize, number: usize, end: u8) -> usize
 {
     let behind = put_decimal(out, at, number);
     put(out, behind, end)
+}
+
+// How many bytes of a buffer to lend for a text: all, or none where the text does not fit. What is laid into that part is the whole text, or nothing.
+pub fn lend(needed: usize, room: usize) -> usize
+    ensures { λ r. ⌜ r ≡ lendable needed room ⌝ }
+    ensures within { λ r. ⌜ r ≤ room ⌝ }
+{
+    if room < needed {
+        return 0;
+    }
+    room
+}
+
+// The answer for a text of so many bytes, and a buffer that has so many.
+pub fn text_answer(needed: usize, room: usize) -> Answer
+    requires { ⌜ needed < 4294967296 ⌝ }
+    ensures { λ r. ⌜ r ≡ textTold needed room ⌝ }
+{
+    if room < needed {
+        return Answer {
+            number: 11,
+            second: needed as u32,
+        };
+    }
+    Answer {
+        number: 0,
+        second: needed as u32,
+    }
 }

@@ -3,4 +3,3 @@ mod Names
 mod Words
 mod LineTexts
 mod PairTexts
-mod Fitting

@@ -1,15 +1,17 @@
 -- The report's text, from what was found of a policy: its names stand in the file, at their places.
 use Prim.Native.Nat.{ℕ, zero, suc, _+_, _-_, _*_}
 use mathlib.Core.Bool.{Bool, cond}
-use mathlib.Core.List.{List, [], _∷_, _++_, map}
+use mathlib.Core.List.{List, [], _∷_, map}
 use lib.Dec.{eqb, ltb}
-use lib.ListN.{take, getD}
+use lib.ListN.{getD}
 use Rattle.meaning.specs.declared.Decision.{Decision}
 use Rattle.meaning.specs.Text.{Bytes, bytes, keep, gathered, counting, comma, line, decimal}
 use Rattle.meaning.specs.Model.{decisionText}
 use Rattle.meaning.specs.Deciding.{bit}
 use Rattle.meaning.specs.Report.{orDash}
 use Rattle.layout.specs.Places.{nameIn}
+use Rattle.report_lines.specs.declared.segment_lines.Segment.{Segment}
+use Rattle.report_lines.specs.declared.conflict_lines.Conflict.{Conflict}
 
 -- a decision, by its number
 abbrev pub decisionFrom : ℕ → Decision
@@ -24,16 +26,19 @@ module _ (f : Bytes) (places : List ℕ) where
   abbrev pub pairAt : List ℕ → ℕ → ℕ → ℕ
   pairAt pairs j k = getD pairs (64 * j + k) 0
 
+  abbrev pub conflictRow : Conflict → Bytes
+  conflictRow c = line (bytes "C" ∷ nameIn f places (c .parent) ∷ nameIn f places (c .earlier) ∷ nameIn f places (c .later) ∷ decimal (c .request) ∷ [])
+
   unfoldable pub conflictLine : (pairs : List ℕ) (space : ℕ) → ℕ → ℕ → ℕ → Bytes
   conflictLine pairs space i j k =
-      cond (ltb (pairAt pairs j k) space) (line (bytes "C" ∷ nameIn f places i ∷ nameIn f places j ∷ nameIn f places k ∷ decimal (pairAt pairs j k) ∷ [])) []
+      cond (ltb (pairAt pairs j k) space) (conflictRow (record { parent = i; earlier = j; later = k; request = pairAt pairs j k })) []
 
   -- `X`: for an element that is struck
   unfoldable pub struckLine : ℕ → Bytes
   struckLine i = line (bytes "X" ∷ nameIn f places i ∷ [])
 
-  unfoldable pub struckText : List ℕ → Bytes
-  struckText order = gathered struckLine order
+  unfoldable pub struckText : (order : List ℕ) (count : ℕ) → Bytes
+  struckText order count = gathered (λ k. struckLine (getD order k 0)) (counting 0 count)
 
   -- `K`: for an element with a request in the space
   unfoldable pub keptLine : (shown : List ℕ) (space : ℕ) → ℕ → Bytes
@@ -56,10 +61,13 @@ module _ (f : Bytes) (places : List ℕ) where
     laterNames w i = gathered (commaName w) (counting i (n - i))
 
     -- `G`: for request m where the size is not 0, with its word of applying elements and its decision's number
+    abbrev pub segmentRow : Segment → Bytes
+    segmentRow s = line (bytes "G" ∷ decimal (s .first) ∷ decimal (s .size) ∷ decisionText (decisionFrom (s .decided)) ∷ orDash (namesOf (s .word)) ∷ [])
+
     unfoldable pub segmentLine : (words sizes decided : List ℕ) → ℕ → Bytes
     segmentLine words sizes decided m =
         let size = getD sizes m 0 in
-        cond (eqb size 0) [] (line (bytes "G" ∷ decimal m ∷ decimal size ∷ decisionText (decisionFrom (getD decided m 0)) ∷ orDash (namesOf (getD words m 0)) ∷ []))
+        cond (eqb size 0) [] (segmentRow (record { first = m; size = size; decided = getD decided m 0; word = getD words m 0 }))
 
     unfoldable pub segmentText : (words sizes decided : List ℕ) (space : ℕ) → Bytes
     segmentText words sizes decided space = gathered (segmentLine words sizes decided) (counting 0 space)
@@ -82,8 +90,3 @@ module _ (f : Bytes) (places : List ℕ) where
 
       unfoldable pub conflictText : Bytes
       conflictText = gathered pairLines (counting 0 n)
-
-    -- the report: the lines in order
-    unfoldable pub reportText : (words sizes decided parents pairs order shown : List ℕ) (space : ℕ) → Bytes
-    reportText words sizes decided parents pairs order shown space =
-        segmentText words sizes decided space ++ (conflictText parents pairs space ++ (struckText order ++ keptText shown space))

@@ -73,11 +73,10 @@ module _ (t : List ℕ) (s : Shape) where
       }
 
 -- each place struck has a name
-pub struck-named : (f : Bytes) (places t : List ℕ) (n : ℕ) (hit : ℕ → Element → Bool) (space : ℕ) (order shown : List ℕ) (count : ℕ) → Naming f places n → RulesFound t n hit space order shown count → 64 ≤ length order → Ordered f places order count
-struck-named f places t n hit space order shown count naming rules room =
+pub struck-named : (f : Bytes) (places t : List ℕ) (n : ℕ) (hit : ℕ → Element → Bool) (space : ℕ) (order shown : List ℕ) (count : ℕ) → Naming f places n → RulesFound t n hit space order shown count → Ordered f places order count
+struck-named f places t n hit space order shown count naming rules =
     record {
       few = omega (arith, naming .few, rules .few);
-      room = omega (arith, naming .few, rules .few);
       each = λ k l. naming .each (getD order k 0)
           (subst (λ m. m < n) (sym (ap (λ xs. getD xs k 0) (rules .struck)) ∙ getD-take count order k 0 l) (order-below t n hit space k (omega (arith, rules .counted))));
     }

@@ -1,44 +1,56 @@
 -- The report, from what was found of the policy that was read.
-use mathlib.Core.Path.{_≡_, ap, ap₂, _∙_, subst}
-use Prim.Native.Nat.{ℕ}
-use mathlib.Core.List.{List, _++_, reverse}
-use lib.ListN.{take}
-use mathlib.Core.Bool.{Bool}
-use Rattle.meaning.specs.Text.{Bytes}
-use Rattle.meaning.specs.Model.{Policy, given, space as spaceOf}
-use Rattle.meaning.specs.Reading.{read}
-use Rattle.meaning.specs.Report.{report}
-use Rattle.meaning.specs.Deciding.{hits}
-use Rattle.meaning.specs.declared.Element.{Element}
+use mathlib.Core.Path.{_≡_, sym, ap, ap₂, _∙_, subst}
+use Prim.Native.Nat.{ℕ, _≤_}
+use native.Mathlib.Omega.{arith}
+use mathlib.Core.List.{List, _++_}
+use lib.ListN.{length, length-take}
+use Rattle.meaning.specs.declared.Answer.{Answer}
+use Rattle.meaning.specs.Text.{Bytes, gathered}
+use Rattle.meaning.specs.Report.{report, reportFile}
+use Rattle.meaning.specs.Operations.{reportAnswer, reportLent}
 use Rattle.table.specs.declared.Shape.{Shape}
 use Rattle.table.specs.Shape.{hitOf}
-use Rattle.layout.specs.Places.{elementsTo}
 use Rattle.conflicts.specs.Pairs.{shownFor}
-use Rattle.report_lines.specs.Lines.{struckText, reportText}
-use Rattle.report_lines.specs.Fitted.{Fitted}
-use Rattle.reporting.specs.Reported.{Reported}
-use Rattle.reporting.specs.Found.{none-struck, SegmentsFound, ConflictsFound, RulesFound}
+use Rattle.printing.specs.Fitted.{Fitted}
+use Rattle.printing.proofs.Walks.{taken}
+use Rattle.report_lines.specs.Lines.{segmentText, conflictText, struckLine, struckText, keptText}
+use Rattle.reporting.specs.Found.{none-struck, trimmedAt, SegmentsFound, ConflictsFound, RulesFound}
+use Rattle.reporting.specs.Held.{PolicyHeld}
 use Rattle.reporting.proofs.SegmentText.{segments-are}
 use Rattle.reporting.proofs.ConflictText.{conflicts-are}
 use Rattle.reporting.proofs.StruckText.{none-clear, struck-are, kept-are}
 
-module _ (f : Bytes) (p : Policy) (h : read f ≡ given p) (table places : List ℕ) (n : ℕ) (is : p .elements ≡ reverse (elementsTo f table places n)) (hit : ℕ → Element → Bool) (space : ℕ) (hits-are : (m : ℕ) → hit m ≡ hits p m) (space-is : space ≡ spaceOf (p .attributes))
-    (words lengths decided parents pairs order shown : List ℕ) (count : ℕ) (found : SegmentsFound table n hit space words lengths decided) (shown-pairs : ConflictsFound table n hit space parents pairs) (rules : RulesFound table n hit space order shown count) where
+module _ (f table places : List ℕ) (s : Shape) (held : PolicyHeld f table places s) (words lengths decided parents pairs order shown : List ℕ) (count : ℕ)
+    (found : SegmentsFound table (s .n) (hitOf s) (s .space) words lengths decided) (shown-pairs : ConflictsFound table (s .n) (hitOf s) (s .space) parents pairs) (rules : RulesFound table (s .n) (hitOf s) (s .space) order shown count) where
   -- the four kinds of lines, one behind the other
-  pub report-is : reportText f places n words lengths decided parents pairs (take count order) shown space ≡ report f p
-  unfolding reportText report shownFor
+  abbrev text : Bytes
+  text = segmentText f places (s .n) words lengths decided (s .space) ++ (conflictText f places (s .n) parents pairs (s .space) ++ (struckText f places order count ++ keptText f places (s .n) shown (s .space)))
+
+  -- those of the rules struck
+  struck-lines : struckText f places order count ≡ gathered (struckLine f places) (trimmedAt table (s .n) (hitOf s) (s .space) .order)
+  unfolding struckText
+  struck-lines =
+      let room : count ≤ length order = omega (arith, ap length (rules .struck), length-take count order, rules .counted) in
+      taken 0 (struckLine f places) order count room ∙ ap (gathered (struckLine f places)) (rules .struck)
+
+  report-is : text ≡ report f (held .policy)
+  unfolding report shownFor
   report-is =
+      let n = s .n in
+      let p = held .policy in
+      let h = held .is-read in
+      let is = held .elements in
+      let hit = hitOf s in
+      let space = s .space in
+      let hits-are = held .hits-are in
+      let space-is = held .space-is in
       ap₂ (λ g rest. g ++ rest) (segments-are f table places n p is hit space hits-are space-is words lengths decided none-struck (λ k l. none-clear k) (found .applying) (found .sized) (found .numbered))
       (ap₂ (λ c rest. c ++ rest) (conflicts-are f table places n p is hit space hits-are space-is parents none-struck none-clear (shown-pairs .parented) pairs (shown-pairs .paired))
-      (ap₂ (λ x k. x ++ k) (ap (struckText f places) (rules .struck) ∙ struck-are f p h table places n is hit space hits-are space-is) (kept-are f p h table places n is hit space hits-are space-is shown (rules .needed))))
+      (ap₂ (λ x k. x ++ k) (struck-lines ∙ struck-are f p h table places n is hit space hits-are space-is) (kept-are f p h table places n is hit space hits-are space-is shown (rules .needed))))
 
--- the text of what was found, written for the policy that was read
-pub reported : (f table places : List ℕ) (s : Shape) (words lengths decided parents pairs order shown : List ℕ) (count : ℕ) (old new : Bytes) (r : ℕ)
-    → SegmentsFound table (s .n) (hitOf s) (s .space) words lengths decided → ConflictsFound table (s .n) (hitOf s) (s .space) parents pairs → RulesFound table (s .n) (hitOf s) (s .space) order shown count
-    → Fitted old (reportText f places (s .n) words lengths decided parents pairs (take count order) shown (s .space)) new r → Reported f table places s old new r
-reported f table places s words lengths decided parents pairs order shown count old new r found shown-pairs rules fitted =
-    record {
-      written = λ p h is hits-are space-is. subst (λ t. Fitted old t new r)
-          (report-is f p h table places (s .n) is (hitOf s) (s .space) hits-are space-is words lengths decided parents pairs order shown count found shown-pairs rules) fitted;
-      small = fitted .small;
-    }
+  -- that text fitted to the buffer is the report of the file
+  pub reported : {old new : Bytes} {r : Answer} → Fitted old (text) new r → (r ≡ reportAnswer f old) × (new ≡ reportLent f old)
+  unfolding reportFile
+  reported {old} {new} {r} fits =
+      let same = subst (λ t. Fitted old t new r) report-is fits in
+      (same .answers ∙ rw (held .is-read), same .lends ∙ rw (held .is-read))

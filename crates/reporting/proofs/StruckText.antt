@@ -28,7 +28,7 @@ use Rattle.trimmed_text.specs.Flags.{Clear, keptAt, trimmingAt, keptPlaces, kep
 use Rattle.trimmed_text.proofs.Trimmed.{trimmed-flags, kept-flags}
 use Rattle.trimmed_text.proofs.Table.{name-at}
 use Rattle.trimmed_text.proofs.Tabled.{first-change-is, rule-is, trimming-is}
-use Rattle.report_lines.specs.Lines.{struckLine, struckText, keptLine, keptText}
+use Rattle.report_lines.specs.Lines.{struckLine, keptLine, keptText}
 use Rattle.reporting.specs.Found.{none-struck, trimmedAt}
 use Rattle.reporting.proofs.Searched.{first-or}
 use Rattle.reporting.proofs.ChildPlaces.{count-is}
@@ -92,8 +92,8 @@ module _ (f : Bytes) (p : Policy) (h : read f ≡ given p) (table places : List 
       ∙ ap (λ t. map (nameOfPlace (p .elements)) (t .order)) (sym same-striking)
 
   -- the `X` lines
-  pub struck-are : struckText f places (trimmedAt table n hit space .order) ≡ gathered (λ m. line (struckFields m)) (trimmed f .struck)
-  unfolding struckText struckLine
+  pub struck-are : gathered (struckLine f places) (trimmedAt table n hit space .order) ≡ gathered (λ m. line (struckFields m)) (trimmed f .struck)
+  unfolding struckLine
   struck-are =
       let order = trimmedAt table n hit space .order in
       gathered-alike (struckLine f places) (λ i. line (struckFields (nameOfPlace (p .elements) i))) order (λ i m. ap (λ b. line (struckFields b)) (name i (struck-below table n hit space n none-struck i m)))

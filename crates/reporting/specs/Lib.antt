@@ -1,3 +1,3 @@
 -- What the contracts of reporting cite.
 pub mod Found
-pub mod Reported
+pub mod Held

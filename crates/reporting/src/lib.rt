@@ -1,15 +1,19 @@
 // The report of a policy that was read: everything is found once, then the same code counts the text and writes it.
+use meaning::Answer;
+use report_lines::put_conflicts;
+use report_lines::put_kept;
+use report_lines::put_segments;
+use report_lines::put_struck;
 use table::Shape;
 ghost use mathlib.Core.Path.{_≡_};
-ghost use mathlib.Core.List.{_++_};
 ghost use Prim.Native.Nat.{_≤_};
-ghost use lib.ListN.{length, drop};
+ghost use lib.ListN.{length};
+ghost use Rattle.meaning.specs.Operations.{reportAnswer, reportLent};
 ghost use Rattle.table.specs.Shape.{hitOf};
 ghost use Rattle.matching.specs.Hits.{Matched};
 ghost use Rattle.outcomes.specs.Ready.{Ready, Holds};
-ghost use Rattle.layout.specs.Places.{Naming};
 ghost use Rattle.reporting.specs.Found.{none-struck, SegmentsFound, ConflictsFound, RulesFound};
-ghost use Rattle.reporting.specs.Reported.{Reported};
+ghost use Rattle.reporting.specs.Held.{PolicyHeld};
 
 // Lays down which requests match each element, and what each request gets.
 fn find_decisions(table: &[u16], shape: Shape, hits: &mut [u64], told: &mut [u64])
@@ -84,47 +88,60 @@ fn find_rules(
     count
 }
 
-// Writes the report if the buffer has room for it. How long it is, is the result.
-pub fn report(file: &[u8], table: &[u16], places: &[usize], shape: Shape, out: &mut [u8]) -> usize
-    requires { ⌜ Ready (now table) none-struck shape × Naming (now file) (now places) (shape .n) ⌝ }
-    ensures { λ r. ⌜ Reported (now (file .entry)) (now (table .entry)) (now (places .entry)) shape (now (out .entry)) (now (out .exit)) r ⌝ }
+// Finds what there is to report besides decisions. The lines are counted first: where each kind starts is then known, and the same code writes them.
+fn write_lines(
+    file: &[u8],
+    table: &[u16],
+    places: &[usize],
+    shape: Shape,
+    hits: &[u64],
+    told: &[u64],
+    out: &mut [u8],
+) -> Answer
+    requires { ⌜ PolicyHeld (now file) (now table) (now places) shape × Matched (now table) (now hits) shape × (4096 ≤ length (now hits)) × Holds (now table) none-struck (now told) shape ⌝ }
+    ensures { λ r. ⌜ r ≡ reportAnswer (now (file .entry)) (now (out .entry)) ⌝ }
+    ensures { λ r. ⌜ now (out .exit) ≡ reportLent (now (file .entry)) (now (out .entry)) ⌝ }
 {
-    let n = shape.n;
-    let space = shape.space;
-    let mut hits = [0u64; 4096];
-    let mut told = [0u64; 128];
-    find_decisions(table, shape, &mut hits, &mut told);
     let mut words = [0u64; 4096];
     let mut sizes = [0u16; 4096];
     let mut decided = [0u8; 4096];
     let mut parents = [0usize; 64];
     let mut pairs = [0u16; 4096];
-    find_conflicts(table, &hits, shape, &mut words, &mut parents, &mut pairs);
+    find_conflicts(table, hits, shape, &mut words, &mut parents, &mut pairs);
     find_segments(
         table,
-        &hits,
+        hits,
         shape,
-        &told,
+        told,
         &mut words,
         &mut sizes,
         &mut decided,
     );
     let mut order = [0u8; 64];
     let mut shown = [0usize; 64];
-    let count = find_rules(table, &hits, shape, &told, &mut order, &mut shown);
-    report_lines::write_report(
-        file,
-        places,
-        n,
-        space,
-        &words,
-        &sizes,
-        &decided,
-        &parents,
-        &pairs,
-        &order,
-        count,
-        &shown,
-        out,
-    )
+    let count = find_rules(table, hits, shape, told, &mut order, &mut shown);
+    let mut none = [0u8; 0];
+    let conflicts = put_segments(file, places, shape, &words, &sizes, &decided, &mut none, 0);
+    let struck = put_conflicts(file, places, shape, &parents, &pairs, &mut none, conflicts);
+    let kept = put_struck(file, places, &order, count, &mut none, struck);
+    let needed = put_kept(file, places, shape, &shown, &mut none, kept);
+    let room = out.len();
+    let lent = &mut out[..printing::lend(needed, room)];
+    put_segments(file, places, shape, &words, &sizes, &decided, lent, 0);
+    put_conflicts(file, places, shape, &parents, &pairs, lent, conflicts);
+    put_struck(file, places, &order, count, lent, struck);
+    put_kept(file, places, shape, &shown, lent, kept);
+    printing::text_answer(needed, room)
+}
+
+// The report of the policy that was read from a file, in a lent buffer.
+pub fn report(file: &[u8], table: &[u16], places: &[usize], shape: Shape, out: &mut [u8]) -> Answer
+    requires { ⌜ PolicyHeld (now file) (now table) (now places) shape ⌝ }
+    ensures { λ r. ⌜ r ≡ reportAnswer (now (file .entry)) (now (out .entry)) ⌝ }
+    ensures { λ r. ⌜ now (out .exit) ≡ reportLent (now (file .entry)) (now (out .entry)) ⌝ }
+{
+    let mut hits = [0u64; 4096];
+    let mut told = [0u64; 128];
+    find_decisions(table, shape, &mut hits, &mut told);
+    write_lines(file, table, places, shape, &hits, &told, out)
 }

@@ -1,19 +1,18 @@
 -- The text of the lines left, line by line: where each line lies, and what it adds to the text.
-use mathlib.Core.Path.{_≡_, sym, ap, _∙_}
-use Prim.Native.Nat.{ℕ, suc, _+_, _-_, _≤_, _<_}
-use native.Mathlib.Nat.{zero-add}
+use mathlib.Core.Path.{_≡_, subst}
+use Prim.Native.Nat.{ℕ, _+_, _-_, _≤_, _<_}
 use native.Mathlib.Omega.{arith}
 use mathlib.Core.Bool.{cond}
-use mathlib.Core.List.{List, [], _++_}
+use mathlib.Core.List.{List}
 use lib.Dec.{ltb}
-use lib.ListN.{length, take, drop, getD, length-append, length-drop}
+use lib.ListN.{length, drop, getD, length-drop}
 use lib.Seq.{length-take-le}
 use borrow.Author.Tests.{ltb-true, lt-ltb, le-ltb, eq-eqb, ne-eqb}
 use Rattle.meaning.specs.Text.{Bytes}
 use Rattle.laws.proofs.Bools.{Test, passed, failed, test}
 use Rattle.layout.specs.Places.{part, startOf}
-use Rattle.trimmed_text.specs.Copied.{lineEnd, pieceAt, copiedFrom, copied, Copies, Piece}
-use Rattle.trimmed_text.proofs.Laying.{Laid, laid-none, laid-next}
+use Rattle.printing.specs.Wrote.{Wrote}
+use Rattle.trimmed_text.specs.Copied.{lineEnd, pieceAt, Copies, Piece}
 
 length-part : (f : Bytes) (a b : ℕ) → b ≤ length f → length (part f a b) ≡ b - a
 length-part f a b l = length-take-le (b - a) (drop a f) (omega (arith, length-drop a f))
@@ -53,51 +52,13 @@ module _ (f : Bytes) (places struck : List ℕ) (n : ℕ) where
     pub piece-last : getD struck i 0 ≡ 0 → n ≤ i + 1 → Piece f places struck n i (length f)
     piece-last flag none = let e = reached-end f places n (i + 1) none in rw e at (piece-left flag (rw e (omega arith)))
 
-  -- The text from element i on
-  abbrev pub rest : ℕ → Bytes
-  rest i = copiedFrom f places struck n i (n - i)
-
-  rest-next : (i : ℕ) → i < n → rest i ≡ pieceAt f places struck n i ++ rest (i + 1)
-  unfolding copiedFrom
-  rest-next i l = let more : n - i ≡ suc (n - (i + 1)) = omega arith in rw more
-
-  pub rest-end : (i : ℕ) → n ≤ i → rest i ≡ []
-  unfolding copiedFrom
-  rest-end i l = let none : n - i ≡ 0 = omega arith in rw none
-
-  copied-rest : copied f places struck n ≡ part f 0 (startOf places 0) ++ rest 0
-  unfolding copied
-  copied-rest = let all : n - 0 ≡ n = omega arith in rw all
-
-  rest-piece : (i e : ℕ) → i < n → Piece f places struck n i e → rest i ≡ part f (startOf places i) e ++ rest (i + 1)
-  rest-piece i e l p = rest-next i l ∙ ap (λ x. x ++ rest (i + 1)) (sym (p .is))
-
-  -- Their lengths
   pub length-head : Copies f places struck n → length (part f 0 (startOf places 0)) ≡ startOf places 0
   length-head h = omega (arith, length-part f 0 (startOf places 0) (h .inside 0 (h .some)))
 
-  pub length-copied : Copies f places struck n → length (copied f places struck n) ≡ startOf places 0 + length (rest 0)
-  length-copied h = ap length copied-rest ∙ length-append (part f 0 (startOf places 0)) (rest 0) ∙ rw (length-head h)
+  -- one more line left: how long it is, and stored behind the others
+  module _ (i e : ℕ) (p : Piece f places struck n i e) where
+    pub length-piece : length (part f (startOf places i) e) ≡ e - startOf places i
+    length-piece = length-part f (startOf places i) e (p .inside)
 
-  pub length-piece : (i e : ℕ) → Piece f places struck n i e → length (part f (startOf places i) e) ≡ e - startOf places i
-  length-piece i e p = length-part f (startOf places i) e (p .inside)
-
-  pub length-rest : (i e : ℕ) → i < n → Piece f places struck n i e → length (rest i) ≡ (e - startOf places i) + length (rest (i + 1))
-  length-rest i e l p = ap length (rest-piece i e l p) ∙ length-append (part f (startOf places i) e) (rest (i + 1)) ∙ rw (length-piece i e p)
-
-  -- The text laid up to element i: the bytes before the first element's line, and then piece by piece
-  module _ (whole : Bytes) where
-    abbrev pub LaidTo : Bytes → ℕ → ℕ → Type 0
-    LaidTo out at i = Laid (copied f places struck n) whole out (rest i) at
-
-    pub laid-head : Copies f places struck n → (out : Bytes) → length (copied f places struck n) ≤ length whole → let head = part f 0 (startOf places 0) in out ≡ take 0 whole ++ head ++ drop (0 + length head) whole → LaidTo out (startOf places 0) 0
-    laid-head h out l e =
-        let text = copied f places struck n in
-        let start = startOf places 0 in
-        let head = part f 0 start in
-        rw zero-add at (laid-next text whole whole 0 head (rest 0) out start (sym (length-head h)) e (laid-none text whole (head ++ rest 0) l copied-rest))
-
-    pub laid-piece : (i end : ℕ) → i < n → Piece f places struck n i end → (out next : Bytes) (at : ℕ) → let piece = part f (startOf places i) end in next ≡ take at out ++ piece ++ drop (at + length piece) out → LaidTo out at i → LaidTo next (at + (end - startOf places i)) (i + 1)
-    laid-piece i end l p out next at e laid =
-        let start = startOf places i in
-        laid-next (copied f places struck n) whole out at (part f start end) (rest (i + 1)) next (end - start) (sym (length-piece i end p)) e (rw (rest-piece i end l p) at laid)
+    pub piece-stored : {y z : List ℕ} {m k : ℕ} → Wrote y m (part f (startOf places i) e) z k → Wrote y m (pieceAt f places struck n i) z k × (k ≤ m + length f)
+    piece-stored {y} {z} {m} {k} w = (subst (λ t. Wrote y m t z k) (p .is) w, omega (arith, w .moved, length-piece, p .inside))

@@ -6,6 +6,5 @@ pub mod Kept
 pub mod Trimmed
 pub mod Table
 pub mod Placed
-pub mod Laying
 pub mod Copying
 pub mod Tabled

@@ -9,7 +9,7 @@ use mathlib.Core.List.{List, [], _∷_, _++_, append-assoc}
 use lib.ListN.{length, getD, take, drop, take-append-drop, length-append, length-drop}
 use lib.Seq.{take-suc, drop-cons, take-append-seam, drop-append-seam}
 use borrow.Author.Tests.{lt-ltb, le-ltb}
-use Rattle.meaning.specs.Text.{Bytes, cut, front, newline}
+use Rattle.meaning.specs.Text.{Bytes, cut, front, gathered, counting, newline}
 use Rattle.meaning.specs.Model.{Policy, given}
 use Rattle.meaning.specs.Reading.{read}
 use Rattle.meaning.specs.Trimming.{lines}
@@ -19,7 +19,7 @@ use Rattle.laws.proofs.Lines.{unlines, unlines-append, text-unlines}
 use Rattle.laws.proofs.ElementLines.{file-count}
 use Rattle.layout.specs.Places.{part, startOf, lineStart, Lined}
 use Rattle.trimmed_text.specs.Flags.{isLeft, leftFrom, textLeft}
-use Rattle.trimmed_text.specs.Copied.{lineEnd, pieceAt, copiedFrom, copied}
+use Rattle.trimmed_text.specs.Copied.{lineEnd, pieceAt, copied}
 
 free-at : (ls : List Bytes) (k : ℕ) → Frees newline ls → Free newline (getD ls k [])
 free-at [] k free = tt
@@ -117,13 +117,14 @@ module _ (f : Bytes) (p : Policy) (h : read f ≡ given p) (places struck : List
   pick true x later = refl
   pick false x later = refl
 
-  copied-left : (i k : ℕ) → i + k ≡ n → copiedFrom f places struck n i k ≡ unlines (leftFrom struck i (drop (a + i) own))
-  unfolding copiedFrom leftFrom
+  copied-left : (i k : ℕ) → i + k ≡ n → gathered (pieceAt f places struck n) (counting i k) ≡ unlines (leftFrom struck i (drop (a + i) own))
+  unfolding leftFrom
   copied-left i zero e = let all-gone : drop (a + i) own ≡ [] = drop-all own (a + i) (omega (arith, count)) in rw all-gone
   copied-left i (suc k) e =
       let later = leftFrom struck (i + 1) (drop (suc (a + i)) own) in
-      let next : a + (i + 1) ≡ suc (a + i) = omega arith in
-      ap₂ (λ x y. x ++ y) (piece-is i (omega arith)) (copied-left (i + 1) k (omega arith) ∙ ap (λ m. unlines (leftFrom struck (i + 1) (drop m own))) next)
+      let next : suc i ≡ i + 1 = omega arith in
+      let behind : a + suc i ≡ suc (a + i) = omega arith in
+      ap₂ (λ x y. x ++ y) (piece-is i (omega arith)) (copied-left (suc i) k (omega arith) ∙ ap₂ (λ j m. unlines (leftFrom struck j (drop m own))) next behind)
       ∙ pick (isLeft struck i) (getD own (a + i) []) later
       ∙ ap (λ ms. unlines (leftFrom struck i ms)) (sym (drop-cons own (a + i) [] (omega (arith, count))))
 

@@ -1,8 +1,7 @@
 // The text of the lines left, by the places of the elements and their flags; specs/ and proofs/ say what trimming on flags is.
-ghost use mathlib.Core.Path.{_≡_};
-ghost use mathlib.Core.List.{_++_};
-ghost use Prim.Native.Nat.{_+_, _≤_, _<_};
-ghost use lib.ListN.{length, take, drop};
+ghost use Prim.Native.Nat.{_≤_, _<_};
+ghost use lib.ListN.{length};
+ghost use Rattle.printing.specs.Wrote.{Wrote};
 ghost use Rattle.trimmed_text.specs.Copied.{copied, Copies, Piece};
 
 // Where what is left of element i's line ends: behind its newline, or where it starts if it is struck.
@@ -19,46 +18,19 @@ fn piece_end(file: &[u8], places: &[usize], struck: &[u8], n: usize, i: usize) -
     file.len()
 }
 
-// How long the text of the lines left is.
-pub fn text_length(file: &[u8], places: &[usize], struck: &[u8], n: usize) -> usize
+// Lays down the bytes before the first element's line, and the lines left. How long they are, is the result.
+pub fn put_text(file: &[u8], places: &[usize], struck: &[u8], n: usize, out: &mut [u8]) -> usize
     requires { ⌜ Copies (now file) (now places) (now struck) n ⌝ }
-    ensures { λ r. ⌜ r ≡ length (copied (now (file .entry)) (now (places .entry)) (now (struck .entry)) n) ⌝ }
-    ensures within { λ r. ⌜ r ≤ length (now (file .entry)) ⌝ }
+    ensures { λ r. ⌜ Wrote (now (out .entry)) 0 (copied (now (file .entry)) (now (places .entry)) (now (struck .entry)) n) (now (out .exit)) r × (r ≤ length (now (file .entry))) ⌝ }
 {
-    let mut len = places[0];
-    let mut i = 0;
-    while i < n {
-        len += piece_end(file, places, struck, n, i) - places[2 * i];
-        i += 1;
-    }
-    len
-}
-
-// Lays bytes into `out` from `at` on.
-fn put(bytes: &[u8], out: &mut [u8], at: usize)
-    requires { ⌜ at + length (now bytes) ≤ length (now out) ⌝ }
-    ensures { λ _. ⌜ now (out .exit) ≡ take at (now (out .entry)) ++ now (bytes .entry) ++ drop (at + length (now (bytes .entry))) (now (out .entry)) ⌝ }
-{
-    let mut j = 0;
-    while j < bytes.len() {
-        out[at + j] = bytes[j];
-        j += 1;
-    }
-}
-
-// Lays the text of the lines left into `out`; what lies behind it stays.
-pub fn copy_text(file: &[u8], places: &[usize], struck: &[u8], n: usize, out: &mut [u8])
-    requires { ⌜ Copies (now file) (now places) (now struck) n × (length (copied (now file) (now places) (now struck) n) ≤ length (now out)) ⌝ }
-    ensures { λ _. ⌜ now (out .exit) ≡ copied (now (file .entry)) (now (places .entry)) (now (struck .entry)) n ++ drop (length (copied (now (file .entry)) (now (places .entry)) (now (struck .entry)) n)) (now (out .entry)) ⌝ }
-{
-    let mut at = places[0];
-    put(&file[0..at], out, 0);
+    let first = places[0];
+    let mut at = printing::put_bytes(out, 0, &file[0..first]);
     let mut i = 0;
     while i < n {
         let start = places[2 * i];
         let end = piece_end(file, places, struck, n, i);
-        put(&file[start..end], out, at);
-        at += end - start;
+        at = printing::put_bytes(out, at, &file[start..end]);
         i += 1;
     }
+    at
 }

@@ -1,20 +1,10 @@
--- `jogimaduve_report` meets its contract: the file's refusal, a buffer too short, or the report.
-use mathlib.Core.Path.{refl, sym, ap, _∙_, subst}
-use native.Mathlib.Omega.{arith}
-use Rattle.layout.specs.Places.{Naming}
-use Rattle.reader.proofs.FileRead.{small-numbers, file-read, naming}
-use Rattle.jogimaduve.proofs.Shaping.{ready}
-use Rattle.jogimaduve.proofs.Reporting.{refusal-answered, refusal-lent, report-answered, report-lent}
+-- `jogimaduve_report` meets its contract: the file's refusal, or the report.
+use mathlib.Core.Path.{_∙_}
+use Rattle.reader.proofs.FileRead.{small-numbers, file-read}
+use Rattle.jogimaduve.proofs.Reporting.{refusal-answered, refusal-lent, held}
 use borrow.Author.Needs.{needs}
 use Rattle.jogimaduve.proofs.jogimaduve_report.Statement.{statement}
 use Rattle.jogimaduve.proofs.jogimaduve_report.Tie as tie
-use Rattle.jogimaduve.proofs.jogimaduve_report.Reads as reads
-use Rattle.jogimaduve.proofs.jogimaduve_report.Lts as lts
-use Rattle.jogimaduve.proofs.shape_of.Reads as shape-of-reads
-use Rattle.jogimaduve.proofs.text_answer.Reads as text-answer-reads
-use Rattle.reader.proofs.read.Reads as read-reads
-use Rattle.reader.proofs.refusal.Reads as refusal-reads
-use Rattle.reporting.proofs.report.Reads as report-reads
 
 refusal-requires : tie.Need-refusal-requires
 refusal-requires c κs = small-numbers _ _ _ _ (c .before .before .before .before .read .ensures .answer) (c .if1 .taken)
@@ -27,15 +17,8 @@ returns c =
 
 report-requires : tie.Need-report-requires
 report-requires c κs =
-    let read-well = file-read _ _ _ _ (c .before .before .before .before .before .before .before .before .read .ensures .answer) (c .before .before .before .before .if1 .left) in
-    (ready _ _ _ _ (read-well .0) (read-well .1) (read-well .2) _ (c .before .shape-of .ensures) _ (omega arith) refl, subst (Naming _ _) (sym (ap (λ s. s .n) (c .before .shape-of .ensures))) (naming _ _ _ _ (read-well .0) (read-well .1) (read-well .2)))
-
-returns-2 : tie.Need-returns-2
-returns-2 c =
-    let read-well = file-read _ _ _ _ (c .before .before .before .before .before .before .before .before .before .before .before .before .read .ensures .answer) (c .before .before .before .before .before .before .before .before .if1 .left) in
-    let shaped = c .before .before .before .before .before .shape-of .ensures in
-    let reported = c .before .before .before .report .ensures in
-    (c .text-answer .ensures ∙ report-answered _ _ _ _ (read-well .0) (read-well .1) (read-well .2) _ shaped _ _ _ reported, report-lent _ _ _ _ (read-well .0) (read-well .1) (read-well .2) _ shaped _ _ _ reported)
+    let (p, h, holds) = file-read _ _ _ _ (c .before .before .before .before .before .before .before .before .read .ensures .answer) (c .before .before .before .before .if1 .left) in
+    held _ _ _ _ p h holds _ (c .before .shape-of .ensures)
 
 pub jogimaduve-report-spec : {M : Type 1} → statement M
 jogimaduve-report-spec =
@@ -50,6 +33,5 @@ jogimaduve-report-spec =
     (λ c. search needs)
     (λ c κs. search needs)
     report-requires
-    (λ c κs. search needs)
     (λ c. search needs)
-    returns-2)
+    (λ c. search needs))

@@ -1,21 +1,14 @@
--- `jogimaduve_trim` meets its contract: the file's refusal, a buffer too short, or the trimmed text.
-use mathlib.Core.Path.{refl, _∙_}
+-- `jogimaduve_trim` meets its contract: the file's refusal, or the trimmed text fitted to the buffer.
+use mathlib.Core.Path.{refl, sym, _∙_}
 use native.Mathlib.Omega.{arith}
+use lib.Seq.{length-take-le}
+use Rattle.printing.proofs.Fitting.{written}
 use Rattle.reader.proofs.FileRead.{small-numbers, file-read}
 use Rattle.jogimaduve.proofs.Shaping.{ready, copies}
-use Rattle.jogimaduve.proofs.Trimming.{refusal-answered, refusal-lent, small-text, trim-answered, short-lent, text-lent}
+use Rattle.jogimaduve.proofs.Trimming.{refusal-answered, refusal-lent, small-text, trim-fitted}
 use borrow.Author.Needs.{needs}
 use Rattle.jogimaduve.proofs.jogimaduve_trim.Statement.{statement}
 use Rattle.jogimaduve.proofs.jogimaduve_trim.Tie as tie
-use Rattle.jogimaduve.proofs.jogimaduve_trim.Reads as reads
-use Rattle.jogimaduve.proofs.jogimaduve_trim.Lts as lts
-use Rattle.jogimaduve.proofs.shape_of.Reads as shape-of-reads
-use Rattle.jogimaduve.proofs.strike.Reads as strike-reads
-use Rattle.jogimaduve.proofs.text_answer.Reads as text-answer-reads
-use Rattle.reader.proofs.read.Reads as read-reads
-use Rattle.reader.proofs.refusal.Reads as refusal-reads
-use Rattle.trimmed_text.proofs.copy_text.Reads as copy-text-reads
-use Rattle.trimmed_text.proofs.text_length.Reads as text-length-reads
 
 refusal-requires : tie.Need-refusal-requires
 refusal-requires c κs = small-numbers _ _ _ _ (c .before .before .before .before .read .ensures .answer) (c .if1 .taken)
@@ -28,46 +21,32 @@ returns c =
 
 strike-requires : tie.Need-strike-requires
 strike-requires c κs =
-    let read-well = file-read _ _ _ _ (c .before .before .before .before .before .before .before .read .ensures .answer) (c .before .before .before .if1 .left) in
-    ready _ _ _ _ (read-well .0) (read-well .1) (read-well .2) _ (c .shape-of .ensures) _ (omega arith) refl
+    let (p, h, holds) = file-read _ _ _ _ (c .before .before .before .before .before .before .before .read .ensures .answer) (c .before .before .before .if1 .left) in
+    ready _ _ _ _ p h holds _ (c .shape-of .ensures) _ (omega arith) refl
 
-text-length-requires : tie.Need-text-length-requires
-text-length-requires c κs =
-    let read-well = file-read _ _ _ _ (c .before .before .before .before .before .before .before .before .before .before .before .read .ensures .answer) (c .before .before .before .before .before .before .before .if1 .left) in
-    copies _ _ _ _ (read-well .0) (read-well .1) (read-well .2) _ (omega arith)
+put-text-requires : tie.Need-put-text-requires
+put-text-requires c κs =
+    let (p, h, holds) = file-read _ _ _ _ (c .before .before .before .before .before .before .before .before .before .before .before .before .read .ensures .answer) (c .before .before .before .before .before .before .before .before .if1 .left) in
+    copies _ _ _ _ p h holds _ (omega arith)
+
+slice-aggregate-put-text-6 : tie.Need-slice-aggregate-put-text-6
+slice-aggregate-put-text-6 c = sym (length-take-le _ _ (c .before .before .before .lend .ensures .1))
+
+put-text-requires-2 : tie.Need-put-text-requires-2
+put-text-requires-2 c κs =
+    let (p, h, holds) = file-read _ _ _ _ (c .before .before .before .before .before .before .before .before .before .before .before .before .before .before .before .before .before .before .read .ensures .answer) (c .before .before .before .before .before .before .before .before .before .before .before .before .before .before .if1 .left) in
+    copies _ _ _ _ p h holds _ (omega arith)
 
 text-answer-requires : tie.Need-text-answer-requires
 text-answer-requires c κs =
-    let read-well = file-read _ _ _ _ (c .before .before .before .before .before .before .before .before .before .before .before .before .before .read .ensures .answer) (c .before .before .before .before .before .before .before .before .before .if1 .left) in
-    small-text _ _ _ _ (read-well .0) (read-well .1) (read-well .2) _ (c .before .before .before .before .before .before .shape-of .ensures) _ (c .before .before .before .before .before .strike .ensures) _ (c .before .text-length .ensures .1)
+    let (p, h, holds) = file-read _ _ _ _ (c .before .before .before .before .before .before .before .before .before .before .before .before .before .before .before .before .before .before .before .before .before .read .ensures .answer) (c .before .before .before .before .before .before .before .before .before .before .before .before .before .before .before .before .before .if1 .left) in
+    small-text _ p h _ (c .before .before .before .before .before .before .before .before .put-text .ensures .1)
 
 returns-2 : tie.Need-returns-2
 returns-2 c =
-    let read-well = file-read _ _ _ _ (c .before .before .before .before .before .before .before .before .before .before .before .before .before .before .read .ensures .answer) (c .before .before .before .before .before .before .before .before .before .before .if1 .left) in
-    let shaped = c .before .before .before .before .before .before .before .shape-of .ensures in
-    let flags = c .before .before .before .before .before .before .strike .ensures in
-    let needed = c .before .before .text-length .ensures .0 in
-    let out = c .before .before .before .before .before .before .before .before .before .before .before .before .before .before .before .before .before .before .before .args .out .now in
-    (c .text-answer .ensures ∙ trim-answered _ _ _ _ (read-well .0) (read-well .1) (read-well .2) _ shaped _ flags out _ needed, short-lent _ _ _ _ (read-well .0) (read-well .1) (read-well .2) _ shaped _ flags out _ needed (c .before .if2 .taken))
-
-copy-text-requires : tie.Need-copy-text-requires
-copy-text-requires c κs =
-    let read-well = file-read _ _ _ _ (c .before .before .before .before .before .before .before .before .before .before .before .before .before .before .before .before .read .ensures .answer) (c .before .before .before .before .before .before .before .before .before .before .before .before .if1 .left) in
-    (copies _ _ _ _ (read-well .0) (read-well .1) (read-well .2) _ (omega arith), omega (arith, c .before .before .before .before .text-length .ensures .0, c .before .before .before .if2 .left))
-
-text-answer-requires-2 : tie.Need-text-answer-requires-2
-text-answer-requires-2 c κs =
-    let read-well = file-read _ _ _ _ (c .before .before .before .before .before .before .before .before .before .before .before .before .before .before .before .before .before .before .before .read .ensures .answer) (c .before .before .before .before .before .before .before .before .before .before .before .before .before .before .before .if1 .left) in
-    small-text _ _ _ _ (read-well .0) (read-well .1) (read-well .2) _ (c .before .before .before .before .before .before .before .before .before .before .before .before .shape-of .ensures) _ (c .before .before .before .before .before .before .before .before .before .before .before .strike .ensures) _ (c .before .before .before .before .before .before .before .text-length .ensures .1)
-
-returns-3 : tie.Need-returns-3
-returns-3 c =
-    let read-well = file-read _ _ _ _ (c .before .before .before .before .before .before .before .before .before .before .before .before .before .before .before .before .before .before .before .before .read .ensures .answer) (c .before .before .before .before .before .before .before .before .before .before .before .before .before .before .before .before .if1 .left) in
-    let shaped = c .before .before .before .before .before .before .before .before .before .before .before .before .before .shape-of .ensures in
-    let flags = c .before .before .before .before .before .before .before .before .before .before .before .before .strike .ensures in
-    let needed = c .before .before .before .before .before .before .before .before .text-length .ensures .0 in
-    let out = c .before .before .before .before .before .before .before .before .before .before .before .before .before .before .before .before .before .before .before .before .before .before .before .before .before .args .out .now in
-    (c .text-answer2 .ensures ∙ trim-answered _ _ _ _ (read-well .0) (read-well .1) (read-well .2) _ shaped _ flags out _ needed, c .before .before .before .copy-text .ensures ∙ text-lent _ _ _ _ (read-well .0) (read-well .1) (read-well .2) _ shaped _ flags out _ needed (c .before .before .before .before .before .before .before .if2 .left))
+    let (p, h, holds) = file-read _ _ _ _ (c .before .before .before .before .before .before .before .before .before .before .before .before .before .before .before .before .before .before .before .before .before .before .read .ensures .answer) (c .before .before .before .before .before .before .before .before .before .before .before .before .before .before .before .before .before .before .if1 .left) in
+    trim-fitted _ _ _ _ p h holds _ (c .before .before .before .before .before .before .before .before .before .before .before .before .before .before .before .shape-of .ensures) _ (c .before .before .before .before .before .before .before .before .before .before .before .before .before .before .strike .ensures)
+    (written (c .before .before .before .before .before .before .before .before .before .put-text .ensures .0) (c .before .before .before .before .before .before .before .before .before .before .before .before .before .before .before .before .before .before .before .before .before .before .before .before .before .before .before .args .out .now) _ (c .before .before .before .before .before .before .before .lend .ensures .0) (c .before .before .before .put-text2 .ensures .0) (c .text-answer .ensures))
 
 pub jogimaduve-trim-spec : {M : Type 1} → statement M
 jogimaduve-trim-spec =
@@ -84,12 +63,14 @@ jogimaduve-trim-spec =
     strike-requires
     (λ c. search needs)
     (λ c. search needs)
-    text-length-requires
+    (λ c. search needs)
+    put-text-requires
+    (λ c κs. search needs)
+    (λ c. search needs)
+    (λ c. search needs)
+    (λ c. search needs)
+    slice-aggregate-put-text-6
+    put-text-requires-2
     text-answer-requires
-    returns-2
     (λ c. search needs)
-    (λ c. search needs)
-    copy-text-requires
-    text-answer-requires-2
-    (λ c. search needs)
-    returns-3)
+    returns-2)

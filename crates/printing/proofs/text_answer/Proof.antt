@@ -1,9 +1,9 @@
 use borrow.Author.Tests.{lt-ltb, le-ltb}
 use borrow.Author.Needs.{needs}
-use Rattle.jogimaduve.proofs.text_answer.Statement.{statement}
-use Rattle.jogimaduve.proofs.text_answer.Tie as tie
-use Rattle.jogimaduve.proofs.text_answer.Reads as reads
-use Rattle.jogimaduve.proofs.text_answer.Lts as lts
+use Rattle.printing.proofs.text_answer.Statement.{statement}
+use Rattle.printing.proofs.text_answer.Tie as tie
+use Rattle.printing.proofs.text_answer.Reads as reads
+use Rattle.printing.proofs.text_answer.Lts as lts
 
 returns : tie.Need-returns
 returns c = rw (lt-ltb _ _ (c .if1 .taken))
