@@ -1,5 +1,5 @@
 -- The elements of a list by value.
-use Prim.Native.Nat.{ℕ, _+_}
+use Prim.Native.Nat.{_+_, min}
 use mathlib.Core.List.{List}
 use lib.ListN.{take, set, replicate}
 use Rattle.meaning.specs.declared.Kind.the-variants.{Rule}
@@ -17,6 +17,10 @@ noElements = record { all = replicate 65 blank; len = 0 }
 -- one element more
 abbrev pub withElement : Elements → Element → Elements
 withElement l e = record { all = set (l .all) (l .len) e; len = l .len + 1 }
+
+-- no more than its places
+abbrev pub heldIn : Elements → Elements
+heldIn l = record { all = l .all; len = min (l .len) 65 }
 
 -- the elements themselves
 abbrev pub elementsOf : Elements → List Element

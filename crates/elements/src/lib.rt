@@ -4,7 +4,7 @@ use meaning::Kind;
 use meaning::Word;
 ghost use mathlib.Core.Path.{_≡_};
 ghost use Prim.Native.Nat.{_-_, _^_, _≤_, _<_};
-ghost use Rattle.elements.specs.Listed.{noElements, withElement};
+ghost use Rattle.elements.specs.Listed.{noElements, withElement, heldIn};
 
 // The first `len` elements; the places behind them don't matter.
 pub struct Elements {
@@ -37,6 +37,17 @@ pub fn with_element(list: Elements, e: Element) -> Elements
     let at = list.len;
     all[at] = e;
     Elements { all, len: at + 1 }
+}
+
+// The list with no more elements than it has places.
+pub fn held(list: Elements) -> Elements
+    ensures { λ r. ⌜ r ≡ heldIn list ⌝ }
+{
+    if 65 < list.len {
+        let all = list.all;
+        return Elements { all, len: 65 };
+    }
+    list
 }
 
 // The mask of so many values, all of them.

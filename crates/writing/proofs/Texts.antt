@@ -1,10 +1,9 @@
--- A text that was counted: too long for a file, too long for the buffer, or written.
-use mathlib.Core.Path.{_≡_, sym, ap, _∙_}
+-- A text that was counted: too long for a file, or fitted to the buffer.
+use mathlib.Core.Path.{_≡_, _∙_}
 use Prim.Native.Nat.{ℕ, _≤_, _<_}
 use native.Mathlib.Nat.{zero-add}
-use native.Mathlib.Omega.{arith}
-use mathlib.Core.List.{List, _++_}
-use lib.ListN.{length, drop}
+use mathlib.Core.List.{List}
+use lib.ListN.{length}
 use borrow.Author.Tests.{lt-ltb, le-ltb}
 use Rattle.meaning.specs.declared.Answer.{Answer}
 use Rattle.meaning.specs.Text.{Bytes}
@@ -13,7 +12,7 @@ use Rattle.meaning.specs.Reading.{short}
 use Rattle.meaning.specs.Report.{fitted}
 use Rattle.meaning.specs.Operations.{answered, lent}
 use Rattle.printing.specs.Wrote.{Wrote}
-use Rattle.printing.proofs.Laws.{at-start}
+use Rattle.printing.specs.Fitted.{Fitted}
 
 abbrev pub told : ℕ → ℕ → Answer
 told n m = record { number = n; second = m }
@@ -33,12 +32,5 @@ module _ {x y text : List ℕ} {m : ℕ} (old : List ℕ) (count : Wrote x 0 tex
     short-is : short text ≡ given text
     short-is = rw (← counted, le-ltb 16384 m fine)
 
-    pub too-short : length old < m → Gives text old old (told 11 m)
-    too-short l = (rw (short-is, ← counted, lt-ltb (length old) m l), rw (short-is, ← counted, lt-ltb (length old) m l))
-
-    pub whole : {new : List ℕ} {r : ℕ} → m ≤ length old → Wrote old 0 text new r → Gives text old new (told 0 r)
-    whole {new} {r} l w =
-        let is : r ≡ length text = w .moved ∙ zero-add (length text) in (
-          rw (short-is, ← counted, le-ltb (length old) m l) (ap (told 0) is),
-          at-start w (omega (arith, counted)) ∙ rw (short-is, ← counted, le-ltb (length old) m l) (ap (λ k. text ++ drop k old) counted),
-        )
+    pub short-enough : {new : List ℕ} {r : Answer} → Fitted old text new r → Gives text old new r
+    short-enough fits = (fits .answers ∙ rw short-is, fits .lends ∙ rw short-is)

@@ -5,6 +5,7 @@ use native.Mathlib.Omega.{arith}
 use mathlib.Core.List.{List, [], _∷_, _++_, reverse}
 use lib.ListN.{length, take, getD}
 use lib.Seq.{length-take-le, getD-take}
+use Rattle.meaning.specs.declared.Answer.{Answer}
 use Rattle.meaning.specs.declared.Element.{Element}
 use Rattle.meaning.specs.Text.{Bytes, gathered, line}
 use Rattle.meaning.specs.Model.{Result, refused, given, _then_, sizes}
@@ -48,6 +49,10 @@ small-at : (es : List Element) (i : ℕ) → All Small es → i < length es → 
 small-at [] i a l = absurd (omega arith)
 small-at (e ∷ es) zero a l = a .0
 small-at (e ∷ es) (suc i) a l = small-at es i (a .1) (omega arith)
+
+-- the answer and the buffer depend on the elements alone
+pub of-held : (header old : Bytes) {new : Bytes} {es fs : List Element} {x : Answer} → es ≡ fs → (x ≡ writeAnswer header es old) × (new ≡ writeLent header es old) → (x ≡ writeAnswer header fs old) × (new ≡ writeLent header fs old)
+of-held header old {new} {x = x} e w = subst (λ gs. (x ≡ writeAnswer header gs old) × (new ≡ writeLent header gs old)) e w
 
 module _ (header : Bytes) (r : Header) (is : HeaderAs header r (short header then (readText headerTests))) (old : Bytes) where
   pub small-header : (r .number ≡ 0 → ⊥) → (r .number < 4294967296) × (r .second < 4294967296)

@@ -4,7 +4,6 @@ use layout::Attributes;
 use meaning::Answer;
 ghost use mathlib.Core.Path.{_≡_};
 ghost use mathlib.Core.List.{_++_};
-ghost use Prim.Native.Nat.{_≤_};
 ghost use lib.ListN.{length};
 ghost use Rattle.meaning.specs.Text.{gathered, line};
 ghost use Rattle.meaning.specs.Model.{_then_};
@@ -30,25 +29,18 @@ fn write_text(header: &[u8], a: Attributes, list: Elements, out: &mut [u8]) -> A
             second: 0,
         };
     }
-    if out.len() < needed {
-        return Answer {
-            number: 11,
-            second: needed as u32,
-        };
-    }
-    let written = treelines::put_file(header, a, list, out);
-    Answer {
-        number: 0,
-        second: written as u32,
-    }
+    let room = out.len();
+    let part = printing::lend(needed, room);
+    treelines::put_file(header, a, list, &mut out[..part]);
+    printing::text_answer(needed, room)
 }
 
 // The file of some attribute lines and a list of elements, in a lent buffer.
 pub fn write(header: &[u8], list: Elements, out: &mut [u8]) -> Answer
-    requires { ⌜ list .len ≤ 65 ⌝ }
     ensures { λ r. ⌜ r ≡ writeAnswer (now (header .entry)) (elementsOf list) (now (out .entry)) ⌝ }
     ensures { λ r. ⌜ now (out .exit) ≡ writeLent (now (header .entry)) (elementsOf list) (now (out .entry)) ⌝ }
 {
+    let held = elements::held(list);
     let read = header::read_header(header);
     if read.number != 0 {
         return Answer {
@@ -58,18 +50,18 @@ pub fn write(header: &[u8], list: Elements, out: &mut [u8]) -> Answer
     }
     let a = read.attributes;
     let counts = a.counts;
-    let checked = checking::check_elements(counts, a.len, list);
+    let checked = checking::check_elements(counts, a.len, held);
     if checked.number != 0 {
         return Answer {
             number: checked.number as u32,
             second: checked.line as u32,
         };
     }
-    if list.len == 0 {
+    if held.len == 0 {
         return Answer {
             number: 9,
             second: 0,
         };
     }
-    write_text(header, a, list, out)
+    write_text(header, a, held, out)
 }

@@ -123,8 +123,8 @@ module _ {M : Type 1} (𝓤 : URA M) (H : Heap 𝓤) (A : Atoms 𝓤) (W : Given
   abbrev to-write : Elements → Val → Write 𝓤 H A mem run .Ghost
   to-write t u = (((κ, (κ″, tt)), (q, (q″, tt)), tt, (src, (t, (y, tt))), (vh ∷ [], (u ∷ [], (vo ∷ [], tt)))), tt)
 
-  goes-write : (t : Elements) (u : Val) → t .len ≤ 65 → ent 𝓤 (onEntry 𝓤 H A write.signature (κ, (κ″, tt)) (q, (q″, tt)) (src, (t, (y, tt))) (vh ∷ [], (u ∷ [], (vo ∷ [], tt)))) (Write 𝓤 H A mem run .pre (to-write t u))
-  goes-write t u few = qed W (Toks ∷ ‵ (owns (ShrSlice (named 0) κ u8 ∷ R ∷ MutSlice (named 1) κ″ u8 ∷ []) (src, (t, (y, tt))) (vh ∷ [], (u ∷ [], (vo ∷ [], tt)))) ∷ []) ∵ says ! few $ frame ! $ done !
+  goes-write : (t : Elements) (u : Val) → ent 𝓤 (onEntry 𝓤 H A write.signature (κ, (κ″, tt)) (q, (q″, tt)) (src, (t, (y, tt))) (vh ∷ [], (u ∷ [], (vo ∷ [], tt)))) (Write 𝓤 H A mem run .pre (to-write t u))
+  goes-write t u = qed W (Toks ∷ ‵ (owns (ShrSlice (named 0) κ u8 ∷ R ∷ MutSlice (named 1) κ″ u8 ∷ []) (src, (t, (y, tt))) (vh ∷ [], (u ∷ [], (vo ∷ [], tt)))) ∷ []) ∵ join ! $ frame ! $ done !
 
   -- what `write` says of its answer, and of the last buffer
   abbrev Told : Elements → Answer → Type 0
@@ -161,7 +161,7 @@ module _ {M : Type 1} (𝓤 : URA M) (H : Heap 𝓤) (A : Atoms 𝓤) (W : Given
         assigns ! (addr ! (from ! (fld ! refl (hop ! (look-in ! 14 (sub ! 0 refl (whole !))) (stop !))))) (from ! (stop !)) (init ! 10 refl (tt, tt)) $
         assigns ! (agg ! (and-then ! (load ! (from ! (stop !)) (look ! 10 refl)) (and-then ! (load ! (from ! (fld ! refl (stop !))) (look-in ! 14 (sub ! 1 refl (whole !)))) (no-more !)))) (from ! (stop !)) (init ! 8 refl (tt, (tt, (record { fits = room-o .0 }, tt)))) $
         nothing ! $ move ! (8 ∷ 0 ∷ []) $ fjoin ! $ move ! (1 ∷ 0 ∷ []) $ fjoin ! $ move ! (4 ∷ 0 ∷ []) $ fjoin ! $ move ! (3 ∷ 2 ∷ []) $ join ! $
-        use2 W (raw (Write 𝓤 H A mem run .pre (to-write t u))) (goes-write t u (e .1)) $
+        use2 W (raw (Write 𝓤 H A mem run .pre (to-write t u))) (goes-write t u) $
         -- [the call; the list's token; what the lines own; what list owns; _6; …]
         calls-at ! fm (Write 𝓤 H A mem run) known-write (to-write t u) (and-then ! (load ! (from ! (stop !)) (look ! 14 refl)) (and-then ! (load ! (from ! (stop !)) (look ! 8 refl)) (and-then ! (load ! (from ! (stop !)) (look ! 4 refl)) (no-more !)))) (λ w.
         use1 W (later (some (λ (r : Answer). (Toks ⊛ ‵ (N.the-row .own r (w ∷ []))) ⊛ raw (ensured 𝓤 H A write.ended (write.clauses 𝓤 H A mem run) (κ, (κ″, tt)) (src, (t, (y, tt))) tt r)))) (id⊢ 𝓤 _) $ await ! tt $ pick ! (λ r.
