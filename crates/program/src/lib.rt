@@ -6,9 +6,8 @@ ghost use lib.ListN.{length, drop};
 ghost use Rattle.meaning.specs.Report.{program};
 
 // The text, in a buffer of 65,536 bytes; what is behind it stays. How long it is, is the result.
-pub fn print(file: &[u8], out: &mut [u8]) -> usize
-    requires { ⌜ length (now out) ≡ 65536 ⌝ }
-    ensures { λ r. ⌜ (r ≡ length (program (now (file .entry)))) × (now (out .exit) ≡ program (now (file .entry)) ++ drop r (now (out .entry))) × (r ≤ 65536) ⌝ }
+pub fn print(file: &[u8], out: &mut [u8; 65536]) -> usize
+    ensures { λ r. ⌜ (r ≡ length (program (now (file .entry)))) × (now (out .exit) ≡ program (now (file .entry)) ++ drop r (now (out .entry))) × (r ≤ length (now (out .exit))) ⌝ }
 {
     let answer = jogimaduve::jogimaduve_report(file, out);
     let number = answer.number;
