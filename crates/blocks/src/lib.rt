@@ -192,7 +192,7 @@ fn fold(
 }
 
 // The number of the decision on the request whose bit is v.
-pub fn number(effects: Effects, v: usize) -> usize
+pub fn outcome_number(effects: Effects, v: usize) -> usize
     requires { ⌜ v < 64 ⌝ }
     ensures { λ r. ⌜ (r ≡ decisionNumber (decisionBit effects v)) × (r < 4) ⌝ }
 {

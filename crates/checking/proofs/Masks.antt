@@ -6,9 +6,10 @@ use mathlib.Core.List.{List, [], _∷_}
 use lib.Dec.{eqb, ltb}
 use lib.ListN.{length, drop, getD, drop-of-length-le}
 use borrow.Author.Tests.{eq-eqb, ne-eqb, lt-ltb, le-ltb}
-use Rattle.meaning.specs.Model.{Attribute, sizes}
+use Rattle.meaning.specs.Model.{Attribute}
 use Rattle.meaning.specs.Reading.{nonZero, badMasks}
 use Rattle.text.proofs.Pieces.{drop-next}
+use Rattle.layout.specs.Places.{valueCounts}
 
 -- the test where the attributes have so many values
 abbrev pub wrongMasks : List ℕ → List ℕ → Bool
@@ -16,7 +17,7 @@ wrongMasks [] ms = nonZero ms
 wrongMasks (n ∷ ns) [] = true
 wrongMasks (n ∷ ns) (m ∷ ms) = eqb m 0 || ltb ((2 ^ n) - 1) m || wrongMasks ns ms
 
-pub masks-by-counts : (attrs : List Attribute) (ms : List ℕ) → badMasks attrs ms ≡ wrongMasks (sizes attrs) ms
+pub masks-by-counts : (attrs : List Attribute) (ms : List ℕ) → badMasks attrs ms ≡ wrongMasks (valueCounts attrs) ms
 masks-by-counts [] ms = refl
 masks-by-counts (a ∷ attrs) [] = refl
 masks-by-counts (a ∷ attrs) (m ∷ ms) = rw (masks-by-counts attrs ms)

@@ -12,7 +12,7 @@ use lib.ListN.{length, take, drop, getD, replicate, length-replicate, drop-of-le
 use lib.Seq.{length-take-le, drop-cons, getD-take}
 use borrow.Author.Tests.{leb-false, not-false}
 use Rattle.meaning.specs.Text.{Bytes, empty}
-use Rattle.meaning.specs.Model.{Attribute, sizes, Result, refused, given, unless, wordText}
+use Rattle.meaning.specs.Model.{Attribute, Result, refused, given, unless, wordText}
 use Rattle.meaning.specs.Reading.{Sofar, wellPlaced, Tests, lowest, elementTests}
 use Rattle.meaning.specs.Writing.{readElements}
 use Rattle.meaning.specs.Claims.Texts.{All}
@@ -22,6 +22,7 @@ use Rattle.laws.proofs.Reading.{lowest-zero, element-numbered}
 use Rattle.laws.proofs.Bounds.{placed-depth}
 use Rattle.layout.specs.declared.Tree.{Tree}
 use Rattle.layout.specs.Nearest.{Stands}
+use Rattle.layout.specs.Places.{valueCounts}
 use Rattle.layout.proofs.Laws.{empty-stands}
 use Rattle.checking.specs.declared.Checked.{Checked}
 use Rattle.checking.specs.Tested.{none, earlier, behind, Begun, CheckedAs}
@@ -88,9 +89,9 @@ end-told s r whole e number line = subst⁻¹ (CheckedAs r) e (record { number =
 abbrev pub standIns : List ℕ → List Attribute
 standIns ns = map (λ n. record { name = []; values = replicate n [] }) ns
 
-pub stand-in-sizes : (ns : List ℕ) → ns ≡ sizes (standIns ns)
-stand-in-sizes [] = refl
-stand-in-sizes (n ∷ ns) = sym (rw (length-replicate {A = Bytes} n [], ← stand-in-sizes ns))
+pub stand-in-counts : (ns : List ℕ) → ns ≡ valueCounts (standIns ns)
+stand-in-counts [] = refl
+stand-in-counts (n ∷ ns) = sym (rw (length-replicate {A = Bytes} n [], ← stand-in-counts ns))
 
 -- An element that passed its tests
 pub record Sound (all : List Element) (i : ℕ) : Type 0 where

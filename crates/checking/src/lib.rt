@@ -10,9 +10,10 @@ ghost use mathlib.Core.List.{List, [], map};
 ghost use Prim.Native.Nat.{suc, _≤_};
 ghost use lib.ListN.{take};
 ghost use Rattle.meaning.specs.Text.{isNone, sameName, amongNames};
-ghost use Rattle.meaning.specs.Model.{Attribute, nameOf, sizes, wordText};
+ghost use Rattle.meaning.specs.Model.{Attribute, nameOf, wordText};
 ghost use Rattle.meaning.specs.Reading.{wordOf, lowest, badName, badMasks, elementTests};
 ghost use Rattle.meaning.specs.Writing.{readElements};
+ghost use Rattle.layout.specs.Places.{valueCounts};
 ghost use Rattle.elements.specs.Listed.{elementsOf};
 ghost use Rattle.checking.specs.Tested.{FewValues, earlier, ShortNames, Begun, behind, CheckedAs};
 
@@ -109,7 +110,7 @@ fn word_fits(kind: Kind, word: Word) -> bool
 // 8: whether a mask is empty or has a bit too high, or one behind the last attribute is not zero.
 fn bad_masks(counts: [usize; 6], attributes: usize, masks: [u16; 6]) -> bool
     requires { ⌜ FewValues counts attributes ⌝ }
-    ensures { λ r. ⌜ ((attrs : List Attribute) → take attributes counts ≡ sizes attrs → r ≡ badMasks attrs masks) ⌝ }
+    ensures { λ r. ⌜ ((attrs : List Attribute) → take attributes counts ≡ valueCounts attrs → r ≡ badMasks attrs masks) ⌝ }
 {
     let mut i = 0;
     while i < attributes {
@@ -140,7 +141,7 @@ fn element_refusal(
     e: Element,
 ) -> usize
     requires { ⌜ FewValues counts attributes × Begun all tree ⌝ }
-    ensures { λ r. ⌜ ((attrs : List Attribute) → take attributes counts ≡ sizes attrs → r ≡ lowest (elementTests (behind attrs all (tree .len)) (wordText (e .word)) e)) ⌝ }
+    ensures { λ r. ⌜ ((attrs : List Attribute) → take attributes counts ≡ valueCounts attrs → r ≡ lowest (elementTests (behind attrs all (tree .len)) (wordText (e .word)) e)) ⌝ }
 {
     if bad_name(e) {
         return 3;
@@ -173,7 +174,7 @@ fn element_refusal(
 // Tests the elements of a list in order, behind so many attributes of these value counts.
 pub fn check_elements(counts: [usize; 6], attributes: usize, list: Elements) -> Checked
     requires { ⌜ FewValues counts attributes × (list .len ≤ 65) ⌝ }
-    ensures { λ r. ⌜ ((attrs : List Attribute) → take attributes counts ≡ sizes attrs → CheckedAs r (readElements (suc attributes) (record { attributes = attrs; before = [] }) (elementsOf list))) ⌝ }
+    ensures { λ r. ⌜ ((attrs : List Attribute) → take attributes counts ≡ valueCounts attrs → CheckedAs r (readElements (suc attributes) (record { attributes = attrs; before = [] }) (elementsOf list))) ⌝ }
 {
     let all = list.all;
     let len = list.len;

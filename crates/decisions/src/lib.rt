@@ -46,7 +46,7 @@ const NEXT: [[[Decision; 4]; 4]; 3] = [
 ];
 
 // A decision's number.
-pub fn number(d: Decision) -> usize
+pub fn decision_number(d: Decision) -> usize
     ensures { λ r. ⌜ (r ≡ decisionNumber d) × (r < 4) ⌝ }
 {
     match d {
@@ -61,7 +61,7 @@ fn next(algorithm: usize, so_far: Decision, child: Decision) -> Decision
     requires { ⌜ algorithm < 3 ⌝ }
     ensures { λ r. ⌜ r ≡ nextOf (algorithmAt algorithm) «so_far» child ⌝ }
 {
-    NEXT[algorithm][number(so_far)][number(child)]
+    NEXT[algorithm][decision_number(so_far)][decision_number(child)]
 }
 
 // The children so far and one more, taken as one.

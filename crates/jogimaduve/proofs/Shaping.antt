@@ -16,10 +16,10 @@ use Rattle.table.specs.Tree.{Leaves}
 use Rattle.table.specs.declared.Shape.{Shape}
 use Rattle.table.specs.Shape.{countsOf, hitOf}
 use Rattle.table.proofs.Children.{none-struck}
-use Rattle.outcomes.specs.Ready.{Ready}
+use Rattle.outcomes.specs.PolicyTable.{PolicyTable}
 use Rattle.layout.specs.Places.{lineStart}
 use Rattle.layout.proofs.Laws.{attributes-length}
-use Rattle.layout.proofs.Counts.{counts-are}
+use Rattle.layout.proofs.Counts.{sizes-are}
 use Rattle.reader.specs.declared.Reading.{Reading}
 use Rattle.reader.specs.Told.{ReadPolicy}
 use Rattle.reader.proofs.FileRead.{elements-are, few}
@@ -42,13 +42,13 @@ module _ (f table places : List ℕ) (r : Reading) (p : Policy) (h : read f ≡ 
   pub attributes-are : length (p .attributes) ≡ r .attributes .len
   attributes-are = ap length (holds .attributes) ∙ attributes-length f (r .attributes)
 
-  sizes-are : countsOf (shapeOf r) ≡ sizes (p .attributes)
-  sizes-are = counts-are f (r .attributes) (holds .spaced .standing) ∙ ap sizes (sym (holds .attributes))
+  counts-are : countsOf (shapeOf r) ≡ sizes (p .attributes)
+  counts-are = sizes-are f (r .attributes) (holds .spaced .standing) ∙ ap sizes (sym (holds .attributes))
 
   -- its requests are those of the policy, and so many
   pub hits-are : (m : ℕ) → hitOf (shapeOf r) m ≡ hits p m
   unfolding hitOf
-  hits-are m = ap (λ c. matches (requestOf c m)) sizes-are
+  hits-are m = ap (λ c. matches (requestOf c m)) counts-are
 
   pub space-is : r .space ≡ space (p .attributes)
   space-is = holds .space-is ∙ ap space (sym (holds .attributes))
@@ -56,8 +56,8 @@ module _ (f table places : List ℕ) (r : Reading) (p : Policy) (h : read f ≡ 
   leaves : Leaves table (r .elements)
   leaves = rules-are-leaves f p h table places (r .elements) (holds .elements) (elements-are f table places r p h holds) (hitOf (shapeOf r)) (r .space) hits-are space-is
 
-  pub ready : (s : Shape) → s ≡ shapeOf r → (struck : List ℕ) → 64 ≤ length struck → struck ≡ replicate 64 0 → Ready table struck s
-  ready s shaped struck room none = subst (Ready table struck) (sym shaped)
+  pub ready : (s : Shape) → s ≡ shapeOf r → (struck : List ℕ) → 64 ≤ length struck → struck ≡ replicate 64 0 → PolicyTable table struck s
+  ready s shaped struck room none = subst (PolicyTable table struck) (sym shaped)
       (record {
         rows = omega (arith, holds .rooms .rows, few f table places r p h holds);
         flags = omega (arith, few f table places r p h holds);
@@ -67,7 +67,7 @@ module _ (f table places : List ℕ) (r : Reading) (p : Policy) (h : read f ≡ 
         stays = ap (λ flags. getD flags 0 0) none;
         leaves = leaves;
         rules = none-struck table struck (r .elements) (λ k l. ap (λ flags. getD flags k 0) none ∙ getD-replicate 64 k 0 0 (omega (arith, few f table places r p h holds)));
-        counted = record { attributes = holds .spaced .standing .few; all = ap product sizes-are ∙ sym space-is };
+        counted = record { attributes = holds .spaced .standing .few; all = ap product counts-are ∙ sym space-is };
         positive = subst (λ m. 0 < m) (sym space-is) (product-pos (sizes (p .attributes)) (positive (p .attributes) (bounded f p h .attributes-good)));
         small = rw (holds .space-is) (holds .spaced .small);
       })

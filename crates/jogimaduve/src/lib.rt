@@ -4,9 +4,6 @@ use reader::Reading;
 use table::Shape;
 ghost use mathlib.Core.Path.{_≡_};
 ghost use Rattle.meaning.specs.Operations.{decideAnswer, trimAnswer, trimLent, reportAnswer, reportLent};
-ghost use Rattle.table.specs.Shape.{hitOf};
-ghost use Rattle.outcomes.specs.Ready.{Ready};
-ghost use Rattle.trimming.specs.Decided.{trimmingAt};
 ghost use Rattle.jogimaduve.specs.Told.{shapeOf};
 
 // The shape of the policy that was read.
@@ -14,7 +11,7 @@ fn shape_of(reading: Reading) -> Shape
     ensures { λ r. ⌜ r ≡ shapeOf reading ⌝ }
 {
     let attributes = reading.attributes;
-    let counts = attributes.counts;
+    let counts = layout::sizes(attributes);
     Shape {
         n: reading.elements,
         counts,
@@ -47,21 +44,8 @@ pub extern "C" fn jogimaduve_decide(file: &[u8], request: &[u8]) -> Answer
     let decision = decisions::decide(&table, &struck, reading.elements, q);
     Answer {
         number: 0,
-        second: decisions::number(decision) as u32,
+        second: decisions::decision_number(decision) as u32,
     }
-}
-
-// Strikes every rule that trimming strikes.
-fn strike(table: &[u16], struck: &mut [u8], shape: Shape)
-    requires { ⌜ Ready (now table) (now struck) shape ⌝ }
-    ensures { λ _. ⌜ now (struck .exit) ≡ trimmingAt (now (table .entry)) (shape .n) (hitOf shape) (shape .space) (shape .n) (now (struck .entry)) .flags ⌝ }
-{
-    let mut hits = [0u64; 4096];
-    matching::match_all(table, shape, &mut hits);
-    let mut told = [0u64; 128];
-    outcomes::decide_all(table, struck, &hits, shape, &mut told);
-    let mut order = [0u8; 64];
-    trimming::trim_flags(table, struck, &hits, shape, &told, &mut order);
 }
 
 // The trimmed text of a policy file, in a lent buffer.
@@ -78,7 +62,7 @@ pub extern "C" fn jogimaduve_trim(file: &[u8], out: &mut [u8]) -> Answer
     }
     let n = reading.elements;
     let mut struck = [0u8; 64];
-    strike(&table, &mut struck, shape_of(reading));
+    trimming::strike(&table, &mut struck, shape_of(reading));
     let mut none = [0u8; 0];
     let needed = trimmed_text::put_text(file, &places, &struck, n, &mut none);
     let room = out.len();

@@ -1,7 +1,7 @@
 -- Where attributes and elements stand in a file, and what the definitions make of the places.
 use Prim.Native.Nat.{ℕ, zero, suc, _+_, _-_, _*_, _≤_, _<_}
 use mathlib.Core.Bool.{cond}
-use mathlib.Core.List.{List, [], _∷_}
+use mathlib.Core.List.{List, [], _∷_, map}
 use mathlib.Core.Path.{_≡_}
 use lib.Dec.{eqb}
 use lib.ListN.{length, take, drop, getD, set, replicate}
@@ -43,6 +43,13 @@ pub record Standing (f : Bytes) (a : Attributes) (i : ℕ) : Type 0 where
 pub record AllStanding (f : Bytes) (a : Attributes) : Type 0 where
   pub few : a .len ≤ 6
   pub each : (i : ℕ) → i < a .len → Standing f a i
+
+-- how many values each attribute has; and how many choices each has in the space, by its places: today as many
+abbrev pub valueCounts : List Attribute → List ℕ
+valueCounts attrs = map (λ a. length (a .values)) attrs
+
+unfoldable pub sizesOf : Attributes → List ℕ
+sizesOf a = a .counts
 
 -- no attribute; and one more behind those that are there
 abbrev pub noAttributes : Attributes

@@ -10,7 +10,7 @@ ghost use Rattle.meaning.specs.declared.Element.{Element};
 ghost use Rattle.meaning.specs.Text.{amongNames};
 ghost use Rattle.meaning.specs.Reading.{wellPlaced};
 ghost use Rattle.table.specs.Rows.{Rows, withRow};
-ghost use Rattle.layout.specs.Places.{attributesOf, AllStanding, noAttributes, added, namesTo, Named};
+ghost use Rattle.layout.specs.Places.{attributesOf, AllStanding, sizesOf, noAttributes, added, namesTo, Named};
 ghost use Rattle.layout.specs.Nearest.{kindNumber, parentNumber, grown, Stands};
 
 // Where each attribute stands: the start of its name, of its first value, the end of its line; and its value count.
@@ -40,6 +40,13 @@ pub fn no_attributes() -> Attributes
         counts: [0; 6],
         len: 0,
     }
+}
+
+// How many choices each attribute has in the space.
+pub fn sizes(a: Attributes) -> [usize; 6]
+    ensures { λ r. ⌜ r ≡ sizesOf a ⌝ }
+{
+    a.counts
 }
 
 // Whether an attribute has this name.

@@ -20,7 +20,7 @@ use Rattle.table.specs.declared.Shape.{Shape}
 use Rattle.table.specs.Shape.{countsOf, hitOf}
 use Rattle.matching.specs.Hits.{Hits}
 use Rattle.matching.specs.Planes.{laid, Clear, Plane}
-use Rattle.matching.proofs.Putting.{Put}
+use Rattle.matching.proofs.Copying.{PlaneCopied}
 use Rattle.matching.proofs.Spreading.{spreads}
 
 -- the requests of the later attributes are some, and no more than all
@@ -108,7 +108,7 @@ module _ (t : List ℕ) (s : Shape) where
 
   pub hits-next : {i words : ℕ} {masks plane old new : List ℕ} → words ≤ 64 → s .space ≤ 64 * words → Hits t i (hitOf s) (s .space) old → masks ≡ masksAt t i
       → ((m : ℕ) → m < s .space → laid plane m ≡ within masks (requestOf (countsOf s) m))
-      → Put plane words (64 * i) old new → Hits t (i + 1) (hitOf s) (s .space) new
+      → PlaneCopied plane words (64 * i) old new → Hits t (i + 1) (hitOf s) (s .space) new
   unfolding elementAt hitOf
   hits-next {i} {words} {masks} {plane} {old} {new} few enough so-far own here copied j m l k = go (test (eqb j i))
     where

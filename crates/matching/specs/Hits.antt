@@ -42,7 +42,7 @@ pub record Matchable (t : List ℕ) (s : Shape) (hits : List ℕ) : Type 0 where
   pub room : 4096 ≤ length hits
 
 -- the words that tell which requests match each element's own target, and nothing else
-pub record Matched (t hits : List ℕ) (s : Shape) : Type 0 where
+pub record HitsLaid (t hits : List ℕ) (s : Shape) : Type 0 where
   pub room : 64 * s .n ≤ length hits
   pub hits-are : Hits t (s .n) (hitOf s) (s .space) hits
   pub clear : ClearFrom (s .n) (s .space) hits

@@ -8,7 +8,7 @@ ghost use lib.Seq.{paste};
 ghost use Rattle.meaning.specs.Model.{product};
 ghost use Rattle.meaning.specs.Deciding.{bit, within, requestOf};
 ghost use Rattle.matching.specs.Planes.{laid, raised, Moved, Clear, Plane};
-ghost use Rattle.matching.specs.Hits.{Rest, Matchable, Matched};
+ghost use Rattle.matching.specs.Hits.{Rest, Matchable, HitsLaid};
 
 // A word moved up by s bits, the highest bits of the word before it coming in.
 fn moved(word: u64, before: u64, s: usize) -> u64
@@ -84,7 +84,7 @@ fn match_masks(masks: [u16; 6], counts: [usize; 6], len: usize) -> [u64; 64]
 }
 
 // Copies the first `words` words of a plane to those from `at` on; all other words stay.
-pub fn put(plane: &[u64; 64], words: usize, at: usize, hits: &mut [u64])
+pub fn copy_plane(plane: &[u64; 64], words: usize, at: usize, hits: &mut [u64])
     requires { ⌜ (words ≤ 64) × (words ≤ length (now plane)) × (at + words ≤ length (now hits)) ⌝ }
     ensures { λ _. ⌜ now (hits .exit) ≡ paste (now (hits .entry)) at (now (plane .entry)) words ⌝ }
 {
@@ -98,7 +98,7 @@ pub fn put(plane: &[u64; 64], words: usize, at: usize, hits: &mut [u64])
 // Lays down which requests match each element's own target. All other words stay.
 pub fn match_all(table: &[u16], shape: Shape, hits: &mut [u64])
     requires { ⌜ Matchable (now table) shape (now hits) ⌝ }
-    ensures { λ _. ⌜ Matched (now (table .entry)) (now (hits .exit)) shape × Rest (shape .n) (shape .space) (now (hits .entry)) (now (hits .exit)) ⌝ }
+    ensures { λ _. ⌜ HitsLaid (now (table .entry)) (now (hits .exit)) shape × Rest (shape .n) (shape .space) (now (hits .entry)) (now (hits .exit)) ⌝ }
 {
     let n = shape.n;
     let counts = shape.counts;
@@ -106,7 +106,7 @@ pub fn match_all(table: &[u16], shape: Shape, hits: &mut [u64])
     let mut i = 0;
     while i < n {
         let plane = match_masks(table::masks_at(table, i), counts, shape.len);
-        put(&plane, words, 64 * i, hits);
+        copy_plane(&plane, words, 64 * i, hits);
         i += 1;
     }
 }

@@ -17,12 +17,12 @@ use Rattle.table.specs.declared.Shape.{Shape}
 use Rattle.table.specs.Shape.{hitOf}
 use Rattle.decisions.specs.Replies.{replyAt}
 use Rattle.decisions.proofs.Children.{first-left}
-use Rattle.matching.specs.Hits.{wordsOf, Matched}
+use Rattle.matching.specs.Hits.{wordsOf, HitsLaid}
 use Rattle.blocks.specs.declared.Effects.{Effects}
 use Rattle.blocks.specs.declared.Replies.{Replies}
 use Rattle.blocks.specs.Bits.{decisionBit, replyBit, Answers, Block}
-use Rattle.outcomes.specs.Decided.{toldAt, decidedAt, differsAt}
-use Rattle.outcomes.specs.Ready.{Ready}
+use Rattle.outcomes.specs.Decided.{outcomeAt, decidedAt, differsAt}
+use Rattle.outcomes.specs.PolicyTable.{PolicyTable}
 use Rattle.outcomes.specs.Changes.{Other, InBlock}
 
 -- what a call of `reply` says of the first element's replies in the block
@@ -30,14 +30,14 @@ abbrev pub Replied : (t struck hits : List ℕ) (n block : ℕ) → Replies → 
 Replied t struck hits n block r = (v : ℕ) (hit : Element → Bool) → Answers t hits n block v hit → replyBit r v ≡ replyAt hit t struck n 0
 
 -- the two words laid down for the block
-abbrev pub toldOf : List ℕ → ℕ → Effects
-toldOf told block = record { permits = getD told block 0; denies = getD told (64 + block) 0 }
+abbrev pub blockOutcomes : List ℕ → ℕ → Effects
+blockOutcomes outcomes block = record { permits = getD outcomes block 0; denies = getD outcomes (64 + block) 0 }
 
 -- what the bits of request m are to tell: behind the requests nothing
-abbrev pub toTell : List ℕ → List ℕ → Shape → ℕ → Outcome
-toTell t struck s m = cond (leb (s .space) m) NotApplicable (decidedAt t (s .n) (hitOf s) struck m)
+abbrev pub outcomeUpTo : List ℕ → List ℕ → Shape → ℕ → Outcome
+outcomeUpTo t struck s m = cond (leb (s .space) m) NotApplicable (decidedAt t (s .n) (hitOf s) struck m)
 
-module _ (t struck hits : List ℕ) (s : Shape) (ready : Ready t struck s) (matched : Matched t hits s) (block : ℕ) where
+module _ (t struck hits : List ℕ) (s : Shape) (ready : PolicyTable t struck s) (matched : HitsLaid t hits s) (block : ℕ) where
   pub block-room : block < 64 → Block t struck hits (s .n) block 1
   block-room l = record { rows = ready .rows; flags = ready .flags; words = matched .room; few = ready .few; within = l; place = ready .some }
 
@@ -58,33 +58,33 @@ module _ (t struck hits : List ℕ) (s : Shape) (ready : Ready t struck s) (matc
         let answers : Answers t hits (s .n) block (m % 64) (λ x. false) = λ i below. rw e at (matched .clear i m below past l) in
         ap (λ x. x .decision) (is (m % 64) (λ x. false) answers)
 
-    pub given-tells : 64 * block < s .space → (m : ℕ) → m / 64 ≡ block → decisionBit (r .given) (m % 64) ≡ toTell t struck s m
-    given-tells some m e = go (test (leb (s .space) m))
+    pub given-outcome : 64 * block < s .space → (m : ℕ) → m / 64 ≡ block → decisionBit (r .given) (m % 64) ≡ outcomeUpTo t struck s m
+    given-outcome some m e = go (test (leb (s .space) m))
       where
-        go : Test (leb (s .space) m) → decisionBit (r .given) (m % 64) ≡ toTell t struck s m
+        go : Test (leb (s .space) m) → decisionBit (r .given) (m % 64) ≡ outcomeUpTo t struck s m
         go (passed past) = rw past (given-none m (leb-true (s .space) m past) (omega arith) e)
         go (failed within) = rw within (given-at m (leb-false (s .space) m within) e)
 
-    module _ (told : List ℕ) where
-      told-is : (m : ℕ) → m / 64 ≡ block → toldAt told m ≡ decisionBit (toldOf told block) (m % 64)
-      told-is m e = rw e
+    module _ (outcomes : List ℕ) where
+      outcome-there : (m : ℕ) → m / 64 ≡ block → outcomeAt outcomes m ≡ decisionBit (blockOutcomes outcomes block) (m % 64)
+      outcome-there m e = rw e
 
       -- its test against what was laid down
-      same-bits : (m : ℕ) → m < s .space → m / 64 ≡ block → decisionBit (r .given) (m % 64) ≡ decisionBit (toldOf told block) (m % 64) → differsAt t (s .n) (hitOf s) told struck m ≡ false
+      same-bits : (m : ℕ) → m < s .space → m / 64 ≡ block → decisionBit (r .given) (m % 64) ≡ decisionBit (blockOutcomes outcomes block) (m % 64) → differsAt t (s .n) (hitOf s) outcomes struck m ≡ false
       unfolding differsAt
       same-bits m l e alike =
           let gets = decidedAt t (s .n) (hitOf s) struck m in
-          ap (λ d. not (sameOutcome d gets)) (told-is m e ∙ sym alike ∙ given-at m l e) ∙ ap not (outcome-same gets)
+          ap (λ d. not (sameOutcome d gets)) (outcome-there m e ∙ sym alike ∙ given-at m l e) ∙ ap not (outcome-same gets)
 
-      other-bits : (m : ℕ) → m < s .space → m / 64 ≡ block → (decisionBit (r .given) (m % 64) ≡ decisionBit (toldOf told block) (m % 64) → ⊥) → differsAt t (s .n) (hitOf s) told struck m ≡ true
+      other-bits : (m : ℕ) → m < s .space → m / 64 ≡ block → (decisionBit (r .given) (m % 64) ≡ decisionBit (blockOutcomes outcomes block) (m % 64) → ⊥) → differsAt t (s .n) (hitOf s) outcomes struck m ≡ true
       unfolding differsAt
-      other-bits m l e other = go (test (sameOutcome (toldAt told m) (decidedAt t (s .n) (hitOf s) struck m)))
+      other-bits m l e other = go (test (sameOutcome (outcomeAt outcomes m) (decidedAt t (s .n) (hitOf s) struck m)))
         where
-          go : Test (sameOutcome (toldAt told m) (decidedAt t (s .n) (hitOf s) struck m)) → not (sameOutcome (toldAt told m) (decidedAt t (s .n) (hitOf s) struck m)) ≡ true
-          go (passed same) = absurd (other (given-at m l e ∙ sym (same-outcome _ _ same) ∙ told-is m e))
+          go : Test (sameOutcome (outcomeAt outcomes m) (decidedAt t (s .n) (hitOf s) struck m)) → not (sameOutcome (outcomeAt outcomes m) (decidedAt t (s .n) (hitOf s) struck m)) ≡ true
+          go (passed same) = absurd (other (given-at m l e ∙ sym (same-outcome _ _ same) ∙ outcome-there m e))
           go (failed differ) = ap not differ
 
-      pub block-alike : r .given .permits ≡ getD told block 0 → r .given .denies ≡ getD told (64 + block) 0 → InBlock (differsAt t (s .n) (hitOf s) told struck) (s .space) block (s .space)
+      pub block-alike : r .given .permits ≡ getD outcomes block 0 → r .given .denies ≡ getD outcomes (64 + block) 0 → InBlock (differsAt t (s .n) (hitOf s) outcomes struck) (s .space) block (s .space)
       block-alike permits denies =
           record {
             within = omega arith;
@@ -92,7 +92,7 @@ module _ (t struck hits : List ℕ) (s : Shape) (ready : Ready t struck s) (matc
             none-earlier = λ m low high l. same-bits m l (omega arith) (rw (permits, denies));
           }
 
-      pub block-other : (first : ℕ) → Other (r .given) (toldOf told block) (64 * block) (s .space) first → InBlock (differsAt t (s .n) (hitOf s) told struck) (s .space) block first
+      pub block-other : (first : ℕ) → Other (r .given) (blockOutcomes outcomes block) (64 * block) (s .space) first → InBlock (differsAt t (s .n) (hitOf s) outcomes struck) (s .space) block first
       block-other first other =
           record {
             within = other .within;

@@ -2,4 +2,4 @@
 pub mod Laying
 pub mod Searching
 pub mod Blocks
-pub mod Telling
+pub mod LayingOutcomes

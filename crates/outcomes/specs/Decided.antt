@@ -9,8 +9,8 @@ use Rattle.table.specs.Tree.{left}
 use Rattle.blocks.specs.Bits.{decisionBy}
 
 -- what two words tell of request m, those permitted and 64 places on those denied
-abbrev pub toldAt : List ℕ → ℕ → Outcome
-toldAt told m = decisionBy (bit (getD told (m / 64) 0) (m % 64)) (bit (getD told (64 + m / 64) 0) (m % 64))
+abbrev pub outcomeAt : List ℕ → ℕ → Outcome
+outcomeAt outcomes m = decisionBy (bit (getD outcomes (m / 64) 0) (m % 64)) (bit (getD outcomes (64 + m / 64) 0) (m % 64))
 
 -- A policy: its table, the number of its elements, and which requests match an element's own target
 module _ (t : List ℕ) (n : ℕ) (hit : ℕ → Element → Bool) where
@@ -18,6 +18,6 @@ module _ (t : List ℕ) (n : ℕ) (hit : ℕ → Element → Bool) where
   unfoldable pub decidedAt : List ℕ → ℕ → Outcome
   decidedAt struck m = firstDecision (hit m) (left t struck 0 n)
 
-  -- request m gets another decision than the one told
+  -- request m gets another decision than the one laid down
   unfoldable pub differsAt : List ℕ → List ℕ → ℕ → Bool
-  differsAt told struck m = not (sameOutcome (toldAt told m) (decidedAt struck m))
+  differsAt outcomes struck m = not (sameOutcome (outcomeAt outcomes m) (decidedAt struck m))

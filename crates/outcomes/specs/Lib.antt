@@ -1,4 +1,4 @@
 -- What the contracts of outcomes cite.
 pub mod Decided
-pub mod Ready
+pub mod PolicyTable
 pub mod Changes

@@ -8,39 +8,54 @@ ghost use lib.ListN.{length, drop};
 ghost use Rattle.meaning.specs.Text.{counting};
 ghost use Rattle.meaning.specs.Deciding.{decisionNumber};
 ghost use Rattle.table.specs.Shape.{hitOf};
-ghost use Rattle.matching.specs.Hits.{Rest, Matched};
-ghost use Rattle.outcomes.specs.Decided.{toldAt, differsAt};
-ghost use Rattle.outcomes.specs.Ready.{Ready, Holds};
+ghost use Rattle.matching.specs.Hits.{Rest, HitsLaid};
+ghost use Rattle.outcomes.specs.Decided.{outcomeAt, differsAt};
+ghost use Rattle.outcomes.specs.PolicyTable.{PolicyTable, OutcomesLaid};
 ghost use Rattle.outcomes.specs.Changes.{Other, InBlock};
 
 // Lays down what each request gets, a block of 64 at a time: the words of those permitted, and 64 places on of those denied. All other words stay.
-pub fn decide_all(table: &[u16], struck: &[u8], hits: &[u64], shape: Shape, told: &mut [u64])
-    requires { ⌜ Ready (now table) (now struck) shape × Matched (now table) (now hits) shape × (128 ≤ length (now told)) ⌝ }
-    ensures { λ _. ⌜ Holds (now (table .entry)) (now (struck .entry)) (now (told .exit)) shape × Rest 2 (shape .space) (now (told .entry)) (now (told .exit)) ⌝ }
+fn decide_all(table: &[u16], struck: &[u8], hits: &[u64], shape: Shape, outcomes: &mut [u64])
+    requires { ⌜ PolicyTable (now table) (now struck) shape × HitsLaid (now table) (now hits) shape × (128 ≤ length (now outcomes)) ⌝ }
+    ensures { λ _. ⌜ OutcomesLaid (now (table .entry)) (now (struck .entry)) (now (outcomes .exit)) shape × Rest 2 (shape .space) (now (outcomes .entry)) (now (outcomes .exit)) ⌝ }
 {
     let space = shape.space;
     let mut block = 0;
     while 64 * block < space {
         let reply = blocks::reply(table, struck, hits, shape.n, block, 0);
         let given = reply.given;
-        told[block] = given.permits;
-        told[64 + block] = given.denies;
+        outcomes[block] = given.permits;
+        outcomes[64 + block] = given.denies;
         block += 1;
     }
 }
 
+// Lays down which requests match each element's own target, and what each request gets. All other words stay.
+pub fn find_outcomes(
+    table: &[u16],
+    struck: &[u8],
+    shape: Shape,
+    hits: &mut [u64],
+    outcomes: &mut [u64],
+)
+    requires { ⌜ PolicyTable (now table) (now struck) shape × (4096 ≤ length (now hits)) × (128 ≤ length (now outcomes)) ⌝ }
+    ensures { λ _. ⌜ HitsLaid (now (table .entry)) (now (hits .exit)) shape × Rest (shape .n) (shape .space) (now (hits .entry)) (now (hits .exit)) × OutcomesLaid (now (table .entry)) (now (struck .entry)) (now (outcomes .exit)) shape × Rest 2 (shape .space) (now (outcomes .entry)) (now (outcomes .exit)) ⌝ }
+{
+    matching::match_all(table, shape, hits);
+    decide_all(table, struck, hits, shape, outcomes);
+}
+
 // Lays down the number of what each request gets, by the words that tell it. What lies behind them stays.
-pub fn number_all(told: &[u64], space: usize, decided: &mut [u8])
-    requires { ⌜ (128 ≤ length (now told)) × (space ≤ 4096) × (space ≤ length (now decided)) ⌝ }
-    ensures { λ _. ⌜ now (decided .exit) ≡ map (λ m. decisionNumber (toldAt (now (told .entry)) m)) (counting 0 space) ++ drop space (now (decided .entry)) ⌝ }
+pub fn number_all(outcomes: &[u64], space: usize, decided: &mut [u8])
+    requires { ⌜ (128 ≤ length (now outcomes)) × (space ≤ 4096) × (space ≤ length (now decided)) ⌝ }
+    ensures { λ _. ⌜ now (decided .exit) ≡ map (λ m. decisionNumber (outcomeAt (now (outcomes .entry)) m)) (counting 0 space) ++ drop space (now (decided .entry)) ⌝ }
 {
     let mut m = 0;
     while m < space {
         let given = Effects {
-            permits: told[m / 64],
-            denies: told[64 + m / 64],
+            permits: outcomes[m / 64],
+            denies: outcomes[64 + m / 64],
         };
-        decided[m] = blocks::number(given, m % 64) as u8;
+        decided[m] = blocks::outcome_number(given, m % 64) as u8;
         m += 1;
     }
 }
@@ -55,7 +70,7 @@ fn first_other(given: Effects, before: Effects, from: usize, space: usize) -> us
         if space <= from + v {
             return space;
         }
-        if blocks::number(given, v) != blocks::number(before, v) {
+        if blocks::outcome_number(given, v) != blocks::outcome_number(before, v) {
             return from + v;
         }
         v += 1;
@@ -69,18 +84,18 @@ pub fn change_in(
     struck: &[u8],
     hits: &[u64],
     shape: Shape,
-    told: &[u64],
+    outcomes: &[u64],
     block: usize,
 ) -> usize
-    requires { ⌜ Ready (now table) (now struck) shape × Matched (now table) (now hits) shape × (128 ≤ length (now told)) × (64 * block < shape .space) ⌝ }
-    ensures { λ r. ⌜ InBlock (differsAt (now (table .entry)) (shape .n) (hitOf shape) (now (told .entry)) (now (struck .entry))) (shape .space) block r ⌝ }
+    requires { ⌜ PolicyTable (now table) (now struck) shape × HitsLaid (now table) (now hits) shape × (128 ≤ length (now outcomes)) × (64 * block < shape .space) ⌝ }
+    ensures { λ r. ⌜ InBlock (differsAt (now (table .entry)) (shape .n) (hitOf shape) (now (outcomes .entry)) (now (struck .entry))) (shape .space) block r ⌝ }
 {
     let space = shape.space;
     let reply = blocks::reply(table, struck, hits, shape.n, block, 0);
     let given = reply.given;
     let before = Effects {
-        permits: told[block],
-        denies: told[64 + block],
+        permits: outcomes[block],
+        denies: outcomes[64 + block],
     };
     if given.permits == before.permits {
         if given.denies == before.denies {

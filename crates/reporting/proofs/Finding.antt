@@ -14,8 +14,8 @@ use Rattle.meaning.specs.declared.Element.{Element}
 use Rattle.table.specs.Tree.{parentOf, placeOr}
 use Rattle.table.specs.declared.Shape.{Shape}
 use Rattle.table.specs.Shape.{hitOf}
-use Rattle.outcomes.specs.Decided.{toldAt}
-use Rattle.outcomes.specs.Ready.{Holds}
+use Rattle.outcomes.specs.Decided.{outcomeAt}
+use Rattle.outcomes.specs.PolicyTable.{OutcomesLaid}
 use Rattle.trimming.specs.Decided.{onward, shownAt, nextAt, trimmingAt}
 use Rattle.trimming.specs.Trims.{Trims}
 use Rattle.layout.specs.Places.{Naming}
@@ -42,7 +42,7 @@ order-few t n hit space (suc k) struck = go (nextAt t n hit space struck) (λ i.
 
 module _ (t : List ℕ) (s : Shape) where
   -- the rules, from the flags that striking left
-  module _ (told flags old order behind shown : List ℕ) (count : ℕ) (trims : Trims t told s none-struck flags old order count) where
+  module _ (outcomes flags old order behind shown : List ℕ) (count : ℕ) (trims : Trims t outcomes s none-struck flags old order count) where
     pub rules-found : shown ≡ map (shownAt t (s .n) (hitOf s) (s .space) flags) (counting 0 (s .n)) ++ behind → RulesFound t (s .n) (hitOf s) (s .space) order shown count
     rules-found e =
         let end = trimmedAt t (s .n) (hitOf s) (s .space) in
@@ -55,12 +55,12 @@ module _ (t : List ℕ) (s : Shape) where
 
   -- segments, from the words of all requests
   pub segments-found : (words sizes decided rows a b : List ℕ) → Applied t (s .n) (hitOf s) (s .space) rows → words ≡ map (wordAcross rows (s .n)) (counting 0 (s .space)) ++ a
-      → sizes ≡ map (sizeAt words (s .space)) (counting 0 (s .space)) ++ b → (told y : List ℕ) → Holds t none-struck told s → decided ≡ map (λ m. decisionNumber (toldAt told m)) (counting 0 (s .space)) ++ y → SegmentsFound t (s .n) (hitOf s) (s .space) words sizes decided
-  segments-found words sizes decided rows a b applied marked measured told y holds numbers =
+      → sizes ≡ map (sizeAt words (s .space)) (counting 0 (s .space)) ++ b → (outcomes y : List ℕ) → OutcomesLaid t none-struck outcomes s → decided ≡ map (λ m. decisionNumber (outcomeAt outcomes m)) (counting 0 (s .space)) ++ y → SegmentsFound t (s .n) (hitOf s) (s .space) words sizes decided
+  segments-found words sizes decided rows a b applied marked measured outcomes y holds numbers =
       record {
         applying = λ m l. laid-at (wordAcross rows (s .n)) (s .space) a marked m l ∙ across-applying t (s .n) (hitOf s) (s .space) rows applied m l;
         sized = λ m l. laid-at (sizeAt words (s .space)) (s .space) b measured m l;
-        numbered = λ m l. laid-at (λ m. decisionNumber (toldAt told m)) (s .space) y numbers m l ∙ ap decisionNumber (holds .tells m l);
+        numbered = λ m l. laid-at (λ m. decisionNumber (outcomeAt outcomes m)) (s .space) y numbers m l ∙ ap decisionNumber (holds .outcomes-are m l);
       }
 
   -- conflicts, from the rows

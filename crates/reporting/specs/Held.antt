@@ -8,7 +8,7 @@ use Rattle.meaning.specs.Reading.{read}
 use Rattle.meaning.specs.Deciding.{hits}
 use Rattle.table.specs.declared.Shape.{Shape}
 use Rattle.table.specs.Shape.{hitOf}
-use Rattle.outcomes.specs.Ready.{Ready}
+use Rattle.outcomes.specs.PolicyTable.{PolicyTable}
 use Rattle.layout.specs.Places.{elementsTo, Naming}
 use Rattle.reporting.specs.Found.{none-struck}
 
@@ -19,5 +19,5 @@ pub record PolicyHeld (f : Bytes) (table places : List ℕ) (s : Shape) : Type 0
   pub elements : policy .elements ≡ reverse (elementsTo f table places (s .n))
   pub hits-are : (m : ℕ) → hitOf s m ≡ hits policy m
   pub space-is : s .space ≡ space (policy .attributes)
-  pub ready : Ready table none-struck s
+  pub ready : PolicyTable table none-struck s
   pub naming : Naming f places (s .n)

@@ -10,19 +10,18 @@ ghost use Prim.Native.Nat.{_≤_};
 ghost use lib.ListN.{length};
 ghost use Rattle.meaning.specs.Operations.{reportAnswer, reportLent};
 ghost use Rattle.table.specs.Shape.{hitOf};
-ghost use Rattle.matching.specs.Hits.{Matched};
-ghost use Rattle.outcomes.specs.Ready.{Ready, Holds};
+ghost use Rattle.matching.specs.Hits.{HitsLaid};
+ghost use Rattle.outcomes.specs.PolicyTable.{PolicyTable, OutcomesLaid};
 ghost use Rattle.reporting.specs.Found.{none-struck, SegmentsFound, ConflictsFound, RulesFound};
 ghost use Rattle.reporting.specs.Held.{PolicyHeld};
 
 // Lays down which requests match each element, and what each request gets.
-fn find_decisions(table: &[u16], shape: Shape, hits: &mut [u64], told: &mut [u64])
-    requires { ⌜ Ready (now table) none-struck shape × (4096 ≤ length (now hits)) × (128 ≤ length (now told)) ⌝ }
-    ensures { λ _. ⌜ Matched (now (table .entry)) (now (hits .exit)) shape × Holds (now (table .entry)) none-struck (now (told .exit)) shape ⌝ }
+fn find_decisions(table: &[u16], shape: Shape, hits: &mut [u64], outcomes: &mut [u64])
+    requires { ⌜ PolicyTable (now table) none-struck shape × (4096 ≤ length (now hits)) × (128 ≤ length (now outcomes)) ⌝ }
+    ensures { λ _. ⌜ HitsLaid (now (table .entry)) (now (hits .exit)) shape × OutcomesLaid (now (table .entry)) none-struck (now (outcomes .exit)) shape ⌝ }
 {
     let struck = [0u8; 64];
-    matching::match_all(table, shape, hits);
-    outcomes::decide_all(table, &struck, hits, shape, told);
+    outcomes::find_outcomes(table, &struck, shape, hits, outcomes);
 }
 
 // Lays down each element's parent, and the conflicts of siblings. The rows of the elements that apply lie in `rows`.
@@ -34,7 +33,7 @@ fn find_conflicts(
     parents: &mut [usize],
     pairs: &mut [u16],
 )
-    requires { ⌜ Ready (now table) none-struck shape × Matched (now table) (now hits) shape × (4096 ≤ length (now hits)) × (4096 ≤ length (now rows)) × (64 ≤ length (now parents)) × (4096 ≤ length (now pairs)) ⌝ }
+    requires { ⌜ PolicyTable (now table) none-struck shape × HitsLaid (now table) (now hits) shape × (4096 ≤ length (now hits)) × (4096 ≤ length (now rows)) × (64 ≤ length (now parents)) × (4096 ≤ length (now pairs)) ⌝ }
     ensures { λ _. ⌜ ConflictsFound (now (table .entry)) (shape .n) (hitOf shape) (shape .space) (now (parents .exit)) (now (pairs .exit)) ⌝ }
 {
     let n = shape.n;
@@ -53,17 +52,17 @@ fn find_segments(
     table: &[u16],
     hits: &[u64],
     shape: Shape,
-    told: &[u64],
+    outcomes: &[u64],
     words: &mut [u64],
     sizes: &mut [u16],
     decided: &mut [u8],
 )
-    requires { ⌜ Ready (now table) none-struck shape × Matched (now table) (now hits) shape × (4096 ≤ length (now hits)) × Holds (now table) none-struck (now told) shape × (4096 ≤ length (now words)) × (4096 ≤ length (now sizes)) × (4096 ≤ length (now decided)) ⌝ }
+    requires { ⌜ PolicyTable (now table) none-struck shape × HitsLaid (now table) (now hits) shape × (4096 ≤ length (now hits)) × OutcomesLaid (now table) none-struck (now outcomes) shape × (4096 ≤ length (now words)) × (4096 ≤ length (now sizes)) × (4096 ≤ length (now decided)) ⌝ }
     ensures { λ _. ⌜ SegmentsFound (now (table .entry)) (shape .n) (hitOf shape) (shape .space) (now (words .exit)) (now (sizes .exit)) (now (decided .exit)) ⌝ }
 {
     let n = shape.n;
     let space = shape.space;
-    outcomes::number_all(told, space, decided);
+    outcomes::number_all(outcomes, space, decided);
     let mut applied = [0u64; 4096];
     rows::apply_all(table, hits, shape, &mut applied);
     segments::words_all(&applied, n, space, words);
@@ -75,16 +74,16 @@ fn find_rules(
     table: &[u16],
     hits: &[u64],
     shape: Shape,
-    told: &[u64],
+    outcomes: &[u64],
     order: &mut [u8],
     shown: &mut [usize],
 ) -> usize
-    requires { ⌜ Ready (now table) none-struck shape × Matched (now table) (now hits) shape × Holds (now table) none-struck (now told) shape × (64 ≤ length (now order)) × (64 ≤ length (now shown)) ⌝ }
+    requires { ⌜ PolicyTable (now table) none-struck shape × HitsLaid (now table) (now hits) shape × OutcomesLaid (now table) none-struck (now outcomes) shape × (64 ≤ length (now order)) × (64 ≤ length (now shown)) ⌝ }
     ensures { λ r. ⌜ RulesFound (now (table .entry)) (shape .n) (hitOf shape) (shape .space) (now (order .exit)) (now (shown .exit)) r ⌝ }
 {
     let mut struck = [0u8; 64];
-    let count = trimming::trim_flags(table, &mut struck, hits, shape, told, order);
-    trimming::needed_all(table, &mut struck, hits, shape, told, shown);
+    let count = trimming::trim_flags(table, &mut struck, hits, shape, outcomes, order);
+    trimming::needed_all(table, &mut struck, hits, shape, outcomes, shown);
     count
 }
 
@@ -95,10 +94,10 @@ fn write_lines(
     places: &[usize],
     shape: Shape,
     hits: &[u64],
-    told: &[u64],
+    outcomes: &[u64],
     out: &mut [u8],
 ) -> Answer
-    requires { ⌜ PolicyHeld (now file) (now table) (now places) shape × Matched (now table) (now hits) shape × (4096 ≤ length (now hits)) × Holds (now table) none-struck (now told) shape ⌝ }
+    requires { ⌜ PolicyHeld (now file) (now table) (now places) shape × HitsLaid (now table) (now hits) shape × (4096 ≤ length (now hits)) × OutcomesLaid (now table) none-struck (now outcomes) shape ⌝ }
     ensures { λ r. ⌜ r ≡ reportAnswer (now (file .entry)) (now (out .entry)) ⌝ }
     ensures { λ r. ⌜ now (out .exit) ≡ reportLent (now (file .entry)) (now (out .entry)) ⌝ }
 {
@@ -112,14 +111,14 @@ fn write_lines(
         table,
         hits,
         shape,
-        told,
+        outcomes,
         &mut words,
         &mut sizes,
         &mut decided,
     );
     let mut order = [0u8; 64];
     let mut shown = [0usize; 64];
-    let count = find_rules(table, hits, shape, told, &mut order, &mut shown);
+    let count = find_rules(table, hits, shape, outcomes, &mut order, &mut shown);
     let mut none = [0u8; 0];
     let conflicts = put_segments(file, places, shape, &words, &sizes, &decided, &mut none, 0);
     let struck = put_conflicts(file, places, shape, &parents, &pairs, &mut none, conflicts);
@@ -141,7 +140,7 @@ pub fn report(file: &[u8], table: &[u16], places: &[usize], shape: Shape, out: &
     ensures { λ r. ⌜ now (out .exit) ≡ reportLent (now (file .entry)) (now (out .entry)) ⌝ }
 {
     let mut hits = [0u64; 4096];
-    let mut told = [0u64; 128];
-    find_decisions(table, shape, &mut hits, &mut told);
-    write_lines(file, table, places, shape, &hits, &told, out)
+    let mut outcomes = [0u64; 128];
+    find_decisions(table, shape, &mut hits, &mut outcomes);
+    write_lines(file, table, places, shape, &hits, &outcomes, out)
 }

@@ -23,7 +23,7 @@ use Rattle.table.specs.Shape.{hitOf}
 use Rattle.table.proofs.Above.{Parent, top}
 use Rattle.decisions.specs.Replies.{replyAt}
 use Rattle.matching.specs.Hits.{bitOf, wordsOf, Rest}
-use Rattle.matching.proofs.Putting.{Put, outside}
+use Rattle.matching.proofs.Copying.{PlaneCopied, outside}
 use Rattle.blocks.specs.declared.Replies.{Replies}
 use Rattle.blocks.specs.Bits.{decisionBy, replyBit, Answers}
 use Rattle.rows.specs.Words.{appliesAt, givesAt}
@@ -86,22 +86,22 @@ row-applied t hits n blocks i row few narrowed b v hit l u answers =
 
 -- What each bit of the rows says, by the test of targets that it answers: of the elements and blocks before word k; all other words are as they were
 module _ (F : (Element → Bool) → ℕ → Bool) (t hits : List ℕ) (n blocks : ℕ) where
-  pub record Told (old rows : List ℕ) (k : ℕ) : Type 0 where
+  pub record Filled (old rows : List ℕ) (k : ℕ) : Type 0 where
     pub size : length rows ≡ length old
     pub bits : (i b v : ℕ) (hit : Element → Bool) → i < n → b < blocks → v < 64 → 64 * i + b < k → Answers t hits n b v hit → bit (getD rows (64 * i + b) 0) v ≡ F hit i
     pub others : (j : ℕ) → (j < k → blocks ≤ j % 64) → getD rows j 0 ≡ getD old j 0
 
-  pub told-none : (old : List ℕ) → Told old old 0
-  told-none old = record { size = refl; bits = λ i b v hit l u w a answers. absurd (omega arith); others = λ j h. refl }
+  pub filled-none : (old : List ℕ) → Filled old old 0
+  filled-none old = record { size = refl; bits = λ i b v hit l u w a answers. absurd (omega arith); others = λ j h. refl }
 
-  module _ {old rows : List ℕ} {k : ℕ} (so-far : Told old rows k) (few : blocks ≤ 64) where
+  module _ {old rows : List ℕ} {k : ℕ} (so-far : Filled old rows k) (few : blocks ≤ 64) where
     -- word k is of no block
-    pub told-skip : blocks ≤ k % 64 → Told old rows (k + 1)
-    told-skip past = record { size = so-far .size; bits = λ i b v hit l u w a answers. so-far .bits i b v hit l u w (omega arith) answers; others = λ j h. so-far .others j (λ l. h (omega arith)) }
+    pub filled-skip : blocks ≤ k % 64 → Filled old rows (k + 1)
+    filled-skip past = record { size = so-far .size; bits = λ i b v hit l u w a answers. so-far .bits i b v hit l u w (omega arith) answers; others = λ j h. so-far .others j (λ l. h (omega arith)) }
 
     -- word k is laid down
-    pub told-next : (w : ℕ) → k < length rows → k % 64 < blocks → ((v : ℕ) (hit : Element → Bool) → v < 64 → Answers t hits n (k % 64) v hit → bit w v ≡ F hit (k / 64)) → Told old (set rows k w) (k + 1)
-    told-next w room block word =
+    pub filled-next : (w : ℕ) → k < length rows → k % 64 < blocks → ((v : ℕ) (hit : Element → Bool) → v < 64 → Answers t hits n (k % 64) v hit → bit w v ≡ F hit (k / 64)) → Filled old (set rows k w) (k + 1)
+    filled-next w room block word =
         record {
           size = length-set rows k w ∙ so-far .size;
           bits = λ i b v hit l u x a answers. go i b v hit l u x a answers (test (eqb (64 * i + b) k));
@@ -119,8 +119,8 @@ module _ (F : (Element → Bool) → ℕ → Bool) (t hits : List ℕ) (n blocks
             ap (λ y. bit y v) (getD-set-other rows k (64 * i + b) w 0 other) ∙ so-far .bits i b v hit l u x (omega (arith, other)) answers
 
     -- a row is laid down
-    pub told-row : {i : ℕ} (row new : List ℕ) → k ≡ 64 * i → length new ≡ length rows → ((b v : ℕ) (hit : Element → Bool) → b < blocks → v < 64 → Answers t hits n b v hit → bit (getD row b 0) v ≡ F hit i) → Put row blocks (64 * i) rows new → Told old new (64 * (i + 1))
-    told-row {i} row new from same here copied =
+    pub filled-row : {i : ℕ} (row new : List ℕ) → k ≡ 64 * i → length new ≡ length rows → ((b v : ℕ) (hit : Element → Bool) → b < blocks → v < 64 → Answers t hits n b v hit → bit (getD row b 0) v ≡ F hit i) → PlaneCopied row blocks (64 * i) rows new → Filled old new (64 * (i + 1))
+    filled-row {i} row new from same here copied =
         record {
           size = same ∙ so-far .size;
           bits = λ j b v hit l u x a answers. go j b v hit l u x a answers (test (eqb j i));
@@ -134,20 +134,20 @@ module _ (F : (Element → Bool) → ℕ → Bool) (t hits : List ℕ) (n blocks
             ap (λ y. bit y v) (copied .others (64 * j + b) (λ a. omega (arith, other))) ∙ so-far .bits j b v hit l u x (omega (arith, other)) answers
 
 -- no bit of them behind the requests, where the test fails if no target matches
-pub told-rest : (F : (Element → Bool) → ℕ → Bool) (t : List ℕ) (s : Shape) (hits : List ℕ) {old rows : List ℕ} {k : ℕ} → ((i : ℕ) → F (λ e. false) i ≡ false) → Marked t s hits → k ≡ 64 * s .n
-    → Told F t hits (s .n) (wordsOf (s .space)) old rows k → Rest (s .n) (s .space) old rows
-told-rest F t s hits none matched end told =
+pub filled-rest : (F : (Element → Bool) → ℕ → Bool) (t : List ℕ) (s : Shape) (hits : List ℕ) {old rows : List ℕ} {k : ℕ} → ((i : ℕ) → F (λ e. false) i ≡ false) → Marked t s hits → k ≡ 64 * s .n
+    → Filled F t hits (s .n) (wordsOf (s .space)) old rows k → Rest (s .n) (s .space) old rows
+filled-rest F t s hits none matched end filled =
     record {
-      same-length = told .size;
-      clear = λ i m l past u. told .bits i (m / 64) (m % 64) (λ e. false) l (omega arith) (omega arith) (omega (arith, matched .small)) (λ j a. matched .clear j m a past u) ∙ none i;
-      others = λ j h. told .others j (λ l. h (omega arith));
+      same-length = filled .size;
+      clear = λ i m l past u. filled .bits i (m / 64) (m % 64) (λ e. false) l (omega arith) (omega arith) (omega (arith, matched .small)) (λ j a. matched .clear j m a past u) ∙ none i;
+      others = λ j h. filled .others j (λ l. h (omega arith));
     }
 
 -- all of them, of requests
-pub told-requests : (F : (Element → Bool) → ℕ → Bool) (t : List ℕ) (s : Shape) (hits : List ℕ) {old rows : List ℕ} {k : ℕ} → Marked t s hits → 64 * s .n ≤ k → Told F t hits (s .n) (wordsOf (s .space)) old rows k
+pub filled-requests : (F : (Element → Bool) → ℕ → Bool) (t : List ℕ) (s : Shape) (hits : List ℕ) {old rows : List ℕ} {k : ℕ} → Marked t s hits → 64 * s .n ≤ k → Filled F t hits (s .n) (wordsOf (s .space)) old rows k
     → (i m : ℕ) → i < s .n → m < s .space → bitOf rows i m ≡ F (hitOf s m) i
-told-requests F t s hits matched all told i m l u =
-    told .bits i (m / 64) (m % 64) (hitOf s m) l (omega arith) (omega arith) (omega (arith, matched .small)) (λ j a. matched .each j m a u)
+filled-requests F t s hits matched all filled i m l u =
+    filled .bits i (m / 64) (m % 64) (hitOf s m) l (omega arith) (omega arith) (omega (arith, matched .small)) (λ j a. matched .each j m a u)
 
 -- an element applies, or gives a decision
 abbrev pub applying : List ℕ → (Element → Bool) → ℕ → Bool
@@ -157,20 +157,20 @@ abbrev pub giving : Decision → List ℕ → List ℕ → ℕ → (Element → 
 giving d t struck n hit i = is d (replyAt hit t struck n i .decision)
 
 module _ (t : List ℕ) (s : Shape) (hits : List ℕ) {old rows : List ℕ} {k : ℕ} (matched : Marked t s hits) (all : 64 * s .n ≤ k) where
-  pub applied-all : Told (applying t) t hits (s .n) (wordsOf (s .space)) old rows k → Applied t (s .n) (hitOf s) (s .space) rows
+  pub applied-all : Filled (applying t) t hits (s .n) (wordsOf (s .space)) old rows k → Applied t (s .n) (hitOf s) (s .space) rows
   unfolding appliesAt
-  applied-all = told-requests (applying t) t s hits matched all
+  applied-all = filled-requests (applying t) t s hits matched all
 
-  pub applied-rest : k ≡ 64 * s .n → Told (applying t) t hits (s .n) (wordsOf (s .space)) old rows k → Rest (s .n) (s .space) old rows
-  applied-rest = told-rest (applying t) t s hits (λ i. refl) matched
+  pub applied-rest : k ≡ 64 * s .n → Filled (applying t) t hits (s .n) (wordsOf (s .space)) old rows k → Rest (s .n) (s .space) old rows
+  applied-rest = filled-rest (applying t) t s hits (λ i. refl) matched
 
-  pub given-all : (d : Decision) (struck : List ℕ) → Told (giving d t struck (s .n)) t hits (s .n) (wordsOf (s .space)) old rows k → Given d t struck (s .n) (hitOf s) (s .space) rows
+  pub given-all : (d : Decision) (struck : List ℕ) → Filled (giving d t struck (s .n)) t hits (s .n) (wordsOf (s .space)) old rows k → Given d t struck (s .n) (hitOf s) (s .space) rows
   unfolding givesAt
-  given-all d struck = told-requests (giving d t struck (s .n)) t s hits matched all
+  given-all d struck = filled-requests (giving d t struck (s .n)) t s hits matched all
 
-  pub given-rest : (d : Decision) (struck : List ℕ) → is d NotApplicable ≡ false → k ≡ 64 * s .n → Told (giving d t struck (s .n)) t hits (s .n) (wordsOf (s .space)) old rows k → Rest (s .n) (s .space) old rows
+  pub given-rest : (d : Decision) (struck : List ℕ) → is d NotApplicable ≡ false → k ≡ 64 * s .n → Filled (giving d t struck (s .n)) t hits (s .n) (wordsOf (s .space)) old rows k → Rest (s .n) (s .space) old rows
   unfolding replyAt
-  given-rest d struck none = told-rest (giving d t struck (s .n)) t s hits (λ i. none) matched
+  given-rest d struck none = filled-rest (giving d t struck (s .n)) t s hits (λ i. none) matched
 
 -- one of two decisions alone
 permit-alone : (p d : Bool) → (p && not d) ≡ is Decision.Permit (decisionBy p d)

@@ -67,7 +67,7 @@ pub fn apply_all(table: &[u16], hits: &[u64], shape: Shape, applied: &mut [u64])
     let mut i = 0;
     while i < n {
         let row = row_of(table, hits, n, blocks, i);
-        matching::put(&row, blocks, 64 * i, applied);
+        matching::copy_plane(&row, blocks, 64 * i, applied);
         i += 1;
     }
 }

@@ -9,7 +9,7 @@ use Rattle.meaning.specs.Model.{product}
 use Rattle.meaning.specs.Deciding.{requestOf, matches}
 use Rattle.table.specs.declared.Shape.{Shape}
 
--- the value count of each attribute
+-- how many choices each attribute has
 abbrev pub countsOf : Shape → List ℕ
 countsOf s = take (s .len) (s .counts)
 

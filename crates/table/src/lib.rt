@@ -8,7 +8,7 @@ ghost use Rattle.requests.specs.Values.{valuesOf};
 ghost use Rattle.table.specs.Rows.{Rows, wordNumber, depthOf, masksAt, elementAt, withRow};
 ghost use Rattle.table.specs.Tree.{parentOf, placeOr, Over, ruleLeft, nextChild, Room};
 
-// A policy's shape: `n` elements, the value counts of `len` attributes, and their product, the number of requests.
+// A policy's shape: `n` elements, how many choices each of `len` attributes has, and their product, the number of requests.
 pub struct Shape {
     pub n: usize,
     pub counts: [usize; 6],

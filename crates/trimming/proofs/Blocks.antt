@@ -49,12 +49,12 @@ module _ (tested : ℕ → Bool) (space block : ℕ) (before : NoneBelow tested 
   none-found-at-all end = sym (ap (placeOr space) (first-absent tested 0 space (λ m low high. before m (omega arith) (omega arith))))
 
 -- no request of a block in which none matches both the rule and an element over it gets another decision
-module _ (t struck hits told : List ℕ) (s : Shape) (rule up block : ℕ) (trial : Trial t struck hits told s rule) (above : Over t up rule) (none : bitAnd (getD hits (64 * rule + block) 0) (getD hits (64 * up + block) 0) ≡ 0) where
+module _ (t struck hits outcomes : List ℕ) (s : Shape) (rule up block : ℕ) (trial : Trial t struck hits outcomes s rule) (above : Over t up rule) (none : bitAnd (getD hits (64 * rule + block) 0) (getD hits (64 * up + block) 0) ≡ 0) where
   -- the bit of request m in element a's word
   hit-bit : (a m : ℕ) → a < s .n → m < s .space → m / 64 ≡ block → bit (getD hits (64 * a + block) 0) (m % 64) ≡ hitOf s m (elementAt t a)
   hit-bit a m inside l e = rw e at (trial .matched .hits-are a m inside l)
 
-  pub block-off : (m : ℕ) → m < s .space → m / 64 ≡ block → differsAt t (s .n) (hitOf s) told struck m ≡ false
+  pub block-off : (m : ℕ) → m < s .space → m / 64 ≡ block → differsAt t (s .n) (hitOf s) outcomes struck m ≡ false
   block-off m l e = go (test (bit own (m % 64)))
     where
       own : ℕ
@@ -69,6 +69,6 @@ module _ (t struck hits told : List ℕ) (s : Shape) (rule up block : ℕ) (tria
       neither : (bit own (m % 64) && bit over (m % 64)) ≡ false
       neither = sym (bit-and own over (m % 64)) ∙ ap (λ w. bit w (m % 64)) none ∙ bit-zero (m % 64)
 
-      go : Test (bit own (m % 64)) → differsAt t (s .n) (hitOf s) told struck m ≡ false
+      go : Test (bit own (m % 64)) → differsAt t (s .n) (hitOf s) outcomes struck m ≡ false
       go (passed x) = trial .elsewhere up m above l (sym (hit-bit up m (omega (arith, above .within, trial .element)) l e) ∙ rw x at neither)
       go (failed x) = trial .elsewhere rule m itself l (sym (hit-bit rule m (trial .element) l e) ∙ x)

@@ -19,7 +19,7 @@ use Rattle.table.specs.Tree.{placeOr, ruleLeft}
 use Rattle.table.specs.declared.Shape.{Shape}
 use Rattle.table.specs.Shape.{hitOf}
 use Rattle.outcomes.specs.Decided.{decidedAt}
-use Rattle.outcomes.specs.Ready.{Ready, Holds}
+use Rattle.outcomes.specs.PolicyTable.{PolicyTable, OutcomesLaid}
 use Rattle.trimming.specs.Decided.{changesAt, firstChangeAt, needlessAt, nextAt, trimmingAt}
 use Rattle.trimming.specs.Trims.{Trims}
 use Rattle.trimming.proofs.Trying.{ready-set, rule-word}
@@ -64,12 +64,12 @@ module _ (t : List ℕ) (n : ℕ) (hit : ℕ → Element → Bool) (space : ℕ)
   trimming-stops (suc fuel) e = rw e
 
 -- A needless rule struck: what was asked of the flags holds again, for every request gets the same decision
-module _ (t struck told : List ℕ) (s : Shape) (i : ℕ) (needless : needlessAt t (s .n) (hitOf s) (s .space) struck i ≡ true) (ready : Ready t struck s) where
+module _ (t struck outcomes : List ℕ) (s : Shape) (i : ℕ) (needless : needlessAt t (s .n) (hitOf s) (s .space) struck i ≡ true) (ready : PolicyTable t struck s) where
   needless-both : (ruleLeft t struck i ≡ true) × (isNone (firstChangeAt t (s .n) (hitOf s) (s .space) struck i) ≡ true)
   unfolding needlessAt
   needless-both = and-true (ruleLeft t struck i) (isNone (firstChangeAt t (s .n) (hitOf s) (s .space) struck i)) needless
 
-  pub ready-next : Ready t (set struck i 1) s
+  pub ready-next : PolicyTable t (set struck i 1) s
   ready-next = ready-set i (rule-word t struck i (needless-both .0)) ready
 
   decided-same : (m : ℕ) → m < s .space → decidedAt t (s .n) (hitOf s) struck m ≡ decidedAt t (s .n) (hitOf s) (set struck i 1) m
@@ -79,8 +79,8 @@ module _ (t struck told : List ℕ) (s : Shape) (i : ℕ) (needless : needlessAt
       let unchanged = first-none (changesAt t (s .n) (hitOf s) struck i) 0 (s .space) nowhere m zero-le (omega arith) in
       same-outcome _ _ (not-false _ unchanged)
 
-  pub holds-next : Holds t struck told s → Holds t (set struck i 1) told s
-  holds-next holds = record { enough = holds .enough; tells = λ m l. holds .tells m l ∙ decided-same m l }
+  pub holds-next : OutcomesLaid t struck outcomes s → OutcomesLaid t (set struck i 1) outcomes s
+  holds-next holds = record { enough = holds .enough; outcomes-are = λ m l. holds .outcomes-are m l ∙ decided-same m l }
 
 -- From the flags `first` and the places `old`, `count` rules were struck: what is to come completes what striking gives
 pub record Strikes (t : List ℕ) (s : Shape) (first old struck order : List ℕ) (count : ℕ) : Type 0 where
@@ -103,9 +103,9 @@ module _ (t : List ℕ) (s : Shape) (first old struck order : List ℕ) (count :
       rw same record { flags-left = flags-left; order-left = rw add-one (rw add-one at order-left); count-left = omega (arith, count-left) }
 
   -- no rule more
-  pub strikes-end : (flags told : List ℕ) → flags ≡ struck → trimmingAt t (s .n) (hitOf s) (s .space) (s .n - count) struck ≡ record { flags = struck; order = [] } → count ≤ s .n → s .n ≤ length old
-      → Ready t struck s → Holds t struck told s → Trims t told s first flags old order count
-  strikes-end flags told same end few room ready holds =
+  pub strikes-end : (flags outcomes : List ℕ) → flags ≡ struck → trimmingAt t (s .n) (hitOf s) (s .space) (s .n - count) struck ≡ record { flags = struck; order = [] } → count ≤ s .n → s .n ≤ length old
+      → PolicyTable t struck s → OutcomesLaid t struck outcomes s → Trims t outcomes s first flags old order count
+  strikes-end flags outcomes same end few room ready holds =
       let counted : count ≡ length (trimmingAt t (s .n) (hitOf s) (s .space) (s .n) first .order) = sym (add-zero count) ∙ rw end at (so-far .count-left) in
       let over = sets-eq (trimmingAt t (s .n) (hitOf s) (s .space) (s .n) first .order) old 0 (omega arith) in
       let laid : sets old 0 (trimmingAt t (s .n) (hitOf s) (s .space) (s .n) first .order) ≡ trimmingAt t (s .n) (hitOf s) (s .space) (s .n) first .order ++ drop count old = rw (zero-add, ← counted) at over in

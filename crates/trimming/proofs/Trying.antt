@@ -21,9 +21,9 @@ use Rattle.table.specs.declared.Shape.{Shape}
 use Rattle.table.specs.Shape.{hitOf}
 use Rattle.table.proofs.Children.{rule-struck}
 use Rattle.decisions.proofs.Leaves.{decided-without}
-use Rattle.matching.specs.Hits.{Matched}
+use Rattle.matching.specs.Hits.{HitsLaid}
 use Rattle.outcomes.specs.Decided.{decidedAt, differsAt}
-use Rattle.outcomes.specs.Ready.{Ready, Holds}
+use Rattle.outcomes.specs.PolicyTable.{PolicyTable, OutcomesLaid}
 use Rattle.outcomes.proofs.Searching.{first-alike}
 use Rattle.trimming.specs.Decided.{changesAt, firstChangeAt, shownAt, needlessAt}
 use Rattle.trimming.specs.Trial.{Trial}
@@ -57,7 +57,7 @@ rule-first : (t : List ℕ) (i : ℕ) → wordNumber t i < 2 → 2 ≤ wordNumbe
 rule-first t i rule root first = let word : wordNumber t 0 < 2 = rw first at rule in omega arith
 
 -- Element i, which is a rule, is struck
-pub ready-set : {t struck : List ℕ} {s : Shape} (i : ℕ) → wordNumber t i < 2 → Ready t struck s → Ready t (set struck i 1) s
+pub ready-set : {t struck : List ℕ} {s : Shape} (i : ℕ) → wordNumber t i < 2 → PolicyTable t struck s → PolicyTable t (set struck i 1) s
 ready-set {t} {struck} {s} i rule ready =
     record {
       rows = ready .rows;
@@ -78,19 +78,19 @@ pub set-back : (struck : List ℕ) (i flag : ℕ) → getD struck i 0 ≡ flag �
 set-back struck i flag e = set-set struck i 1 flag ∙ ap (set struck i) (sym e) ∙ set-getD struck i 0
 
 -- What gets another decision than the one laid down is what changes without element i
-module _ (t struck told : List ℕ) (s : Shape) (i : ℕ) (ready : Ready t struck s) (holds : Holds t struck told s) where
-  differs-changes : (m : ℕ) → m < s .space → differsAt t (s .n) (hitOf s) told (set struck i 1) m ≡ changesAt t (s .n) (hitOf s) struck i m
+module _ (t struck outcomes : List ℕ) (s : Shape) (i : ℕ) (ready : PolicyTable t struck s) (holds : OutcomesLaid t struck outcomes s) where
+  differs-changes : (m : ℕ) → m < s .space → differsAt t (s .n) (hitOf s) outcomes (set struck i 1) m ≡ changesAt t (s .n) (hitOf s) struck i m
   unfolding differsAt changesAt
-  differs-changes m l = ap (λ d. not (sameOutcome d (decidedAt t (s .n) (hitOf s) (set struck i 1) m))) (holds .tells m l)
+  differs-changes m l = ap (λ d. not (sameOutcome d (decidedAt t (s .n) (hitOf s) (set struck i 1) m))) (holds .outcomes-are m l)
 
-  first-changes : firstFrom (differsAt t (s .n) (hitOf s) told (set struck i 1)) 0 (s .space) ≡ firstChangeAt t (s .n) (hitOf s) (s .space) struck i
+  first-changes : firstFrom (differsAt t (s .n) (hitOf s) outcomes (set struck i 1)) 0 (s .space) ≡ firstChangeAt t (s .n) (hitOf s) (s .space) struck i
   unfolding firstChangeAt
   first-changes = first-alike _ _ 0 (s .space) (λ m low high. differs-changes m (omega arith))
 
-  pub first-change-is : (r : ℕ) → r ≡ placeOr (s .space) (firstFrom (differsAt t (s .n) (hitOf s) told (set struck i 1)) 0 (s .space)) → r ≡ placeOr (s .space) (firstChangeAt t (s .n) (hitOf s) (s .space) struck i)
+  pub first-change-is : (r : ℕ) → r ≡ placeOr (s .space) (firstFrom (differsAt t (s .n) (hitOf s) outcomes (set struck i 1)) 0 (s .space)) → r ≡ placeOr (s .space) (firstChangeAt t (s .n) (hitOf s) (s .space) struck i)
   first-change-is r e = e ∙ ap (placeOr (s .space)) first-changes
 
-  pub needless-rule : (b : Bool) → ruleLeft t struck i ≡ true → b ≡ isNone (firstFrom (differsAt t (s .n) (hitOf s) told (set struck i 1)) 0 (s .space)) → b ≡ needlessAt t (s .n) (hitOf s) (s .space) struck i
+  pub needless-rule : (b : Bool) → ruleLeft t struck i ≡ true → b ≡ isNone (firstFrom (differsAt t (s .n) (hitOf s) outcomes (set struck i 1)) 0 (s .space)) → b ≡ needlessAt t (s .n) (hitOf s) (s .space) struck i
   unfolding needlessAt
   needless-rule b rule e = rw rule (e ∙ ap isNone first-changes)
 
@@ -102,7 +102,7 @@ module _ (t struck : List ℕ) (i : ℕ) (rule : ruleLeft t struck i ≡ true) w
   pub rule-word : wordNumber t i < 2
   rule-word = ltb-true (wordNumber t i) 2 (and-true (eqb (getD struck i 0) 0) (ltb (wordNumber t i) 2) rule .1)
 
-  module _ (hits told : List ℕ) (s : Shape) (ready : Ready t struck s) (holds : Holds t struck told s) (l : i < s .n) where
+  module _ (hits outcomes : List ℕ) (s : Shape) (ready : PolicyTable t struck s) (holds : OutcomesLaid t struck outcomes s) (l : i < s .n) where
     -- what stands over it is no rule, and so not struck
     over-lives : (a : ℕ) → Over t a i → getD struck a 0 ≡ 0
     over-lives a above = go (test (eqb a i)) (test (eqb (getD struck a 0) 0))
@@ -118,17 +118,17 @@ module _ (t struck : List ℕ) (i : ℕ) (rule : ruleLeft t struck i ≡ true) w
             absurd no
 
     -- without it, a request that does not match it, or what stands over it, gets the same decision
-    elsewhere : (a m : ℕ) → Over t a i → m < s .space → hitOf s m (elementAt t a) ≡ false → differsAt t (s .n) (hitOf s) told (set struck i 1) m ≡ false
+    elsewhere : (a m : ℕ) → Over t a i → m < s .space → hitOf s m (elementAt t a) ≡ false → differsAt t (s .n) (hitOf s) outcomes (set struck i 1) m ≡ false
     unfolding differsAt decidedAt
     elsewhere a m above below off =
         let hit = hitOf s m in
         let later : (i ≡ 0 → ⊥) = rule-first t i rule-word (ready .root) in
         let same = decided-without hit t struck (s .n) i (ready .leaves) (ready .rules) (ready .flags) (ready .stays) (omega arith) l rule-flag rule-word a above (over-lives a above) off in
         let gets = decidedAt t (s .n) (hitOf s) (set struck i 1) m in
-        ap (λ d. not (sameOutcome d gets)) (holds .tells m below ∙ sym same) ∙ ap not (outcome-same gets)
+        ap (λ d. not (sameOutcome d gets)) (holds .outcomes-are m below ∙ sym same) ∙ ap not (outcome-same gets)
 
     -- it is tried by striking it
-    pub trial : Matched t hits s → Trial t (set struck i 1) hits told s i
+    pub trial : HitsLaid t hits s → Trial t (set struck i 1) hits outcomes s i
     trial matched = record { ready = ready-set i rule-word ready; matched = matched; room = holds .enough; element = l; elsewhere = elsewhere }
 
 pub needless-other : (t : List ℕ) (n : ℕ) (hit : ℕ → Element → Bool) (space : ℕ) (struck : List ℕ) (i : ℕ) → ruleLeft t struck i ≡ false → false ≡ needlessAt t n hit space struck i
@@ -146,8 +146,8 @@ module _ (t struck : List ℕ) (s : Shape) (i : ℕ) where
   shown-other other = rw other
 
 -- Flags that are those of the start
-pub asks : {t first struck told : List ℕ} {s : Shape} → struck ≡ first → Ready t first s → Holds t first told s → Ready t struck s × Holds t struck told s
+pub asks : {t first struck outcomes : List ℕ} {s : Shape} → struck ≡ first → PolicyTable t first s → OutcomesLaid t first outcomes s → PolicyTable t struck s × OutcomesLaid t struck outcomes s
 asks same ready holds = rw same (ready, holds)
 
 pub tested : (t : List ℕ) (n : ℕ) (hit : ℕ → Element → Bool) (space : ℕ) {first struck : List ℕ} (i : ℕ) {b answer : Bool} → struck ≡ first → b ≡ needlessAt t n hit space struck i → b ≡ answer → needlessAt t n hit space first i ≡ answer
-tested t n hit space i same is told = ap (λ flags. needlessAt t n hit space flags i) (sym same) ∙ sym is ∙ told
+tested t n hit space i same is answered = ap (λ flags. needlessAt t n hit space flags i) (sym same) ∙ sym is ∙ answered

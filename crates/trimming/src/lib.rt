@@ -8,10 +8,10 @@ ghost use lib.ListN.{length, drop};
 ghost use Rattle.meaning.specs.Text.{isNone, counting, firstFrom};
 ghost use Rattle.table.specs.Tree.{placeOr, ruleLeft};
 ghost use Rattle.table.specs.Shape.{hitOf};
-ghost use Rattle.matching.specs.Hits.{Matched};
+ghost use Rattle.matching.specs.Hits.{HitsLaid};
 ghost use Rattle.outcomes.specs.Decided.{differsAt};
-ghost use Rattle.outcomes.specs.Ready.{Ready, Holds};
-ghost use Rattle.trimming.specs.Decided.{firstChangeAt, shownAt, needlessAt, nextAt};
+ghost use Rattle.outcomes.specs.PolicyTable.{PolicyTable, OutcomesLaid};
+ghost use Rattle.trimming.specs.Decided.{firstChangeAt, shownAt, needlessAt, nextAt, trimmingAt};
 ghost use Rattle.trimming.specs.Trial.{Trial};
 ghost use Rattle.trimming.specs.Trims.{Trims};
 
@@ -27,11 +27,11 @@ fn first_change(
     struck: &[u8],
     hits: &[u64],
     shape: Shape,
-    told: &[u64],
+    outcomes: &[u64],
     rule: usize,
 ) -> usize
-    requires { ⌜ Trial (now table) (now struck) (now hits) (now told) shape rule ⌝ }
-    ensures { λ r. ⌜ r ≡ placeOr (shape .space) (firstFrom (differsAt (now (table .entry)) (shape .n) (hitOf shape) (now (told .entry)) (now (struck .entry))) 0 (shape .space)) ⌝ }
+    requires { ⌜ Trial (now table) (now struck) (now hits) (now outcomes) shape rule ⌝ }
+    ensures { λ r. ⌜ r ≡ placeOr (shape .space) (firstFrom (differsAt (now (table .entry)) (shape .n) (hitOf shape) (now (outcomes .entry)) (now (struck .entry))) 0 (shape .space)) ⌝ }
 {
     let space = shape.space;
     let up = table::over(table, shape.n, rule);
@@ -41,7 +41,7 @@ fn first_change(
             block += 1;
             continue;
         }
-        let first = outcomes::change_in(table, struck, hits, shape, told, block);
+        let first = outcomes::change_in(table, struck, hits, shape, outcomes, block);
         if first < space {
             return first;
         }
@@ -56,16 +56,16 @@ fn alike(
     struck: &[u8],
     hits: &[u64],
     shape: Shape,
-    told: &[u64],
+    outcomes: &[u64],
     rule: usize,
     hint: usize,
 ) -> Tried
-    requires { ⌜ Trial (now table) (now struck) (now hits) (now told) shape rule ⌝ }
-    ensures { λ r. ⌜ (r .needless ≡ isNone (firstFrom (differsAt (now (table .entry)) (shape .n) (hitOf shape) (now (told .entry)) (now (struck .entry))) 0 (shape .space))) × (r .shown < shape .space) ⌝ }
+    requires { ⌜ Trial (now table) (now struck) (now hits) (now outcomes) shape rule ⌝ }
+    ensures { λ r. ⌜ (r .needless ≡ isNone (firstFrom (differsAt (now (table .entry)) (shape .n) (hitOf shape) (now (outcomes .entry)) (now (struck .entry))) 0 (shape .space))) × (r .shown < shape .space) ⌝ }
 {
     let space = shape.space;
     if hint < space {
-        let near = outcomes::change_in(table, struck, hits, shape, told, hint / 64);
+        let near = outcomes::change_in(table, struck, hits, shape, outcomes, hint / 64);
         if near < space {
             return Tried {
                 needless: false,
@@ -73,7 +73,7 @@ fn alike(
             };
         }
     }
-    let first = first_change(table, struck, hits, shape, told, rule);
+    let first = first_change(table, struck, hits, shape, outcomes, rule);
     if first == space {
         Tried {
             needless: true,
@@ -93,11 +93,11 @@ fn needless(
     struck: &mut [u8],
     hits: &[u64],
     shape: Shape,
-    told: &[u64],
+    outcomes: &[u64],
     i: usize,
     hint: usize,
 ) -> Tried
-    requires { ⌜ Ready (now table) (now struck) shape × Matched (now table) (now hits) shape × Holds (now table) (now struck) (now told) shape × (i < shape .n) ⌝ }
+    requires { ⌜ PolicyTable (now table) (now struck) shape × HitsLaid (now table) (now hits) shape × OutcomesLaid (now table) (now struck) (now outcomes) shape × (i < shape .n) ⌝ }
     ensures { λ r. ⌜ (r .needless ≡ needlessAt (now (table .entry)) (shape .n) (hitOf shape) (shape .space) (now (struck .entry)) i) × (r .shown < shape .space) × (now (struck .exit) ≡ now (struck .entry)) ⌝ }
 {
     if !table::is_left(table, struck, i) {
@@ -107,7 +107,7 @@ fn needless(
         };
     }
     struck[i] = 1;
-    let tried = alike(table, struck, hits, shape, told, i, hint);
+    let tried = alike(table, struck, hits, shape, outcomes, i, hint);
     struck[i] = 0;
     tried
 }
@@ -118,17 +118,17 @@ fn next_rule(
     struck: &mut [u8],
     hits: &[u64],
     shape: Shape,
-    told: &[u64],
+    outcomes: &[u64],
     hints: &mut [u16],
 ) -> usize
-    requires { ⌜ Ready (now table) (now struck) shape × Matched (now table) (now hits) shape × Holds (now table) (now struck) (now told) shape × (shape .n ≤ length (now hints)) ⌝ }
+    requires { ⌜ PolicyTable (now table) (now struck) shape × HitsLaid (now table) (now hits) shape × OutcomesLaid (now table) (now struck) (now outcomes) shape × (shape .n ≤ length (now hints)) ⌝ }
     ensures { λ r. ⌜ (r ≡ placeOr (shape .n) (nextAt (now (table .entry)) (shape .n) (hitOf shape) (shape .space) (now (struck .entry)))) × (now (struck .exit) ≡ now (struck .entry)) ⌝ }
 {
     let n = shape.n;
     let mut i = n;
     while 0 < i {
         i -= 1;
-        let tried = needless(table, struck, hits, shape, told, i, hints[i] as usize);
+        let tried = needless(table, struck, hits, shape, outcomes, i, hints[i] as usize);
         if tried.needless {
             return i;
         }
@@ -143,17 +143,17 @@ fn strike_rules(
     struck: &mut [u8],
     hits: &[u64],
     shape: Shape,
-    told: &[u64],
+    outcomes: &[u64],
     hints: &mut [u16],
     order: &mut [u8],
 ) -> usize
-    requires { ⌜ Ready (now table) (now struck) shape × Matched (now table) (now hits) shape × Holds (now table) (now struck) (now told) shape × (shape .n ≤ length (now hints)) × (shape .n ≤ length (now order)) ⌝ }
-    ensures { λ r. ⌜ Trims (now (table .entry)) (now (told .entry)) shape (now (struck .entry)) (now (struck .exit)) (now (order .entry)) (now (order .exit)) r ⌝ }
+    requires { ⌜ PolicyTable (now table) (now struck) shape × HitsLaid (now table) (now hits) shape × OutcomesLaid (now table) (now struck) (now outcomes) shape × (shape .n ≤ length (now hints)) × (shape .n ≤ length (now order)) ⌝ }
+    ensures { λ r. ⌜ Trims (now (table .entry)) (now (outcomes .entry)) shape (now (struck .entry)) (now (struck .exit)) (now (order .entry)) (now (order .exit)) r ⌝ }
 {
     let n = shape.n;
     let mut count = 0;
     while count < n {
-        let next = next_rule(table, struck, hits, shape, told, hints);
+        let next = next_rule(table, struck, hits, shape, outcomes, hints);
         if next == n {
             return count;
         }
@@ -170,14 +170,26 @@ pub fn trim_flags(
     struck: &mut [u8],
     hits: &[u64],
     shape: Shape,
-    told: &[u64],
+    outcomes: &[u64],
     order: &mut [u8],
 ) -> usize
-    requires { ⌜ Ready (now table) (now struck) shape × Matched (now table) (now hits) shape × Holds (now table) (now struck) (now told) shape × (shape .n ≤ length (now order)) ⌝ }
-    ensures { λ r. ⌜ Trims (now (table .entry)) (now (told .entry)) shape (now (struck .entry)) (now (struck .exit)) (now (order .entry)) (now (order .exit)) r ⌝ }
+    requires { ⌜ PolicyTable (now table) (now struck) shape × HitsLaid (now table) (now hits) shape × OutcomesLaid (now table) (now struck) (now outcomes) shape × (shape .n ≤ length (now order)) ⌝ }
+    ensures { λ r. ⌜ Trims (now (table .entry)) (now (outcomes .entry)) shape (now (struck .entry)) (now (struck .exit)) (now (order .entry)) (now (order .exit)) r ⌝ }
 {
     let mut hints = [0u16; 64];
-    strike_rules(table, struck, hits, shape, told, &mut hints, order)
+    strike_rules(table, struck, hits, shape, outcomes, &mut hints, order)
+}
+
+// Strikes every rule that trimming strikes.
+pub fn strike(table: &[u16], struck: &mut [u8], shape: Shape)
+    requires { ⌜ PolicyTable (now table) (now struck) shape ⌝ }
+    ensures { λ _. ⌜ now (struck .exit) ≡ trimmingAt (now (table .entry)) (shape .n) (hitOf shape) (shape .space) (shape .n) (now (struck .entry)) .flags ⌝ }
+{
+    let mut hits = [0u64; 4096];
+    let mut outcomes = [0u64; 128];
+    outcomes::find_outcomes(table, struck, shape, &mut hits, &mut outcomes);
+    let mut order = [0u8; 64];
+    trim_flags(table, struck, &hits, shape, &outcomes, &mut order);
 }
 
 // The first request whose decision changes without the rule, or the number of requests.
@@ -186,14 +198,14 @@ fn needed_by(
     struck: &mut [u8],
     hits: &[u64],
     shape: Shape,
-    told: &[u64],
+    outcomes: &[u64],
     rule: usize,
 ) -> usize
-    requires { ⌜ Ready (now table) (now struck) shape × Matched (now table) (now hits) shape × Holds (now table) (now struck) (now told) shape × (rule < shape .n) × (ruleLeft (now table) (now struck) rule ≡ true) ⌝ }
+    requires { ⌜ PolicyTable (now table) (now struck) shape × HitsLaid (now table) (now hits) shape × OutcomesLaid (now table) (now struck) (now outcomes) shape × (rule < shape .n) × (ruleLeft (now table) (now struck) rule ≡ true) ⌝ }
     ensures { λ r. ⌜ (r ≡ placeOr (shape .space) (firstChangeAt (now (table .entry)) (shape .n) (hitOf shape) (shape .space) (now (struck .entry)) rule)) × (now (struck .exit) ≡ now (struck .entry)) ⌝ }
 {
     struck[rule] = 1;
-    let shown = first_change(table, struck, hits, shape, told, rule);
+    let shown = first_change(table, struck, hits, shape, outcomes, rule);
     struck[rule] = 0;
     shown
 }
@@ -204,16 +216,16 @@ fn shown_by(
     struck: &mut [u8],
     hits: &[u64],
     shape: Shape,
-    told: &[u64],
+    outcomes: &[u64],
     i: usize,
 ) -> usize
-    requires { ⌜ Ready (now table) (now struck) shape × Matched (now table) (now hits) shape × Holds (now table) (now struck) (now told) shape × (i < shape .n) ⌝ }
+    requires { ⌜ PolicyTable (now table) (now struck) shape × HitsLaid (now table) (now hits) shape × OutcomesLaid (now table) (now struck) (now outcomes) shape × (i < shape .n) ⌝ }
     ensures { λ r. ⌜ (r ≡ shownAt (now (table .entry)) (shape .n) (hitOf shape) (shape .space) (now (struck .entry)) i) × (now (struck .exit) ≡ now (struck .entry)) ⌝ }
 {
     if !table::is_left(table, struck, i) {
         return shape.space;
     }
-    needed_by(table, struck, hits, shape, told, i)
+    needed_by(table, struck, hits, shape, outcomes, i)
 }
 
 // Lays down for each rule left the first request whose decision changes without it, the number of requests where there is none and for every other element. What lies behind them stays.
@@ -222,16 +234,16 @@ pub fn needed_all(
     struck: &mut [u8],
     hits: &[u64],
     shape: Shape,
-    told: &[u64],
+    outcomes: &[u64],
     shown: &mut [usize],
 )
-    requires { ⌜ Ready (now table) (now struck) shape × Matched (now table) (now hits) shape × Holds (now table) (now struck) (now told) shape × (shape .n ≤ length (now shown)) ⌝ }
+    requires { ⌜ PolicyTable (now table) (now struck) shape × HitsLaid (now table) (now hits) shape × OutcomesLaid (now table) (now struck) (now outcomes) shape × (shape .n ≤ length (now shown)) ⌝ }
     ensures { λ _. ⌜ (now (shown .exit) ≡ map (shownAt (now (table .entry)) (shape .n) (hitOf shape) (shape .space) (now (struck .entry))) (counting 0 (shape .n)) ++ drop (shape .n) (now (shown .entry))) × (now (struck .exit) ≡ now (struck .entry)) ⌝ }
 {
     let n = shape.n;
     let mut i = 0;
     while i < n {
-        shown[i] = shown_by(table, struck, hits, shape, told, i);
+        shown[i] = shown_by(table, struck, hits, shape, outcomes, i);
         i += 1;
     }
 }

@@ -4,7 +4,7 @@ use table::Shape;
 ghost use Prim.Native.Nat.{_*_, _≤_, _<_};
 ghost use lib.ListN.{length};
 ghost use Rattle.table.specs.Rows.{Rows};
-ghost use Rattle.outcomes.specs.Ready.{Ready};
+ghost use Rattle.outcomes.specs.PolicyTable.{PolicyTable};
 
 // The number of a decision by its word, 4 for another word.
 fn decision_of(word: &[u8]) -> u8 {
@@ -113,7 +113,7 @@ fn first_alike(words: &[u64; 4096], m: usize) -> usize
 
 // Goes from request 0 to the last one and back to the first, and holds each to its number; where the decisions are told, to that of its segment, too.
 fn step_all(table: &[u16], struck: &[u8], shape: Shape, told: &[u8], shown: bool) -> bool
-    requires { ⌜ Ready (now table) (now struck) shape × (4096 ≤ length (now told)) ⌝ }
+    requires { ⌜ PolicyTable (now table) (now struck) shape × (4096 ≤ length (now told)) ⌝ }
 {
     let n = shape.n;
     let counts = shape.counts;
@@ -128,7 +128,7 @@ fn step_all(table: &[u16], struck: &[u8], shape: Shape, told: &[u8], shown: bool
         words[m] = applying(table, n, q);
         let first = first_alike(&words, m);
         let decision = decisions::decide(table, struck, n, q);
-        let number = decisions::number(decision) as u8;
+        let number = decisions::decision_number(decision) as u8;
         if shown {
             if told[first] != number {
                 return false;
@@ -149,7 +149,7 @@ pub(crate) fn stepped(file: &[u8], report: &[u8]) -> bool {
         return true;
     }
     let attributes = reading.attributes;
-    let counts = attributes.counts;
+    let counts = layout::sizes(attributes);
     let shape = Shape {
         n: reading.elements,
         counts,

@@ -8,7 +8,7 @@ use lib.Seq.{length-take-le, getD-take}
 use Rattle.meaning.specs.declared.Answer.{Answer}
 use Rattle.meaning.specs.declared.Element.{Element}
 use Rattle.meaning.specs.Text.{Bytes, gathered, line}
-use Rattle.meaning.specs.Model.{Result, refused, given, _then_, sizes}
+use Rattle.meaning.specs.Model.{Result, refused, given, _then_}
 use Rattle.meaning.specs.Reading.{Sofar, short, readText, finished}
 use Rattle.meaning.specs.Report.{fitted}
 use Rattle.meaning.specs.Writing.{headerTests, readElements, elementFields, writeFile}
@@ -18,7 +18,7 @@ use Rattle.laws.proofs.Reading.{short-given}
 use Rattle.laws.proofs.Rewritten.{elements-taken}
 use Rattle.laws.proofs.GoodLists.{Small, taken-small, taken-few}
 use Rattle.layout.specs.declared.Attributes.{Attributes}
-use Rattle.layout.specs.Places.{attributesOf}
+use Rattle.layout.specs.Places.{attributesOf, valueCounts}
 use Rattle.layout.proofs.Laws.{attributes-length}
 use Rattle.layout.proofs.Counts.{counts-are}
 use Rattle.elements.specs.declared.Elements.{Elements}
@@ -97,7 +97,7 @@ module _ (header : Bytes) (r : Header) (is : HeaderAs header r (short header the
         write-is (length old) header es ∙ ap (λ x. x then behind (length old) header es) e ∙ (λ i. behind (length old) header es (record { attributes = t .attributes i; before = t .no-element i }))
 
     module _ (list : Elements) (room : length (list .all) ≡ 65) (few : list .len ≤ 65) (c : Checked)
-        (checks : (attrs : List _) → take (a .len) (a .counts) ≡ sizes attrs → CheckedAs c (readElements (suc (a .len)) (record { attributes = attrs; before = [] }) (elementsOf list))) where
+        (checks : (attrs : List _) → take (a .len) (a .counts) ≡ valueCounts attrs → CheckedAs c (readElements (suc (a .len)) (record { attributes = attrs; before = [] }) (elementsOf list))) where
       abbrev es : List Element
       es = elementsOf list
 

@@ -7,8 +7,9 @@ use native.Mathlib.Omega.{arith}
 use lib.ListN.{length, take, drop, getD}
 use lib.Seq.{length-take-le, getD-take}
 use borrow.Author.Needs.{needs}
-use Rattle.meaning.specs.Model.{Attribute, sizes}
+use Rattle.meaning.specs.Model.{Attribute}
 use Rattle.meaning.specs.Reading.{nonZero, badMasks}
+use Rattle.layout.specs.Places.{valueCounts}
 use Rattle.checking.proofs.Zeros.{zeros-end, zeros-stop, zeros-next}
 use Rattle.checking.proofs.Masks.{wrongMasks, masks-by-counts, masks-end, mask-empty, mask-high, mask-good}
 use Rattle.checking.proofs.bad_masks.Statement.{statement}
@@ -37,8 +38,8 @@ sized c =
 
 -- an answer is right if the masks are so by the counts
 answer : (c : tie.Start Inv-loop μ-loop Inv-loop2 μ-loop2) (r : Bool) → wrongMasks (counted c) (c .args .t3) ≡ r
-    → (attrs : List Attribute) → counted c ≡ sizes attrs → r ≡ badMasks attrs (c .args .t3)
-answer c r gives attrs sizes-are = sym (masks-by-counts attrs (c .args .t3) ∙ sym (ap (λ ns. wrongMasks ns (c .args .t3)) sizes-are) ∙ gives)
+    → (attrs : List Attribute) → counted c ≡ valueCounts attrs → r ≡ badMasks attrs (c .args .t3)
+answer c r gives attrs counts-are = sym (masks-by-counts attrs (c .args .t3) ∙ sym (ap (λ ns. wrongMasks ns (c .args .t3)) counts-are) ∙ gives)
 
 loop-holds : tie.Need-loop-holds Inv-loop μ-loop Inv-loop2 μ-loop2
 loop-holds c = (search needs, refl)

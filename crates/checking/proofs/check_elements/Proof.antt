@@ -5,18 +5,19 @@ use mathlib.Core.List.{List, []}
 use native.Mathlib.Omega.{arith}
 use lib.ListN.{length, take, getD, length-map}
 use borrow.Author.Needs.{needs}
-use Rattle.meaning.specs.Model.{Attribute, sizes}
+use Rattle.meaning.specs.Model.{Attribute}
 use Rattle.meaning.specs.Writing.{readElements}
 use Rattle.layout.proofs.Placing.{stands-more}
+use Rattle.layout.specs.Places.{valueCounts}
 use Rattle.checking.specs.Tested.{none, earlier, behind, Begun}
 use Rattle.checking.proofs.Earlier.{earlier-length}
-use Rattle.checking.proofs.Walk.{refusalAt, remaining, all-remain, none-remains, element-refused, element-passed, refusal-told, end-told, standIns, stand-in-sizes, Sound, sound, begun-first, begun-next}
+use Rattle.checking.proofs.Walk.{refusalAt, remaining, all-remain, none-remains, element-refused, element-passed, refusal-told, end-told, standIns, stand-in-counts, Sound, sound, begun-first, begun-next}
 use Rattle.checking.proofs.check_elements.Statement.{statement}
 use Rattle.checking.proofs.check_elements.Tie as tie
 
 abbrev Inv-loop : tie.InvT-loop
 Inv-loop counts attributes all len tree₀ tree =
-    (tree .len ≤ len) × Begun all tree × ((attrs : List Attribute) → take attributes counts ≡ sizes attrs → readElements (suc attributes) (record { attributes = attrs; before = [] }) (take len all) ≡ remaining attributes attrs all len (tree .len))
+    (tree .len ≤ len) × Begun all tree × ((attrs : List Attribute) → take attributes counts ≡ valueCounts attrs → readElements (suc attributes) (record { attributes = attrs; before = [] }) (take len all) ≡ remaining attributes attrs all len (tree .len))
 
 abbrev μ-loop : tie.MeasureT-loop
 μ-loop counts attributes all len tree₀ tree = len - tree .len
@@ -33,7 +34,7 @@ passed-here c =
     let turn = c .before .before .before .before in
     let a = turn .before .before .args in
     let ns = take (a .attributes) (a .counts) in
-    sound (standIns ns) (a .list .all) (turn .loop .tree .len) (sym (c .before .element-refusal .ensures (standIns ns) (stand-in-sizes ns)) ∙ c .if2 .left)
+    sound (standIns ns) (a .list .all) (turn .loop .tree .len) (sym (c .before .element-refusal .ensures (standIns ns) (stand-in-counts ns)) ∙ c .if2 .left)
 
 -- the tree with it
 tree-more : (c : tie.After-with-element Inv-loop μ-loop) → let turn = c .before .before .before .before .before .before in let all = turn .before .before .args .list .all in Begun all (c .with-element .result) × (c .with-element .result .len ≡ turn .loop .tree .len + 1)

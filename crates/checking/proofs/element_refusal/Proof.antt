@@ -9,8 +9,9 @@ use lib.ListN.{length, take, drop}
 use borrow.Author.Needs.{needs}
 use borrow.Author.Tests.{not-true, not-false, le-leb, lt-leb, eq-eqb, ne-eqb}
 use Rattle.meaning.specs.Text.{empty, isNone}
-use Rattle.meaning.specs.Model.{Attribute, sizes, wordText}
+use Rattle.meaning.specs.Model.{Attribute, wordText}
 use Rattle.meaning.specs.Reading.{wordOf, wellPlaced, badName, lowest, elementTests}
+use Rattle.layout.specs.Places.{valueCounts}
 use Rattle.checking.specs.Tested.{earlier, behind}
 use Rattle.checking.proofs.Names.{name-short}
 use Rattle.checking.proofs.Earlier.{earlier-length, none-counted}
@@ -23,7 +24,7 @@ number c attrs k = lowest (drop k (elementTests (behind attrs (c .args .all) (c 
 
 -- attributes of these counts
 abbrev Counted : tie.Start → List Attribute → Type 0
-Counted c attrs = take (c .args .attributes) (c .args .counts) ≡ sizes attrs
+Counted c attrs = take (c .args .attributes) (c .args .counts) ≡ valueCounts attrs
 
 -- The start, from behind each branch
 abbrev start-1 : tie.Else1 → tie.Start

@@ -13,7 +13,7 @@ use Rattle.jogimaduve.proofs.jogimaduve_decide.Reads as reads
 use Rattle.jogimaduve.proofs.jogimaduve_decide.Lts as lts
 use Rattle.request_lines.proofs.request_line.Reads as request-line-reads
 use Rattle.decisions.proofs.decide.Reads as decide-reads
-use Rattle.decisions.proofs.number.Reads as number-reads
+use Rattle.decisions.proofs.decision_number.Reads as decision-number-reads
 use Rattle.reader.proofs.read.Reads as read-reads
 use Rattle.reader.proofs.refusal.Reads as refusal-reads
 
@@ -53,7 +53,7 @@ returns-3 c =
     let read-well = c .before .before .before .before .before .before .before .before .before .if1 .left in
     let asked = c .before .before .before .before .before .before .before .request-line in
     let holds = file-read _ _ _ _ (reading .ensures .answer) read-well .2 in
-    request-decided _ _ _ _ (reading .ensures .answer) read-well _ (asked .result) (asked .ensures) (not-false _ (c .before .before .before .before .before .if2 .left)) _ (λ k l. getD-replicate 64 k 0 0 (omega (arith, l, holds .rooms .named .room))) _ (c .before .decide .ensures) _ (c .number .ensures .0)
+    request-decided _ _ _ _ (reading .ensures .answer) read-well _ (asked .result) (asked .ensures) (not-false _ (c .before .before .before .before .before .if2 .left)) _ (λ k l. getD-replicate 64 k 0 0 (omega (arith, l, holds .rooms .named .room))) _ (c .before .decide .ensures) _ (c .decision-number .ensures .0)
 
 pub jogimaduve-decide-spec : {M : Type 1} → statement M
 jogimaduve-decide-spec =

@@ -6,7 +6,7 @@ use borrow.Author.Needs.{needs}
 use lib.ListN.{length}
 use Rattle.table.specs.Shape.{hitOf}
 use Rattle.matching.specs.Hits.{Hits, Rest}
-use Rattle.matching.proofs.Putting.{put-is, rest-none, rest-next}
+use Rattle.matching.proofs.Copying.{copied-is, rest-none, rest-next}
 use Rattle.matching.proofs.Targets.{hits-none, hits-next}
 use Rattle.matching.proofs.match_all.Statement.{statement}
 use Rattle.matching.proofs.match_all.Tie as tie
@@ -24,13 +24,13 @@ loop-again : tie.Need-loop-again Inv-loop μ-loop
 loop-again c =
     let start = c .before .before .before .before .before .before .before .before .before .before .before .before .before in
     let turn = c .before .before .before .before .before .before .before .before .loop in
-    let put = c .before .before .put in
+    let put = c .before .before .copy-plane in
     let t = start .args .table .now in
     let shape = start .args .shape in
     let own = c .before .before .before .before .before .before .masks-at in
     let masks = c .before .before .before .before .before .match-masks in
     let wide : length (masks .result) ≡ 64 = search needs in
-    let copied = put-is (masks .result) ((shape .space + 63) / 64) (64 * turn .i) (turn .hits) (put .last .1 .1 .1 .0) (put .ensures) (omega arith) (omega arith) in (
+    let copied = copied-is (masks .result) ((shape .space + 63) / 64) (64 * turn .i) (turn .hits) (put .last .1 .1 .1 .0) (put .ensures) (omega arith) (omega arith) in (
       omega arith,
       put .kept .1 .1 .1 .0 ∙ turn .inv .1,
       hits-next t shape (omega arith) (omega arith) (turn .inv .2) (own .ensures) (λ m l. masks .ensures .bits m (omega (arith, start .pre .counted .all))) copied,

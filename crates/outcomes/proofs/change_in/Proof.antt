@@ -28,7 +28,7 @@ returns c =
     let hits = start .args .hits .now in
     let shape = start .args .shape in
     let reply = c .before .before .before .before .before .before .before .before .before .reply in
-    block-alike t struck hits shape (start .pre .0) (start .pre .1) (start .args .block) (reply .result) (reply .ensures) (start .args .told .now) (c .before .before .before .if1 .taken) (c .if2 .taken)
+    block-alike t struck hits shape (start .pre .0) (start .pre .1) (start .args .block) (reply .result) (reply .ensures) (start .args .outcomes .now) (c .before .before .before .if1 .taken) (c .if2 .taken)
 
 returns-2 : tie.Need-returns-2
 returns-2 c =
@@ -38,7 +38,7 @@ returns-2 c =
     let hits = start .args .hits .now in
     let shape = start .args .shape in
     let reply = c .before .before .before .before .before .before .before .reply in
-    block-other t struck hits shape (start .pre .0) (start .pre .1) (start .args .block) (reply .result) (reply .ensures) (start .args .told .now) _ (c .first-other .ensures)
+    block-other t struck hits shape (start .pre .0) (start .pre .1) (start .args .block) (reply .result) (reply .ensures) (start .args .outcomes .now) _ (c .first-other .ensures)
 
 pub change-in-spec : {M : Type 1} → statement M
 change-in-spec =

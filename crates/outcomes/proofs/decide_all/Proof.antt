@@ -3,21 +3,21 @@ use Prim.Native.Nat.{_+_, _-_, _*_, _<_}
 use mathlib.Core.Path.{_≡_, refl}
 use native.Mathlib.Omega.{arith}
 use lib.ListN.{length, length-set}
-use Rattle.outcomes.proofs.Blocks.{toTell, block-room, given-tells}
-use Rattle.outcomes.proofs.Telling.{Tells, tells-none, tells-next, tells-holds, tells-rest}
+use Rattle.outcomes.proofs.Blocks.{outcomeUpTo, block-room, given-outcome}
+use Rattle.outcomes.proofs.LayingOutcomes.{OutcomesTo, outcomes-none, outcomes-next, outcomes-laid, outcomes-rest}
 use borrow.Author.Needs.{needs}
 use Rattle.outcomes.proofs.decide_all.Statement.{statement}
 use Rattle.outcomes.proofs.decide_all.Tie as tie
 
 abbrev Inv-loop : tie.InvT-loop
-Inv-loop table struck hits shape told₀ space block₀ told block =
-    (64 * block < space + 64) × (length told ≡ length told₀) × Tells (toTell table struck shape) told₀ told block
+Inv-loop table struck hits shape outcomes₀ space block₀ outcomes block =
+    (64 * block < space + 64) × (length outcomes ≡ length outcomes₀) × OutcomesTo (outcomeUpTo table struck shape) outcomes₀ outcomes block
 
 abbrev μ-loop : tie.MeasureT-loop
-μ-loop table struck hits shape told₀ space block₀ told block = space + 64 - 64 * block
+μ-loop table struck hits shape outcomes₀ space block₀ outcomes block = space + 64 - 64 * block
 
 loop-holds : tie.Need-loop-holds Inv-loop μ-loop
-loop-holds c = (omega arith, refl, tells-none _ _)
+loop-holds c = (omega arith, refl, outcomes-none _ _)
 
 mul-loop : tie.Need-mul-loop Inv-loop μ-loop
 mul-loop c = omega (arith, c .before .before .before .before .before .pre .0 .small)
@@ -28,8 +28,8 @@ reply-requires c κs =
     let ready = start .pre .0 in
     block-room (start .args .table .now) (start .args .struck .now) (start .args .hits .now) (start .args .shape) ready (start .pre .1) _ (omega (arith, ready .small))
 
-slice-write-told-2 : tie.Need-slice-write-told-2 Inv-loop μ-loop
-slice-write-told-2 c = simp length-set (omega (arith, c .before .before .before .before .before .before .before .before .pre .0 .small))
+slice-write-outcomes-2 : tie.Need-slice-write-outcomes-2 Inv-loop μ-loop
+slice-write-outcomes-2 c = simp length-set (omega (arith, c .before .before .before .before .before .before .before .before .pre .0 .small))
 
 loop-again : tie.Need-loop-again Inv-loop μ-loop
 loop-again c =
@@ -39,10 +39,10 @@ loop-again c =
     let struck = start .args .struck .now in
     let shape = start .args .shape in
     let ready = start .pre .0 in
-    let given = given-tells t struck (start .args .hits .now) shape ready (start .pre .1) (turn .block) (c .before .reply .result) (c .before .reply .ensures) (omega arith) in (
+    let given = given-outcome t struck (start .args .hits .now) shape ready (start .pre .1) (turn .block) (c .before .reply .result) (c .before .reply .ensures) (omega arith) in (
       omega arith,
       rw (length-set, length-set) (turn .inv .1),
-      tells-next _ given (omega (arith, ready .small)) (omega arith) (turn .inv .2),
+      outcomes-next _ given (omega (arith, ready .small)) (omega arith) (turn .inv .2),
     )
 
 returns : tie.Need-returns Inv-loop μ-loop
@@ -52,7 +52,7 @@ returns c =
     let t = start .args .table .now in
     let struck = start .args .struck .now in
     let shape = start .args .shape in
-    (tells-holds t struck shape _ (turn .told) (turn .block) (turn .inv .2) (omega arith) (omega arith) (omega arith), tells-rest t struck shape _ (turn .told) (turn .block) (turn .inv .2) (omega arith) (omega arith))
+    (outcomes-laid t struck shape _ (turn .outcomes) (turn .block) (turn .inv .2) (omega arith) (omega arith) (omega arith), outcomes-rest t struck shape _ (turn .outcomes) (turn .block) (turn .inv .2) (omega arith) (omega arith))
 
 pub decide-all-spec : {M : Type 1} → statement M
 decide-all-spec =
@@ -67,7 +67,7 @@ decide-all-spec =
     (λ c. search needs)
     (λ c. search needs)
     (λ c. search needs)
-    slice-write-told-2
+    slice-write-outcomes-2
     (λ c. search needs)
     (λ c. search needs)
     loop-again

@@ -27,14 +27,14 @@ returns c =
 returns-2 : tie.Need-returns-2 Inv-loop μ-loop
 returns-2 c =
     let turn = c .before .before .before .before .before .loop in
-    let differ : decisionBit (c .before .before .before .before .before .before .args .given) (turn .v) ≡ decisionBit (c .before .before .before .before .before .before .args .before) (turn .v) → ⊥ = λ e. c .if2 .taken (c .before .before .number .ensures .0 ∙ ap decisionNumber e ∙ sym (c .before .number2 .ensures .0)) in
+    let differ : decisionBit (c .before .before .before .before .before .before .args .given) (turn .v) ≡ decisionBit (c .before .before .before .before .before .before .args .before) (turn .v) → ⊥ = λ e. c .if2 .taken (c .before .before .outcome-number .ensures .0 ∙ ap decisionNumber e ∙ sym (c .before .outcome-number2 .ensures .0)) in
     record { within = omega arith; found = λ l. (turn .v, omega arith, refl, differ); none-earlier = λ u l before. turn .inv .1 u (omega arith) }
 
 loop-again : tie.Need-loop-again Inv-loop μ-loop
 loop-again c =
     let turn = c .before .before .before .before .before .loop in
     let args = c .before .before .before .before .before .before .args in
-    let here : decisionBit (args .given) (turn .v) ≡ decisionBit (args .before) (turn .v) = same-number _ _ (sym (c .before .before .number .ensures .0) ∙ c .if2 .left ∙ c .before .number2 .ensures .0) in
+    let here : decisionBit (args .given) (turn .v) ≡ decisionBit (args .before) (turn .v) = same-number _ _ (sym (c .before .before .outcome-number .ensures .0) ∙ c .if2 .left ∙ c .before .outcome-number2 .ensures .0) in
     (omega arith, up-to (λ u. decisionBit (args .given) u ≡ decisionBit (args .before) u) (turn .v) (turn .inv .1) here)
 
 returns-3 : tie.Need-returns-3 Inv-loop μ-loop

@@ -9,11 +9,11 @@ use Rattle.trimming.proofs.first_change.Statement.{statement}
 use Rattle.trimming.proofs.first_change.Tie as tie
 
 abbrev Inv-loop : tie.InvT-loop
-Inv-loop table struck hits shape told rule space up block₀ block =
-    (64 * block < space + 64) × NoneBelow (differsAt table (shape .n) (hitOf shape) told struck) space block
+Inv-loop table struck hits shape outcomes rule space up block₀ block =
+    (64 * block < space + 64) × NoneBelow (differsAt table (shape .n) (hitOf shape) outcomes struck) space block
 
 abbrev μ-loop : tie.MeasureT-loop
-μ-loop table struck hits shape told rule space up block₀ block = space + 64 - 64 * block
+μ-loop table struck hits shape outcomes rule space up block₀ block = space + 64 - 64 * block
 
 over-requires : tie.Need-over-requires Inv-loop μ-loop
 over-requires c κs = let pre = c .before .before .before .before .pre in (pre .ready .rows, pre .element)

@@ -12,11 +12,11 @@ use Rattle.trimming.proofs.needed_all.Statement.{statement}
 use Rattle.trimming.proofs.needed_all.Tie as tie
 
 abbrev Inv-loop : tie.InvT-loop
-Inv-loop table struck₀ hits shape told shown₀ n i₀ struck shown i =
+Inv-loop table struck₀ hits shape outcomes shown₀ n i₀ struck shown i =
     (i ≤ n) × (struck ≡ struck₀) × Lays (shownAt table (shape .n) (hitOf shape) (shape .space) struck₀) n shown₀ shown i
 
 abbrev μ-loop : tie.MeasureT-loop
-μ-loop table struck₀ hits shape told shown₀ n i₀ struck shown i = n - i
+μ-loop table struck₀ hits shape outcomes shown₀ n i₀ struck shown i = n - i
 
 loop-holds : tie.Need-loop-holds Inv-loop μ-loop
 loop-holds c = (omega arith, refl, lays-none _ _ _)

@@ -9,7 +9,7 @@ use Rattle.trimming.proofs.needed_by.Tie as tie
 first-change-requires : tie.Need-first-change-requires
 first-change-requires c κs =
     let start = c .before .before .before .before .before in
-    trial (start .args .table .now) (start .args .struck .now) (start .args .rule) (start .pre .4) (start .args .hits .now) (start .args .told .now) (start .args .shape) (start .pre .0) (start .pre .2) (start .pre .3) (start .pre .1)
+    trial (start .args .table .now) (start .args .struck .now) (start .args .rule) (start .pre .4) (start .args .hits .now) (start .args .outcomes .now) (start .args .shape) (start .pre .0) (start .pre .2) (start .pre .3) (start .pre .1)
 
 slice-write-struck-2 : tie.Need-slice-write-struck-2
 slice-write-struck-2 c = simp length-set (omega arith)
@@ -19,7 +19,7 @@ returns c =
     let start = c .before .before .before .before .before .before in
     let struck = start .args .struck .now in
     let rule = start .args .rule in
-    (first-change-is (start .args .table .now) struck (start .args .told .now) (start .args .shape) rule (start .pre .0) (start .pre .2) _ (c .first-change .ensures), set-back struck rule 0 (rule-flag (start .args .table .now) struck rule (start .pre .4)))
+    (first-change-is (start .args .table .now) struck (start .args .outcomes .now) (start .args .shape) rule (start .pre .0) (start .pre .2) _ (c .first-change .ensures), set-back struck rule 0 (rule-flag (start .args .table .now) struck rule (start .pre .4)))
 
 pub needed-by-spec : {M : Type 1} → statement M
 needed-by-spec =

@@ -19,7 +19,7 @@ alike-requires : tie.Need-alike-requires
 alike-requires c κs =
     let start = c .before .before .before .before .before .before .before .before in
     let rule = sym (c .before .before .is-left .ensures) ∙ not-false _ (c .before .if1 .left) in
-    trial (start .args .table .now) (start .args .struck .now) (start .args .i) rule (start .args .hits .now) (start .args .told .now) (start .args .shape) (start .pre .0) (start .pre .2) (start .pre .3) (start .pre .1)
+    trial (start .args .table .now) (start .args .struck .now) (start .args .i) rule (start .args .hits .now) (start .args .outcomes .now) (start .args .shape) (start .pre .0) (start .pre .2) (start .pre .3) (start .pre .1)
 
 slice-write-struck-2 : tie.Need-slice-write-struck-2
 slice-write-struck-2 c = simp length-set (omega arith)
@@ -31,7 +31,7 @@ returns-2 c =
     let struck = start .args .struck .now in
     let rule = sym (c .before .before .before .is-left .ensures) ∙ not-false _ (c .before .before .if1 .left) in
     let i = start .args .i in
-    (needless-rule t struck (start .args .told .now) (start .args .shape) i (start .pre .0) (start .pre .2) _ rule (c .alike .ensures .0), c .alike .ensures .1, set-back struck i 0 (rule-flag t struck i rule))
+    (needless-rule t struck (start .args .outcomes .now) (start .args .shape) i (start .pre .0) (start .pre .2) _ rule (c .alike .ensures .0), c .alike .ensures .1, set-back struck i 0 (rule-flag t struck i rule))
 
 pub needless-spec : {M : Type 1} → statement M
 needless-spec =

@@ -14,12 +14,12 @@ use Rattle.trimming.proofs.next_rule.Statement.{statement}
 use Rattle.trimming.proofs.next_rule.Tie as tie
 
 abbrev Inv-loop : tie.InvT-loop
-Inv-loop table struck₀ hits shape told hints₀ n i₀ struck hints i =
+Inv-loop table struck₀ hits shape outcomes hints₀ n i₀ struck hints i =
     let test = needlessAt table (shape .n) (hitOf shape) (shape .space) struck₀ in
     (i ≤ n) × (struck ≡ struck₀) × (length hints ≡ length hints₀) × (lastBelow test n ≡ lastBelow test i)
 
 abbrev μ-loop : tie.MeasureT-loop
-μ-loop table struck₀ hits shape told hints₀ n i₀ struck hints i = i
+μ-loop table struck₀ hits shape outcomes hints₀ n i₀ struck hints i = i
 
 loop-holds : tie.Need-loop-holds Inv-loop μ-loop
 loop-holds c = (omega arith, refl, refl, refl)

@@ -5,17 +5,17 @@ use native.Mathlib.Omega.{arith}
 use borrow.Author.Needs.{needs}
 use lib.ListN.{length, length-set}
 use Rattle.table.specs.Shape.{hitOf}
-use Rattle.outcomes.specs.Ready.{Ready, Holds}
+use Rattle.outcomes.specs.PolicyTable.{PolicyTable, OutcomesLaid}
 use Rattle.trimming.proofs.Strikes.{Next, next-found, next-none, trimming-stops, ready-next, holds-next, Strikes, strikes-none, strikes-next, strikes-end, strikes-all}
 use Rattle.trimming.proofs.strike_rules.Statement.{statement}
 use Rattle.trimming.proofs.strike_rules.Tie as tie
 
 abbrev Inv-loop : tie.InvT-loop
-Inv-loop table struck₀ hits shape told hints₀ order₀ n count₀ struck hints order count =
-    (count ≤ n) × (length struck ≡ length struck₀) × (length hints ≡ length hints₀) × (length order ≡ length order₀) × Ready table struck shape × Holds table struck told shape × Strikes table shape struck₀ order₀ struck order count
+Inv-loop table struck₀ hits shape outcomes hints₀ order₀ n count₀ struck hints order count =
+    (count ≤ n) × (length struck ≡ length struck₀) × (length hints ≡ length hints₀) × (length order ≡ length order₀) × PolicyTable table struck shape × OutcomesLaid table struck outcomes shape × Strikes table shape struck₀ order₀ struck order count
 
 abbrev μ-loop : tie.MeasureT-loop
-μ-loop table struck₀ hits shape told hints₀ order₀ n count₀ struck hints order count = n - count
+μ-loop table struck₀ hits shape outcomes hints₀ order₀ n count₀ struck hints order count = n - count
 
 loop-holds : tie.Need-loop-holds Inv-loop μ-loop
 loop-holds c = let start = c .before .before .before .before .before .before in (omega arith, refl, refl, refl, start .pre .0, start .pre .2, strikes-none _ _ _ _)
@@ -61,8 +61,8 @@ loop-again c =
       rw length-set (ap length same ∙ turn .inv .1),
       search needs,
       rw length-set (turn .inv .3),
-      rw same (ready-next t (turn .struck) (start .args .told .now) shape _ (next .needless) (turn .inv .4)),
-      rw same (holds-next t (turn .struck) (start .args .told .now) shape _ (next .needless) (turn .inv .4) (turn .inv .5)),
+      rw same (ready-next t (turn .struck) (start .args .outcomes .now) shape _ (next .needless) (turn .inv .4)),
+      rw same (holds-next t (turn .struck) (start .args .outcomes .now) shape _ (next .needless) (turn .inv .4) (turn .inv .5)),
       strikes-next t shape _ _ _ _ _ (turn .inv .6) _ _ (omega arith) same next,
     )
 

@@ -8,8 +8,11 @@ use Rattle.vectors.proofs.stepping.stepped.Tie as tie
 
 step-all-requires : tie.Need-step-all-requires
 step-all-requires c κs =
-    let read-well = file-read _ _ _ _ (c .before .before .before .before .before .before .before .before .before .before .before .before .before .before .before .read .ensures .answer) (c .before .before .before .before .before .before .before .before .before .before .before .if1 .left) in
-    (ready _ _ _ _ (read-well .0) (read-well .1) (read-well .2) _ refl _ (omega arith) refl, omega arith)
+    let reading = c .before .before .before .before .before .before .before .before .before .before .before .before .before .before .before .read in
+    let r = reading .result in
+    let sized = c .before .before .before .before .before .before .before .before .before .sizes .ensures in
+    let read-well = file-read _ _ _ _ (reading .ensures .answer) (c .before .before .before .before .before .before .before .before .before .before .before .if1 .left) in
+    (ready _ _ _ _ (read-well .0) (read-well .1) (read-well .2) _ (λ i. record { n = r .elements; counts = sized i; len = r .attributes .len; space = r .space }) _ (omega arith) refl, omega arith)
 
 pub stepped-spec : {M : Type 1} → statement M
 stepped-spec =
@@ -19,6 +22,7 @@ stepped-spec =
     (λ c. search needs)
     (λ c κs. search needs)
     (λ c. search needs)
+    (λ c κs. search needs)
     (λ c. search needs)
     (λ c κs. search needs)
     (λ c κs. search needs)

@@ -7,10 +7,10 @@ use Rattle.table.specs.Tree.{Leaves, RulesStruck}
 use Rattle.table.specs.declared.Shape.{Shape}
 use Rattle.table.specs.Rows.{Rows, wordNumber}
 use Rattle.table.specs.Shape.{Counted, hitOf}
-use Rattle.outcomes.specs.Decided.{toldAt, decidedAt}
+use Rattle.outcomes.specs.Decided.{outcomeAt, decidedAt}
 
 -- a table of 1 to 64 elements whose first is no rule and whose rules have no children, a flag for each, set for rules alone, and at most 4,096 requests
-pub record Ready (t struck : List ℕ) (s : Shape) : Type 0 where
+pub record PolicyTable (t struck : List ℕ) (s : Shape) : Type 0 where
   pub rows : Rows t (s .n)
   pub flags : s .n ≤ length struck
   pub some : 1 ≤ s .n
@@ -24,6 +24,6 @@ pub record Ready (t struck : List ℕ) (s : Shape) : Type 0 where
   pub small : s .space ≤ 4096
 
 -- the words that tell what each request gets under these flags
-pub record Holds (t struck told : List ℕ) (s : Shape) : Type 0 where
-  pub enough : 128 ≤ length told
-  pub tells : (m : ℕ) → m < s .space → toldAt told m ≡ decidedAt t (s .n) (hitOf s) struck m
+pub record OutcomesLaid (t struck outcomes : List ℕ) (s : Shape) : Type 0 where
+  pub enough : 128 ≤ length outcomes
+  pub outcomes-are : (m : ℕ) → m < s .space → outcomeAt outcomes m ≡ decidedAt t (s .n) (hitOf s) struck m

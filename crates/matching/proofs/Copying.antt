@@ -14,7 +14,7 @@ use Rattle.matching.specs.Planes.{Clear}
 use Rattle.matching.specs.Hits.{bitOf, wordsOf, Rest}
 
 -- the words from `at` on are the first ones of the plane, and all others are as they were
-pub record Put (plane : List ℕ) (words at : ℕ) (old new : List ℕ) : Type 0 where
+pub record PlaneCopied (plane : List ℕ) (words at : ℕ) (old new : List ℕ) : Type 0 where
   pub here : (k : ℕ) → k < words → getD new (at + k) 0 ≡ getD plane k 0
   pub others : (k : ℕ) → (at ≤ k → at + words ≤ k) → getD new k 0 ≡ getD old k 0
 
@@ -46,8 +46,8 @@ module _ (plane : List ℕ) (words at : ℕ) (old new : List ℕ) (is : new ≡ 
       ∙ getD-append-add (take at old) (take words plane) k 0
       ∙ getD-take words plane k 0 l
 
-  pub put-is : Put plane words at old new
-  put-is = record { here = copied; others = λ k apart. go k apart (test (leb at k)) }
+  pub copied-is : PlaneCopied plane words at old new
+  copied-is = record { here = copied; others = λ k apart. go k apart (test (leb at k)) }
     where
       go : (k : ℕ) → (at ≤ k → at + words ≤ k) → Test (leb at k) → getD new k 0 ≡ getD old k 0
       go k apart (passed t) = behind k (apart (leb-true at k t))
@@ -66,7 +66,7 @@ module _ (space : ℕ) (old : List ℕ) where
   rest-none = record { same-length = refl; clear = λ i m l a b. absurd (omega arith); others = λ k h. refl }
 
   -- one row more
-  pub rest-next : {i : ℕ} {plane mid new : List ℕ} → space ≤ 4096 → Clear plane space → length new ≡ length mid → Put plane (wordsOf space) (64 * i) mid new → Rest i space old mid → Rest (i + 1) space old new
+  pub rest-next : {i : ℕ} {plane mid new : List ℕ} → space ≤ 4096 → Clear plane space → length new ≡ length mid → PlaneCopied plane (wordsOf space) (64 * i) mid new → Rest i space old mid → Rest (i + 1) space old new
   rest-next {i} {plane} {mid} {new} small bare same copied so-far =
       let enough : wordsOf space ≤ 64 = omega arith in
       record {
