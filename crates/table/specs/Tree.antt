@@ -61,6 +61,10 @@ Leaves t n = (k : ℕ) → k + 1 < n → wordNumber t k < 2 → depthOf t (k + 1
 abbrev pub RulesStruck : List ℕ → List ℕ → ℕ → Type 0
 RulesStruck t struck n = (k : ℕ) → k < n → (getD struck k 0 ≡ 0 → ⊥) → wordNumber t k < 2
 
+-- the nearest earlier element that is less deep, or the element itself where there is none
+unfoldable pub overOf : List ℕ → ℕ → ℕ
+overOf t i = placeOr i (lastBelow (λ j. ltb (depthOf t j) (depthOf t i)) i)
+
 -- element a is i, or stands over it: those behind it up to i are deeper
 pub record Over (t : List ℕ) (a i : ℕ) : Type 0 where
   pub within : a ≤ i

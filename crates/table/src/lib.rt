@@ -6,7 +6,7 @@ ghost use lib.ListN.{length};
 ghost use Rattle.meaning.specs.Deciding.{matches};
 ghost use Rattle.requests.specs.Values.{valuesOf};
 ghost use Rattle.table.specs.Rows.{Rows, wordNumber, depthOf, masksAt, elementAt, withRow};
-ghost use Rattle.table.specs.Tree.{parentOf, placeOr, Over, ruleLeft, nextChild, Room};
+ghost use Rattle.table.specs.Tree.{parentOf, placeOr, overOf, Over, ruleLeft, nextChild, Room};
 
 // A policy's shape: `n` elements, how many choices each of `len` attributes has, and their product, the number of requests.
 pub struct Shape {
@@ -114,7 +114,8 @@ pub fn parent(table: &[u16], n: usize, i: usize) -> usize
 // The nearest earlier element that is less deep, or the element itself where there is none.
 pub fn over(table: &[u16], n: usize, i: usize) -> usize
     requires { ⌜ Rows (now table) n × (i < n) ⌝ }
-    ensures { λ r. ⌜ Over (now (table .entry)) r i ⌝ }
+    ensures { λ r. ⌜ r ≡ overOf (now (table .entry)) i ⌝ }
+    ensures above { λ r. ⌜ Over (now (table .entry)) r i ⌝ }
 {
     let depth = depth_at(table, i);
     let mut j = i;

@@ -37,23 +37,23 @@ shared-slice-read-if1 : tie.Need-shared-slice-read-if1 Inv-loop μ-loop
 shared-slice-read-if1 c = let pre = c .before .before .before .before .before .before .before .before .pre in omega (arith, pre .ready .few, pre .element, pre .ready .small, pre .matched .room)
 
 mul-if1-3 : tie.Need-mul-if1-3 Inv-loop μ-loop
-mul-if1-3 c = let pre = c .before .before .before .before .before .before .before .before .pre in omega (arith, pre .ready .few, pre .element, pre .ready .small, pre .matched .room, c .before .before .before .over .ensures .within)
+mul-if1-3 c = let pre = c .before .before .before .before .before .before .before .before .pre in omega (arith, pre .ready .few, pre .element, pre .ready .small, pre .matched .room, c .before .before .before .over .ensures .1 .within)
 
 add-if1-2 : tie.Need-add-if1-2 Inv-loop μ-loop
-add-if1-2 c = let pre = c .before .before .before .before .before .before .before .before .pre in omega (arith, pre .ready .few, pre .element, pre .ready .small, pre .matched .room, c .before .before .before .over .ensures .within)
+add-if1-2 c = let pre = c .before .before .before .before .before .before .before .before .pre in omega (arith, pre .ready .few, pre .element, pre .ready .small, pre .matched .room, c .before .before .before .over .ensures .1 .within)
 
 mul-if1-4 : tie.Need-mul-if1-4 Inv-loop μ-loop
-mul-if1-4 c = let pre = c .before .before .before .before .before .before .before .before .pre in omega (arith, pre .ready .few, pre .element, pre .ready .small, pre .matched .room, c .before .before .before .over .ensures .within)
+mul-if1-4 c = let pre = c .before .before .before .before .before .before .before .before .pre in omega (arith, pre .ready .few, pre .element, pre .ready .small, pre .matched .room, c .before .before .before .over .ensures .1 .within)
 
 shared-slice-read-if1-2 : tie.Need-shared-slice-read-if1-2 Inv-loop μ-loop
-shared-slice-read-if1-2 c = let pre = c .before .before .before .before .before .before .before .before .before .pre in omega (arith, pre .ready .few, pre .element, pre .ready .small, pre .matched .room, c .before .before .before .before .over .ensures .within)
+shared-slice-read-if1-2 c = let pre = c .before .before .before .before .before .before .before .before .before .pre in omega (arith, pre .ready .few, pre .element, pre .ready .small, pre .matched .room, c .before .before .before .before .over .ensures .1 .within)
 
 loop-again : tie.Need-loop-again Inv-loop μ-loop
 loop-again c =
     let start = c .before .before .before .before .before .before .before .before .before .before in
     let turn = c .before .before .before .before .loop in
     let above = c .before .before .before .before .before .over in
-    let off = block-off _ _ _ _ (start .args .shape) (start .args .rule) (above .result) (turn .block) (start .pre) (above .ensures) (c .if1 .taken) in
+    let off = block-off _ _ _ _ (start .args .shape) (start .args .rule) (above .result) (turn .block) (start .pre) (above .ensures .1) (c .if1 .taken) in
     (omega arith, block-passed _ (start .args .shape .space) (turn .block) (turn .inv .1) off)
 
 change-in-requires : tie.Need-change-in-requires Inv-loop μ-loop
