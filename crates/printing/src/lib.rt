@@ -93,14 +93,14 @@ pub fn text_answer(needed: usize, room: usize) -> Answer
     requires { ⌜ needed < 4294967296 ⌝ }
     ensures { λ r. ⌜ r ≡ textTold needed room ⌝ }
 {
-    if room < needed {
+    if needed <= room {
         return Answer {
-            number: 11,
+            number: 0,
             second: needed as u32,
         };
     }
     Answer {
-        number: 0,
+        number: 11,
         second: needed as u32,
     }
 }
