@@ -9,15 +9,12 @@
 
 #include "jogimaduve.h"
 
-/* A request has at most six names of 16 bytes, and the tabs between them. */
-enum { LONGEST_FILE = 16384, LONGEST_REQUEST = 6 * 16 + 5 };
-
 /* Says what a request gets, and moves the arm on permit alone. */
 static void show(const char *what, jogimaduve_answer answer) {
     static const char *const words[] = {"permit", "deny", "not-applicable", "indeterminate"};
-    if (answer.number != 0) printf("%s refused %" PRIu32 " %" PRIu32, what, answer.number, answer.second);
+    if (answer.number != JOGIMADUVE_DONE) printf("%s refused %" PRIu32 " %" PRIu32, what, answer.number, answer.second);
     else printf("%s", words[answer.second]);
-    puts(answer.number == 0 && answer.second == JOGIMADUVE_PERMIT ? ": move" : ": do not move");
+    puts(answer.number == JOGIMADUVE_DONE && answer.second == JOGIMADUVE_PERMIT ? ": move" : ": do not move");
     fflush(stdout);
 }
 
@@ -26,15 +23,15 @@ static int read_line(uint8_t *line, size_t *length) {
     int byte;
     *length = 0;
     while ((byte = getchar()) != EOF && byte != '\n') {
-        if (*length <= LONGEST_REQUEST) line[(*length)++] = (uint8_t)byte;
+        if (*length <= JOGIMADUVE_LONGEST_REQUEST) line[(*length)++] = (uint8_t)byte;
     }
     return byte == '\n';
 }
 
 int main(int argc, char **argv) {
-    static uint8_t file[LONGEST_FILE + 1]; /* one byte more: a longer file is refused, not cut */
-    static uint8_t policy[LONGEST_FILE];
-    uint8_t request[LONGEST_REQUEST + 1];
+    static uint8_t file[JOGIMADUVE_LONGEST_FILE + 1]; /* one byte more: a longer file is refused, not cut */
+    static uint8_t policy[JOGIMADUVE_LONGEST_FILE];
+    uint8_t request[JOGIMADUVE_LONGEST_REQUEST + 1];
     FILE *input = argc == 2 ? fopen(argv[1], "rb") : NULL;
     size_t length = input != NULL ? fread(file, 1, sizeof file, input) : 0;
     if (input == NULL || ferror(input)) {
@@ -43,7 +40,7 @@ int main(int argc, char **argv) {
     }
     fclose(input);
     jogimaduve_answer trimmed = jogimaduve_trim(file, length, policy, sizeof policy);
-    if (trimmed.number != 0) {
+    if (trimmed.number != JOGIMADUVE_DONE) {
         show("policy", trimmed);
         return 1;
     }
