@@ -176,9 +176,17 @@ fn fold(
     };
     let mut at = from;
     while at < n {
-        at = table::next_child(table, struck, n, at, depth);
-        if at == n {
+        if struck[at] != 0 {
+            at += 1;
+            continue;
+        }
+        let d = table::depth_at(table, at);
+        if d < depth {
             return so_far.given;
+        }
+        if depth < d {
+            at += 1;
+            continue;
         }
         if hits[64 * at + block] == 0 {
             at += 1;

@@ -124,7 +124,7 @@ module _ (hit : Element → Bool) (t s : List ℕ) (n d : ℕ) where
       with-child = ap (λ cs. combined (algorithmAt a) (so ∷ cs)) (next-is ∙ here r inside)
 
       -- it does not match: it may be left out
-      pub child-off : hit (elementAt t r) ≡ false → combined (algorithmAt a) (so ∷ repliesFrom hit t s n d i) ≡ combined (algorithmAt a) (so ∷ repliesFrom hit t s n d (r + 1))
+      child-off : hit (elementAt t r) ≡ false → combined (algorithmAt a) (so ∷ repliesFrom hit t s n d i) ≡ combined (algorithmAt a) (so ∷ repliesFrom hit t s n d (r + 1))
       child-off off =
           with-child
           ∙ ap (λ c. combined (algorithmAt a) (so ∷ c ∷ repliesFrom hit t s n d (r + 1))) (reply-off hit t s n r off)
@@ -138,6 +138,29 @@ module _ (hit : Element → Bool) (t s : List ℕ) (n d : ℕ) where
           ∙ ap (λ c. combined (algorithmAt a) (so ∷ c ∷ repliesFrom hit t s n d (r + 1))) (sym decided)
           ∙ sym (fold-step a so child (repliesFrom hit t s n d (r + 1)))
           ∙ ap (λ c. combined (algorithmAt a) (c ∷ repliesFrom hit t s n d (r + 1))) (sym stepped)
+
+-- The same, one element after the other: element i, which is struck, or is not and has the depth r
+module _ (hit : Element → Bool) (t s : List ℕ) (n d i : ℕ) (l : i < n) where
+  pub replies-struck : (getD s i 0 ≡ 0 → ⊥) → repliesFrom hit t s n d i ≡ repliesFrom hit t s n d (i + 1)
+  replies-struck = struck-one hit t s n d i l
+
+  module _ (r : ℕ) (live : getD s i 0 ≡ 0) (is : r ≡ depthOf t i) where
+    pub replies-over : r < d → repliesFrom hit t s n d i ≡ []
+    replies-over h = behind-all hit t s n d i l live (omega (arith, is))
+
+    pub replies-deeper : d < r → repliesFrom hit t s n d i ≡ repliesFrom hit t s n d (i + 1)
+    replies-deeper h = deeper-one hit t s n d i l live (omega (arith, is))
+
+    module _ (a : ℕ) (so : ChildReply) (h : r ≡ d) where
+      itself : i ≡ nextChild t s n d i
+      itself = sym (child-here t s n i d l live (sym is ∙ h))
+
+      pub replies-off : hit (elementAt t i) ≡ false → combined (algorithmAt a) (so ∷ repliesFrom hit t s n d i) ≡ combined (algorithmAt a) (so ∷ repliesFrom hit t s n d (i + 1))
+      replies-off = child-off hit t s n d i i (omega arith) itself a l so
+
+      pub replies-step : (child next : ChildReply) → child ≡ replyAt hit t s n i → next ≡ stepOf (algorithmAt a) so child
+          → combined (algorithmAt a) (so ∷ repliesFrom hit t s n d i) ≡ combined (algorithmAt a) (next ∷ repliesFrom hit t s n d (i + 1))
+      replies-step = child-step hit t s n d i i (omega arith) itself a l so
 
 -- an algorithm, by the number of its word
 pub algorithm-word : (w : ℕ) → 2 ≤ w → wordAt w ≡ algorithmAt (w - 2)

@@ -5,6 +5,7 @@ use mathlib.Core.Bool.{Bool}
 use mathlib.Core.List.{_∷_}
 use native.Mathlib.Numerals.{add-one}
 use native.Mathlib.Omega.{arith}
+use lib.ListN.{getD}
 use borrow.Author.Needs.{needs}
 use Rattle.meaning.specs.declared.Element.{Element}
 use Rattle.meaning.specs.Deciding.{bit, combined}
@@ -12,7 +13,7 @@ use Rattle.laws.proofs.Bits.{bit-zero}
 use Rattle.table.specs.Rows.{algorithmAt, wordAt, depthOf, wordNumber}
 use Rattle.decisions.specs.Replies.{repliesFrom}
 use Rattle.decisions.proofs.Combining.{Settled, neutral, start-settled, step-settled}
-use Rattle.decisions.proofs.Children.{children-none, children-end, child-off, child-step, algorithm-word}
+use Rattle.decisions.proofs.Children.{children-none, replies-struck, replies-over, replies-deeper, replies-off, replies-step, algorithm-word}
 use Rattle.blocks.specs.Bits.{decisionBit, replyBit, Answers}
 use Rattle.blocks.proofs.Replying.{reply-none, reply-permit, reply-deny, reply-group}
 use borrow.Fn.Kinds.{In}
@@ -26,7 +27,6 @@ use Rattle.blocks.proofs.+fold+reply.Lts-reply as reply-lts
 use Rattle.blocks.proofs.step.Reads as step-reads
 use Rattle.table.proofs.depth_at.Reads as depth-at-reads
 use Rattle.table.proofs.word_at.Reads as word-at-reads
-use Rattle.table.proofs.next_child.Reads as next-child-reads
 use Rattle.blocks.proofs.+fold+reply.{statement}
 use Rattle.blocks.proofs.+fold+reply.Tie.{close}
 
@@ -50,7 +50,7 @@ reply-below t = and 3 reply-kinds.ps (falls 3 reply-kinds.ps _<_ μ-reply t) rep
 
 -- what each knows of those that it calls
 abbrev fold-claims : ℕ → fold-lts.Claims
-fold-claims t = (next-child-reads.Asked, next-child-reads.Learnt, reply-below t, reply.Post, step-reads.Asked, step-reads.Learnt)
+fold-claims t = (depth-at-reads.Asked, depth-at-reads.Learnt, reply-below t, reply.Post, step-reads.Asked, step-reads.Learnt)
 
 abbrev reply-claims : ℕ → reply-lts.Claims
 reply-claims t = (word-at-reads.Asked, word-at-reads.Learnt, depth-at-reads.Asked, depth-at-reads.Learnt, fold-below t, fold.Post)
@@ -70,27 +70,8 @@ fold-loop-holds t c =
     let args = c .before .before .before .args in
     (omega arith, omega arith, (λ v. rw (bit-zero v) (start-settled (args .algorithm))), λ v hit answers. rw (bit-zero v) (sym (neutral (args .algorithm) _)))
 
-fold-next-child-requires : (t : ℕ) → fold-lts.Need-next-child-requires (fold-claims t) (fold-at t) fold.Post fold-Inv-loop fold-μ-loop
-fold-next-child-requires t c κs = search needs
-
-fold-returns : (t : ℕ) → fold-lts.Need-returns (fold-claims t) (fold-at t) fold.Post fold-Inv-loop fold-μ-loop
-fold-returns t c v hit answers =
-    let args = c .before .before .before .before .before .before .before .before .args in
-    let turn = c .before .before .before .before .loop in
-    let ended = children-end hit (args .table .now) (args .struck .now) (args .n) (args .depth) (turn .at) _ (omega arith) (c .before .before .next-child .ensures .0) (c .before .if1 .taken) in
-    sym (turn .inv .3 v hit answers ∙ rw ended (turn .inv .2 v))
-
-fold-mul-if2 : (t : ℕ) → fold-lts.Need-mul-if2 (fold-claims t) (fold-at t) fold.Post fold-Inv-loop fold-μ-loop
-fold-mul-if2 t c = search needs
-
-fold-add-if2 : (t : ℕ) → fold-lts.Need-add-if2 (fold-claims t) (fold-at t) fold.Post fold-Inv-loop fold-μ-loop
-fold-add-if2 t c = search needs
-
-fold-mul-if2-2 : (t : ℕ) → fold-lts.Need-mul-if2-2 (fold-claims t) (fold-at t) fold.Post fold-Inv-loop fold-μ-loop
-fold-mul-if2-2 t c = search needs
-
-fold-shared-slice-read-if2 : (t : ℕ) → fold-lts.Need-shared-slice-read-if2 (fold-claims t) (fold-at t) fold.Post fold-Inv-loop fold-μ-loop
-fold-shared-slice-read-if2 t c = search needs
+fold-shared-slice-read-if1 : (t : ℕ) → fold-lts.Need-shared-slice-read-if1 (fold-claims t) (fold-at t) fold.Post fold-Inv-loop fold-μ-loop
+fold-shared-slice-read-if1 t c = search needs
 
 fold-add-at : (t : ℕ) → fold-lts.Need-add-at (fold-claims t) (fold-at t) fold.Post fold-Inv-loop fold-μ-loop
 fold-add-at t c = search needs
@@ -100,22 +81,21 @@ fold-loop-less t c = search needs
 
 fold-loop-again : (t : ℕ) → fold-lts.Need-loop-again (fold-claims t) (fold-at t) fold.Post fold-Inv-loop fold-μ-loop
 fold-loop-again t c =
-    let args = c .before .before .before .before .before .before .before .before .before .args in
-    let turn = c .before .before .before .before .before .loop in
-    let next = c .before .before .before .next-child in (
-      omega arith,
-      omega arith,
-      turn .inv .2,
-      λ v hit answers.
-          let off = sym (answers (next .result) (omega arith)) ∙ ap (λ w. bit w v) (c .if2 .taken) ∙ bit-zero v in
-          turn .inv .3 v hit answers ∙ child-off hit (args .table .now) (args .struck .now) (args .n) (args .depth) (turn .at) _ (omega arith) (next .ensures .0) (args .algorithm) (omega arith) (replyBit (turn .so-far) v) off,
-    )
+    let args = c .before .before .before .before .before .before .before .args in
+    let turn = c .before .before .before .loop in
+    let in-table : turn .at < args .n = omega arith in
+    (omega arith, omega arith, turn .inv .2, λ v hit answers. turn .inv .3 v hit answers ∙ rw (replies-struck hit (args .table .now) (args .struck .now) (args .n) (args .depth) (turn .at) in-table (c .if1 .taken)))
 
-fold-reply-requires : (t : ℕ) → fold-lts.Need-reply-requires (fold-claims t) (fold-at t) fold.Post fold-Inv-loop fold-μ-loop
-fold-reply-requires t c κs = search needs
+fold-depth-at-requires : (t : ℕ) → fold-lts.Need-depth-at-requires (fold-claims t) (fold-at t) fold.Post fold-Inv-loop fold-μ-loop
+fold-depth-at-requires t c κs = search needs
 
-fold-step-requires : (t : ℕ) → fold-lts.Need-step-requires (fold-claims t) (fold-at t) fold.Post fold-Inv-loop fold-μ-loop
-fold-step-requires t c κs = search needs
+fold-returns : (t : ℕ) → fold-lts.Need-returns (fold-claims t) (fold-at t) fold.Post fold-Inv-loop fold-μ-loop
+fold-returns t c v hit answers =
+    let args = c .before .before .before .before .before .before .before .before .before .before .args in
+    let turn = c .before .before .before .before .before .before .loop in
+    let in-table : turn .at < args .n = omega arith in
+    let ended = replies-over hit (args .table .now) (args .struck .now) (args .n) (args .depth) (turn .at) in-table _ (c .before .before .before .if1 .left) (c .before .before .depth-at .ensures .0) (c .before .if2 .taken) in
+    sym (turn .inv .3 v hit answers ∙ rw ended (turn .inv .2 v))
 
 fold-add-at-2 : (t : ℕ) → fold-lts.Need-add-at-2 (fold-claims t) (fold-at t) fold.Post fold-Inv-loop fold-μ-loop
 fold-add-at-2 t c = search needs
@@ -125,16 +105,75 @@ fold-loop-less-2 t c = search needs
 
 fold-loop-again-2 : (t : ℕ) → fold-lts.Need-loop-again-2 (fold-claims t) (fold-at t) fold.Post fold-Inv-loop fold-μ-loop
 fold-loop-again-2 t c =
-    let args = c .before .before .before .before .before .before .before .before .before .before .before .args in
-    let turn = c .before .before .before .before .before .before .before .loop in
-    let next = c .before .before .before .before .before .next-child in
-    let child = c .before .reply in (
+    let args = c .before .before .before .before .before .before .before .before .before .before .args in
+    let turn = c .before .before .before .before .before .before .loop in
+    let in-table : turn .at < args .n = omega arith in (
       omega arith,
       omega arith,
-      (λ v. step-settled (args .algorithm) (replyBit (turn .so-far) v) (replyBit (child .result) v) (replyBit (c .step .result) v) (c .step .ensures v)),
+      turn .inv .2,
+      λ v hit answers.
+          let passed = replies-deeper hit (args .table .now) (args .struck .now) (args .n) (args .depth) (turn .at) in-table _ (c .before .before .before .if1 .left) (c .before .before .depth-at .ensures .0) (c .if3 .taken) in
+          turn .inv .3 v hit answers ∙ rw passed,
+    )
+
+fold-mul-if4 : (t : ℕ) → fold-lts.Need-mul-if4 (fold-claims t) (fold-at t) fold.Post fold-Inv-loop fold-μ-loop
+fold-mul-if4 t c = search needs
+
+fold-add-if4 : (t : ℕ) → fold-lts.Need-add-if4 (fold-claims t) (fold-at t) fold.Post fold-Inv-loop fold-μ-loop
+fold-add-if4 t c = search needs
+
+fold-mul-if4-2 : (t : ℕ) → fold-lts.Need-mul-if4-2 (fold-claims t) (fold-at t) fold.Post fold-Inv-loop fold-μ-loop
+fold-mul-if4-2 t c = search needs
+
+fold-shared-slice-read-if4 : (t : ℕ) → fold-lts.Need-shared-slice-read-if4 (fold-claims t) (fold-at t) fold.Post fold-Inv-loop fold-μ-loop
+fold-shared-slice-read-if4 t c = search needs
+
+fold-add-at-3 : (t : ℕ) → fold-lts.Need-add-at-3 (fold-claims t) (fold-at t) fold.Post fold-Inv-loop fold-μ-loop
+fold-add-at-3 t c = search needs
+
+fold-loop-less-3 : (t : ℕ) → fold-lts.Need-loop-less-3 (fold-claims t) (fold-at t) fold.Post fold-Inv-loop fold-μ-loop
+fold-loop-less-3 t c = search needs
+
+fold-loop-again-3 : (t : ℕ) → fold-lts.Need-loop-again-3 (fold-claims t) (fold-at t) fold.Post fold-Inv-loop fold-μ-loop
+fold-loop-again-3 t c =
+    let args = c .before .before .before .before .before .before .before .before .before .before .before .before .args in
+    let turn = c .before .before .before .before .before .before .before .before .loop in
+    let in-table : turn .at < args .n = omega arith in
+    let child : c .before .before .before .before .depth-at .result ≡ args .depth = omega arith in (
+      omega arith,
+      omega arith,
+      turn .inv .2,
+      λ v hit answers.
+          let off = sym (answers (turn .at) in-table) ∙ ap (λ w. bit w v) (c .if4 .taken) ∙ bit-zero v in
+          turn .inv .3 v hit answers
+          ∙ replies-off hit (args .table .now) (args .struck .now) (args .n) (args .depth) (turn .at) in-table _ (c .before .before .before .before .before .if1 .left) (c .before .before .before .before .depth-at .ensures .0) (args .algorithm) (replyBit (turn .so-far) v) child off,
+    )
+
+fold-reply-requires : (t : ℕ) → fold-lts.Need-reply-requires (fold-claims t) (fold-at t) fold.Post fold-Inv-loop fold-μ-loop
+fold-reply-requires t c κs = search needs
+
+fold-step-requires : (t : ℕ) → fold-lts.Need-step-requires (fold-claims t) (fold-at t) fold.Post fold-Inv-loop fold-μ-loop
+fold-step-requires t c κs = search needs
+
+fold-add-at-4 : (t : ℕ) → fold-lts.Need-add-at-4 (fold-claims t) (fold-at t) fold.Post fold-Inv-loop fold-μ-loop
+fold-add-at-4 t c = search needs
+
+fold-loop-less-4 : (t : ℕ) → fold-lts.Need-loop-less-4 (fold-claims t) (fold-at t) fold.Post fold-Inv-loop fold-μ-loop
+fold-loop-less-4 t c = search needs
+
+fold-loop-again-4 : (t : ℕ) → fold-lts.Need-loop-again-4 (fold-claims t) (fold-at t) fold.Post fold-Inv-loop fold-μ-loop
+fold-loop-again-4 t c =
+    let args = c .before .before .before .before .before .before .before .before .before .before .before .before .before .before .args in
+    let turn = c .before .before .before .before .before .before .before .before .before .before .loop in
+    let in-table : turn .at < args .n = omega arith in
+    let child : c .before .before .before .before .before .before .depth-at .result ≡ args .depth = omega arith in (
+      omega arith,
+      omega arith,
+      (λ v. step-settled (args .algorithm) (replyBit (turn .so-far) v) (replyBit (c .before .reply .result) v) (replyBit (c .step .result) v) (c .step .ensures v)),
       λ v hit answers.
           turn .inv .3 v hit answers
-          ∙ child-step hit (args .table .now) (args .struck .now) (args .n) (args .depth) (turn .at) _ (omega arith) (next .ensures .0) (args .algorithm) (omega arith) (replyBit (turn .so-far) v) (replyBit (child .result) v) (replyBit (c .step .result) v) (child .ensures v hit answers) (c .step .ensures v),
+          ∙ replies-step hit (args .table .now) (args .struck .now) (args .n) (args .depth) (turn .at) in-table _ (c .before .before .before .before .before .before .before .if1 .left) (c .before .before .before .before .before .before .depth-at .ensures .0)
+          (args .algorithm) (replyBit (turn .so-far) v) child (replyBit (c .before .reply .result) v) (replyBit (c .step .result) v) (c .before .reply .ensures v hit answers) (c .step .ensures v),
     )
 
 fold-returns-2 : (t : ℕ) → fold-lts.Need-returns-2 (fold-claims t) (fold-at t) fold.Post fold-Inv-loop fold-μ-loop
@@ -204,20 +243,27 @@ pub +fold+reply-spec : {M : Type 1} → statement M
     fold-Inv-loop
     fold-μ-loop
     (fold-loop-holds t)
-    (fold-next-child-requires t)
-    (fold-returns t)
-    (fold-mul-if2 t)
-    (fold-add-if2 t)
-    (fold-mul-if2-2 t)
-    (fold-shared-slice-read-if2 t)
+    (fold-shared-slice-read-if1 t)
     (fold-add-at t)
     (fold-loop-less t)
     (fold-loop-again t)
-    (fold-reply-requires t)
-    (fold-step-requires t)
+    (fold-depth-at-requires t)
+    (fold-returns t)
     (fold-add-at-2 t)
     (fold-loop-less-2 t)
     (fold-loop-again-2 t)
+    (fold-mul-if4 t)
+    (fold-add-if4 t)
+    (fold-mul-if4-2 t)
+    (fold-shared-slice-read-if4 t)
+    (fold-add-at-3 t)
+    (fold-loop-less-3 t)
+    (fold-loop-again-3 t)
+    (fold-reply-requires t)
+    (fold-step-requires t)
+    (fold-add-at-4 t)
+    (fold-loop-less-4 t)
+    (fold-loop-again-4 t)
     (fold-returns-2 t))
     λ t. reply-lts.spec (reply-claims t)
     (reply-at t)
