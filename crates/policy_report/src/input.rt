@@ -3,7 +3,7 @@ ghost use Prim.Native.Nat.{_≤_};
 ghost use lib.ListN.{length};
 
 // How many bytes were read, and whether a read failed behind them.
-pub struct Input {
+pub(crate) struct Input {
     pub length: usize,
     pub failed: bool,
 }
@@ -21,7 +21,7 @@ fn read_some(fd: i32, part: &mut [u8]) -> Input
 }
 
 // Reads until nothing more comes.
-pub fn read_all(fd: i32, file: &mut [u8]) -> Input
+pub(crate) fn read_all(fd: i32, file: &mut [u8]) -> Input
     ensures { λ r. ⌜ r .length ≤ length (now (file .entry)) ⌝ }
 {
     let mut done = 0;
