@@ -1,0 +1,53 @@
+/* The header's names: each refusal and decision has the paper's number, shown by an input that gets it. */
+#include "check.h"
+
+#define A "A\tx\ta\tb\n"
+#define P "P\t0\ttop\tfirst-applicable\t*\n"
+#define GOOD A P "R\t1\tr1\tpermit\ta\nR\t1\tr2\tdeny\tb\n"
+
+static uint8_t buffer[JOGIMADUVE_REPORT_BUFFER];
+static uint8_t long_file[JOGIMADUVE_LONGEST_FILE + 1];
+
+#define REFUSED(file, number, second) answers(jogimaduve_trim(TEXT(file), buffer, sizeof buffer), number, second, file, __LINE__)
+#define DECIDED(file, request, decision) answers(jogimaduve_decide(TEXT(file), TEXT(request)), JOGIMADUVE_DONE, decision, request, __LINE__)
+
+/* The longest request that can be good: six names of 16 bytes, and a byte more. */
+static void longest_request(void) {
+    static char file[512], request[JOGIMADUVE_LONGEST_REQUEST + 2];
+    size_t size = 0, length = 0;
+    for (int i = 0; i < 6; i++) size += (size_t)sprintf(file + size, "A\t%c\t0123456789abcdef\n", 'a' + i);
+    size += (size_t)sprintf(file + size, "P\t0\ttop\tdeny-overrides\t*\t*\t*\t*\t*\t*\n");
+    for (int i = 0; i < 6; i++) length += (size_t)sprintf(request + length, "%s0123456789abcdef", i == 0 ? "" : "\t");
+    check(length == JOGIMADUVE_LONGEST_REQUEST, "the longest request", __LINE__);
+    answers(jogimaduve_decide((const uint8_t *)file, size, (const uint8_t *)request, length), JOGIMADUVE_DONE, JOGIMADUVE_NOT_APPLICABLE, "the longest request", __LINE__);
+    request[length] = 'x';
+    answers(jogimaduve_decide((const uint8_t *)file, size, (const uint8_t *)request, length + 1), JOGIMADUVE_BAD_REQUEST, 6, "a byte more", __LINE__);
+}
+
+int main(void) {
+    memset(long_file, 'A', sizeof long_file);
+    answers(jogimaduve_trim(long_file, sizeof long_file, buffer, sizeof buffer), JOGIMADUVE_TOO_LONG, 0, "too long", __LINE__);
+    answers(jogimaduve_trim(long_file, sizeof long_file - 1, buffer, sizeof buffer), JOGIMADUVE_BAD_LINE, 1, "as long as can be", __LINE__);
+    REFUSED("A\tx\n", JOGIMADUVE_BAD_LINE, 1);
+    REFUSED("A\tx\t-a\n", JOGIMADUVE_BAD_NAME, 1);
+    REFUSED("A\tx\ta\ta\n", JOGIMADUVE_NAME_USED, 1);
+    REFUSED("A\tx\t0\t1\t2\t3\t4\t5\t6\t7\t8\t9\ta\tb\tc\td\te\tf\tg\n", JOGIMADUVE_TOO_MANY, 1);
+    REFUSED(A P A, JOGIMADUVE_NAME_USED, 3);
+    REFUSED(A P "A\ty\ta\n", JOGIMADUVE_BAD_PLACE, 3);
+    REFUSED(A "P\t0\ttop\tonly-one-applicable\t*\n", JOGIMADUVE_BAD_WORD, 2);
+    REFUSED(A "P\t0\ttop\tdeny-overrides\ta,b\n", JOGIMADUVE_BAD_TARGET, 2);
+    REFUSED(A, JOGIMADUVE_NO_ELEMENT, 0);
+    answers(jogimaduve_decide(TEXT(GOOD), TEXT("c")), JOGIMADUVE_BAD_REQUEST, 1, "no value", __LINE__);
+    answers(jogimaduve_decide(TEXT(GOOD), TEXT("a\ta")), JOGIMADUVE_BAD_REQUEST, 0, "two fields", __LINE__);
+    /* a length of 0 asks for the bytes needed, and so many are enough */
+    answers(jogimaduve_trim(TEXT(GOOD), buffer, 0), JOGIMADUVE_SHORT_BUFFER, sizeof GOOD - 1, "no buffer", __LINE__);
+    jogimaduve_answer needed = jogimaduve_report(TEXT(GOOD), buffer, 0);
+    check(needed.number == JOGIMADUVE_SHORT_BUFFER, "no buffer", __LINE__);
+    answers(jogimaduve_report(TEXT(GOOD), buffer, needed.second), JOGIMADUVE_DONE, needed.second, "the bytes needed", __LINE__);
+    DECIDED(GOOD, "a", JOGIMADUVE_PERMIT);
+    DECIDED(GOOD, "b", JOGIMADUVE_DENY);
+    DECIDED(A P, "a", JOGIMADUVE_NOT_APPLICABLE);
+    DECIDED(A "S\t0\ttop\tonly-one-applicable\t*\nP\t1\tp\tdeny-overrides\t*\nP\t1\tq\tdeny-overrides\t*\n", "a", JOGIMADUVE_INDETERMINATE);
+    longest_request();
+    return checks_done();
+}
