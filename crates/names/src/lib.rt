@@ -6,6 +6,7 @@ ghost use lib.ListN.{length, take, drop};
 ghost use Rattle.meaning.specs.Text.{all, sameName, cut, tab, nameByte, isName};
 ghost use Rattle.meaning.specs.Deciding.{valueOf};
 ghost use Rattle.names.specs.Places.{foundOf};
+ghost use Rattle.names.specs.Ends.{endsOtherwise};
 
 // Whether two names are equal. Nothing else compares names.
 pub fn same_name(a: &[u8], b: &[u8]) -> bool
@@ -17,7 +18,8 @@ pub fn same_name(a: &[u8], b: &[u8]) -> bool
 // Whether the texts that end at this place end otherwise than the name: a quick test that tells most names apart.
 pub fn ends_otherwise(s: &[u8], end: usize, name: &[u8]) -> bool
     requires { ⌜ (1 ≤ end) × (end ≤ length (now s)) ⌝ }
-    ensures { λ r. ⌜ (r ≡ true → (start : ℕ) → start ≤ end → sameName (now (name .entry)) (take (end - start) (drop start (now (s .entry)))) ≡ false) ⌝ }
+    ensures { λ r. ⌜ r ≡ endsOtherwise (now (s .entry)) end (now (name .entry)) ⌝ }
+    ensures apart { λ r. ⌜ (r ≡ true → (start : ℕ) → start ≤ end → sameName (now (name .entry)) (take (end - start) (drop start (now (s .entry)))) ≡ false) ⌝ }
 {
     if name.len() == 0 {
         return false;

@@ -46,7 +46,7 @@ loop-again c =
     let turn = c .before .before .before .before in
     let a = turn .before .before .before .before .args in
     let (room, start, end) = placed (c .before .before .before) in
-    let other = c .before .ends-otherwise .ensures (c .if1 .taken) (startOf (a .places .now) (turn .loop .i - 1) + 4) start in
+    let other = c .before .ends-otherwise .ensures .1 (c .if1 .taken) (startOf (a .places .now) (turn .loop .i - 1) + 4) start in
     (omega arith, sym (element-miss (a .file .now) (a .name .now) (a .places .now) (turn .loop .i) (omega arith) other) ∙ turn .loop .inv .1)
 
 mul-start : tie.Need-mul-start Inv-loop μ-loop

@@ -1,0 +1,10 @@
+-- The last bytes of texts.
+use Prim.Native.Nat.{ℕ, _-_}
+use mathlib.Core.Bool.{Bool, false, not, cond}
+use lib.Dec.{eqb}
+use lib.ListN.{length, getD}
+use Rattle.meaning.specs.Text.{Bytes}
+
+-- what ends at a place of a text has another last byte than the name, which has one
+abbrev pub endsOtherwise : Bytes → ℕ → Bytes → Bool
+endsOtherwise s end name = cond (eqb (length name) 0) false (not (eqb (getD s (end - 1) 0) (getD name (length name - 1) 0)))
