@@ -99,7 +99,7 @@ module _ (t struck hits : List ℕ) (s : Shape) (ready : PolicyTable t struck s)
             found = λ l.
                 let (v, below, at, differ) = other .found l in
                 let place : first % 64 ≡ v = omega arith in
-                (other-bits first l (omega arith) (rw place differ), omega arith);
+                (other-bits first l (omega arith) (rw place differ), omega arith, omega arith);
             none-earlier = λ m low high l.
                 let here : 64 * block + m % 64 ≡ m = omega arith in
                 same-bits m (omega (arith, other .within)) (omega arith) (other .none-earlier (m % 64) (omega arith) (omega arith));

@@ -14,5 +14,5 @@ pub record Other (given before : Effects) (from space r : ℕ) : Type 0 where
 -- r is the first request of the block that passes the test; it is `space` if there is none
 pub record InBlock (test : ℕ → Bool) (space block r : ℕ) : Type 0 where
   pub within : r ≤ space
-  pub found : r < space → (test r ≡ true) × (r < 64 * block + 64)
+  pub found : r < space → (test r ≡ true) × (r < 64 * block + 64) × (64 * block ≤ r)
   pub none-earlier : (m : ℕ) → 64 * block ≤ m → m < 64 * block + 64 → m < r → test m ≡ false
