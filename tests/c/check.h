@@ -35,4 +35,8 @@ static void answers(jogimaduve_answer got, uint32_t number, uint32_t second, con
 /* A text without its ending zero, as bytes and a length. */
 #define TEXT(s) (const uint8_t *)(s), sizeof(s) - 1
 
+#define DECIDES(file, request, number, second) \
+    answers(jogimaduve_decide(TEXT(file), TEXT(request)), number, second, #file " on " #request, __LINE__)
+#define GIVES(file, request, decision) DECIDES(file, request, 0, decision)
+
 #endif

@@ -15,9 +15,6 @@
     "R\t1\tr4\tpermit\ttech\tjog\n"
 #define TORN "S\t1\ttorn\tonly-one-applicable\t*\nP\t2\tleft\tdeny-overrides\t*\nP\t2\tright\tdeny-overrides\t*\n"
 
-#define DECIDES(file, request, number, second) \
-    answers(jogimaduve_decide(TEXT(file), TEXT(request)), number, second, #file " on " #request, __LINE__)
-#define GIVES(file, request, decision) DECIDES(file, request, 0, decision)
 #define REFUSES(file, number, second) DECIDES(file, "a", number, second)
 
 static void decisions(void) {
@@ -54,7 +51,7 @@ static void refusals(void) {
     REFUSES("A\tx\ta2345678901234567\n", 3, 1);
     REFUSES("A\tx\t-a\n", 3, 1);
     GIVES("A\tx\ta-\nP\t0\ttop\tdeny-overrides\t*\n", "a-", JOGIMADUVE_NOT_APPLICABLE);
-    REFUSES(ONE "P\t0\tTop\tdeny-overrides\t*\n", 3, 2);
+    REFUSES(ONE "P\t0\tto_p\tdeny-overrides\t*\n", 3, 2);
     /* 4 */
     REFUSES(ONE "A\tx\tb\n", 4, 2);
     REFUSES("A\tx\ta\ta\n", 4, 1);

@@ -40,6 +40,11 @@ int main(void) {
             "R\t1\tr2\tdeny\tguest\tteach\nR\t1\tr3\tdeny\t*\tteach\nR\t1\tr4\tpermit\ttech\tjog\n",
             "G\t0\t1\tpermit\tcell,r1,r4\nG\t1\t1\tpermit\tcell,r1,r3\nG\t2\t1\tnot-applicable\tcell\nG\t3\t1\tdeny\tcell,r2,r3\n"
             "C\tcell\tr1\tr3\t1\nX\tr4\nX\tr3\nK\tr1\t0\nK\tr2\t3\n");
+    /* each name as the file spells it */
+    REPORTS("A\tRole\tTech\tguest\nA\tACT\tJog\tteach\nP\t0\tCell\tfirst-applicable\t*\t*\nR\t1\tR1\tpermit\tTech\t*\n"
+            "R\t1\trZ\tdeny\tguest\tteach\nR\t1\tr3-A\tdeny\t*\tteach\nR\t1\tR4\tpermit\tTech\tJog\n",
+            "G\t0\t1\tpermit\tCell,R1,R4\nG\t1\t1\tpermit\tCell,R1,r3-A\nG\t2\t1\tnot-applicable\tCell\nG\t3\t1\tdeny\tCell,rZ,r3-A\n"
+            "C\tCell\tR1\tr3-A\t1\nX\tR4\nX\tr3-A\nK\tR1\t0\nK\trZ\t3\n");
     REPORTS("A\tx\ta\tb\nP\t0\ttop\tdeny-overrides\ta\n", "G\t0\t1\tnot-applicable\ttop\nG\t1\t1\tnot-applicable\t-\n");
     REPORTS("A\tx\ta\nS\t0\ttop\tonly-one-applicable\t*\nP\t1\tp1\tdeny-overrides\t*\nP\t1\tp2\tdeny-overrides\t*\nR\t2\tr\tpermit\t*\n",
             "G\t0\t1\tindeterminate\ttop,p1,p2,r\nX\tr\n");

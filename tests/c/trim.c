@@ -9,6 +9,9 @@
 #define HEAD                                                                                           \
     "A\trole\ttech\tguest\nA\tact\tjog\tteach\nP\t0\tcell\tfirst-applicable\t*\t*\n"                   \
     "R\t1\tr1\tpermit\ttech\t*\nR\t1\tr2\tdeny\tguest\tteach\n"
+#define CAPITALS                                                                                       \
+    "A\tRole\tTech\tguest\nA\tACT\tJog\tteach\nP\t0\tCell\tfirst-applicable\t*\t*\n"                   \
+    "R\t1\tR1\tpermit\tTech\t*\nR\t1\trZ\tdeny\tguest\tteach\n"
 /* r2 does work while r1 is there: it goes only when the search starts again */
 #define AGAIN_TOP "A\tx\ta\tb\nS\t0\ttop\tfirst-applicable\t*\nP\t1\tp0\tdeny-overrides\tb\n"
 #define AGAIN_REST "P\t1\tp1\tfirst-applicable\t*\nR\t2\tr3\tdeny\t*\n"
@@ -39,6 +42,7 @@ static void largest(void) {
 
 int main(void) {
     TRIMS(HEAD "R\t1\tr3\tdeny\t*\tteach\nR\t1\tr4\tpermit\ttech\tjog\n", HEAD);
+    TRIMS(CAPITALS "R\t1\tr3-A\tdeny\t*\tteach\nR\t1\tR4\tpermit\tTech\tJog\n", CAPITALS);
     TRIMS(BARE "R\t1\tr1\tpermit\t*\nR\t1\tr2\tpermit\t*\n", BARE "R\t1\tr1\tpermit\t*\n");
     TRIMS(THREE "R\t1\tr4\tdeny\tb\n", THREE);
     TRIMS(BARE, BARE);

@@ -79,6 +79,19 @@ add("accepted-names-with-hyphens-and-digits", "A 0 0- a--b 7\nP 0 1 first-applic
     "R 1 x--y deny a--b,7\n")
 add("accepted-names-shared-across-pools", "A x x y\nA y x y\nS 0 x first-applicable * *\nP 1 y deny-overrides x *\n"
     "R 2 a permit * y\n")
+add("accepted-attribute-with-capital", "A Role a b\n", TOP)
+add("accepted-capitals", "A Role Tech guest\nA ACT Jog teach\nP 0 Cell first-applicable * *\nR 1 R1 permit Tech *\n"
+    "R 1 r-Z deny guest teach\nR 1 r3 deny * teach\nR 1 R4 permit Tech Jog\n")
+add("accepted-capitals-first-and-last", "A aZ Az-aZ zA 0Z\nA Z z A\nP 0 Z first-applicable * *\n"
+    "R 1 A permit Az-aZ,0Z z\nR 1 Zz deny zA *\nR 1 aAa deny 0Z A\n")
+add("accepted-capitals-across-pools", "A x X y\nA Y x Y\nS 0 X first-applicable * *\nP 1 y deny-overrides X *\n"
+    "R 2 A permit * Y\n")
+add("accepted-capitals-as-letters-and-words", "A A S P R\nS 0 A deny-overrides *\nP 1 S first-applicable S,P\n"
+    "R 2 P permit S\nR 2 R deny *\nP 1 Permit permit-overrides R\nR 2 DENY permit *\nR 2 First-Applicable deny R\n")
+# No two of these are equal: they differ at one end, and not in letter case alone.
+add("accepted-capitals-apart-at-one-end", f"A {LONG} a\nA {LONG[:15]}J a\n"
+    f"A Q{LONG[1:]} VALUE-OF-16-BYTE VALUE-OF-16-BYTf\nP 0 {LONG} first-applicable * * *\n"
+    f"R 1 {LONG[:15]}J permit * * VALUE-OF-16-BYTE\nR 1 Q{LONG[1:]} deny * * VALUE-OF-16-BYTf\n")
 add("accepted-64-elements", TWO, TOP2,
     *(f"R 1 r{number} {'deny' if number % 2 else 'permit'} {'ab'[number // 2 % 2]} {'cd'[number // 4 % 2]}\n"
       for number in range(63)))

@@ -1,4 +1,5 @@
-/* The paper's cases "On each side of an edge", run through the reference. Spaces stand for tabs, as in the paper. */
+/* The paper's cases "On each side of an edge" and those of change C-11, worked out by hand, run through the reference.
+ * Spaces stand for tabs, as in the paper. */
 #include "reference.h"
 
 #include <stdio.h>
@@ -58,6 +59,162 @@ static void gives_text(const char *what, struct answer operation(const uint8_t *
 #define WORKED "A role tech guest\nA act jog teach\nP 0 cell first-applicable * *\nR 1 r1 permit tech *\n" \
     "R 1 r2 deny guest teach\n"
 
+/* C-11: names may hold capitals, and are equal if they differ only in letter case. */
+
+#define CAPITALS "A Role Tech guest\nA ACT Jog teach\nP 0 Cell first-applicable * *\nR 1 R1 permit Tech *\n" \
+    "R 1 r-Z deny guest teach\n"
+#define CAPITALS_STRUCK "R 1 r3 deny * teach\nR 1 R4 permit Tech Jog\n"
+
+static void capitals(void)
+{
+    gives_text("capitals, report", ref_report, CAPITALS CAPITALS_STRUCK,
+               "G 0 1 permit Cell,R1,R4\nG 1 1 permit Cell,R1,r3\nG 2 1 not-applicable Cell\nG 3 1 deny Cell,r-Z,r3\n"
+               "C Cell R1 r3 1\nX R4\nX r3\nK R1 0\nK r-Z 3\n");
+    gives_text("capitals, trimmed", ref_trim, CAPITALS CAPITALS_STRUCK, CAPITALS);
+    decides("request as declared", CAPITALS, "Tech Jog", 0, PERMIT);
+    decides("request in other case", CAPITALS, "tECH jog", 0, PERMIT);
+    decides("request in capitals", CAPITALS, "GUEST TEACH", 0, DENY);
+    decides("request, second field bad", CAPITALS, "GUEST TEACHE", 10, 2);
+    decides("attributes but for case", "A Role a\nA y a\nA rOLE a\nP 0 p deny-overrides * * *\n", "a a a", 4, 3);
+    decides("values but for case", "A x a b\nA y Tech guest tecH\nP 0 p deny-overrides * *\n", "a Tech", 4, 2);
+    decides("elements but for case", "A x a\nS 0 Cell deny-overrides *\nP 1 p deny-overrides *\nR 2 cELL permit *\n",
+            "a", 4, 4);
+    decides("across pools", "A x X y\nA y x Y\nP 0 Y first-applicable * *\nR 1 X permit X x\n", "x X", 0, PERMIT);
+    decides("target as declared", "A x Tech b c\nP 0 p deny-overrides Tech,b\nR 1 r deny *\n", "TECH", 0, DENY);
+    decides("target in other case", "A x Tech b c\nP 0 p deny-overrides tech,b\n", "Tech", 8, 2);
+    decides("target, later value in other case", "A x Tech b c\nP 0 p deny-overrides Tech,B\n", "Tech", 8, 2);
+    decides("target, value again in other case", "A x Tech b c\nP 0 p deny-overrides Tech,tech\n", "Tech", 8, 2);
+    decides("4 over 6 to 8", "A x a b\nP 0 p deny-overrides *\nS 9 P Permit a,b\n", "a", 4, 3);
+    decides("3 over 4", "A x a A a@\nP 0 p deny-overrides *\n", "a", 3, 1);
+}
+
+static void words_and_letters(void)
+{
+    decides("Permit", "A x a\nP 0 p deny-overrides *\nR 1 r Permit *\n", "a", 7, 3);
+    decides("DENY", "A x a\nP 0 p deny-overrides *\nR 1 r DENY *\n", "a", 7, 3);
+    decides("Deny-overrides", "A x a\nP 0 p Deny-overrides *\n", "a", 7, 2);
+    decides("first-Applicable", "A x a\nP 0 p first-Applicable *\n", "a", 7, 2);
+    decides("only-one-applicablE", "A x a\nS 0 p only-one-applicablE *\n", "a", 7, 2);
+    decides("a", "a x a\nP 0 p deny-overrides *\n", "a", 2, 1);
+    decides("s", "A x a\ns 0 p deny-overrides *\n", "a", 2, 2);
+    decides("p", "A x a\np 0 p deny-overrides *\n", "a", 2, 2);
+    decides("r", "A x a\nP 0 p deny-overrides *\nr 1 r permit *\n", "a", 2, 3);
+}
+
+/* The bytes on both sides of A-Z and a-z, at each place of a name of each pool. */
+static void bytes_beside_letters(void)
+{
+    static const struct { const char *one; uint32_t line; const char *two; uint32_t later_line; } pools[] = {
+        {"A %s v w\nP 0 p deny-overrides *\n", 1, "A %s w\nA %s w\n", 2},
+        {"A x %s w\nP 0 p deny-overrides *\n", 1, "A x %s %s\n", 1},
+        {"A x v w\nP 0 %s deny-overrides *\n", 2, "A x w\nP 0 %s deny-overrides *\nR 1 %s permit *\n", 3},
+    };
+    static const char good[] = "AZaz", others[] = "azAZ", refused[] = "@[`{";
+    char file[100], name[] = "nnn", other[] = "nnn";
+
+    for (size_t pool = 0; pool < 3; pool++)
+        for (int place = 0; place < 3; place++) {
+            for (int i = 0; i < 4; i++) {
+                name[place] = good[i];
+                other[place] = others[i];
+                sprintf(file, pools[pool].one, name);
+                decides(file, file, "w", 0, NOT_APPLICABLE);
+                sprintf(file, pools[pool].two, name, other);
+                decides(file, file, "w", 4, pools[pool].later_line);
+                name[place] = refused[i];
+                sprintf(file, pools[pool].one, name);
+                decides(file, file, "w", 3, pools[pool].line);
+            }
+            name[place] = other[place] = 'n';
+        }
+    decides("request @", "A x v0 v-\nP 0 p deny-overrides *\n", "@", 10, 1);
+    decides("request v{", "A x v0 v-\nP 0 p deny-overrides *\n", "v{", 10, 1);
+    /* other in the bit that tells A from a, but no letters; and a letter with another bit set */
+    decides("request byte 16 for 0", "A x v0 v-\nP 0 p deny-overrides *\n", "v\x10", 10, 1);
+    decides("request byte 13 for -", "A x v0 v-\nP 0 p deny-overrides *\n", "v\r", 10, 1);
+    decides("request byte 246 for v", "A x v0 v-\nP 0 p deny-overrides *\n", "\xf6" "0", 10, 1);
+}
+
+#define NAME "name-of-16-bytes"
+
+/* The same name in other case at one end alone. */
+static void long_names(void)
+{
+    static const char *const other[] = {"Name-of-16-bytes", "name-of-16-byteS"};
+    char file[200];
+
+    for (int i = 0; i < 2; i++) {
+        sprintf(file, "A " NAME " a\nA %s a\nP 0 p deny-overrides * *\n", other[i]);
+        decides("long attributes", file, "a a", 4, 2);
+        sprintf(file, "A x " NAME " a %s\nP 0 p deny-overrides *\n", other[i]);
+        decides("long values", file, "a", 4, 1);
+        sprintf(file, "A x a\nP 0 " NAME " deny-overrides *\nR 1 %s permit *\n", other[i]);
+        decides("long elements", file, "a", 4, 3);
+        sprintf(file, "A x " NAME " a\nP 0 p deny-overrides %s\n", other[i]);
+        decides("long target", file, "a", 8, 2);
+        decides("long request", "A x " NAME " a\nP 0 p deny-overrides *\nR 1 r permit " NAME "\n", other[i], 0, PERMIT);
+    }
+    decides("long names that are not equal", "A x " NAME " mame-of-16-bytes name-of-16-bytet\nP 0 p deny-overrides *\n"
+            "R 1 r deny name-of-16-bytet\n", "NAME-OF-16-BYTET", 0, DENY);
+}
+
+/* An attribute line of 40 values of 16 bytes: 5, but 4 if the value `later` is an earlier one in other case. */
+static void long_line(int earlier, int later, uint32_t number)
+{
+    char file[1000], what[40];
+    size_t length = (size_t)sprintf(file, "A x");
+
+    for (int i = 0; i < 40; i++)
+        length += (size_t)sprintf(file + length, i == later ? " VALUE-%02d-Of-lonG" : " value-%02d-of-long",
+                                  i == later ? earlier : i);
+    sprintf(file + length, "\nP 0 p deny-overrides *\n");
+    sprintf(what, "40 values, %d and %d", earlier, later);
+    decides(what, file, "a", number, 1);
+}
+
+static void long_lines(void)
+{
+    long_line(5, 5, 5);
+    long_line(0, 39, 4);
+    long_line(0, 1, 4);
+    long_line(15, 16, 4);
+    long_line(38, 39, 4);
+}
+
+/* The writer takes a policy and a rule of these names; `text` is all that it puts into the buffer. */
+static void writes(const char *policy, const char *rule, uint32_t number, uint32_t second, const char *text)
+{
+    struct record list[] = {
+        {.kind = 'P', .depth = 0, .length = (uint8_t)strlen(policy), .word = DENY_OVERRIDES, .mask = {3}},
+        {.kind = 'R', .depth = 1, .length = (uint8_t)strlen(rule), .word = EFFECT_PERMIT, .mask = {1}},
+    };
+    uint8_t lines[50], wanted[200] = {0}, out[200] = {0};
+    size_t length = bytes_of("A x A b\n", lines);
+
+    memcpy(list[0].name, policy, strlen(policy));
+    memcpy(list[1].name, rule, strlen(rule));
+    expect(rule, ref_write((struct slice){lines, length}, list, 2, out, sizeof out), number, second);
+    bytes_of(text, wanted);
+    if (memcmp(out, wanted, sizeof out) != 0) {
+        printf("%s: other text written\n", rule);
+        bad++;
+    }
+}
+
+static void lists(void)
+{
+    static const char good[] = "A x A b\nP 0 Cell deny-overrides *\nR 1 cel permit A\n";
+
+    writes("Cell", "cel", 0, sizeof good - 1, good);
+    writes("Cell", "cELL", 4, 3, "");
+    writes(NAME, "Name-of-16-bytes", 4, 3, "");
+    writes(NAME, "name-of-16-byteS", 4, 3, "");
+    writes("Cell", "@", 3, 3, "");
+    writes("Cell", "c[", 3, 3, "");
+    writes("c`ll", "r", 3, 2, "");
+    writes("{ell", "r", 3, 2, "");
+}
+
 int main(void)
 {
     gives_text("1", ref_report, WORKED "R 1 r3 deny * teach\nR 1 r4 permit tech jog\n",
@@ -87,6 +244,12 @@ int main(void)
     decides("13", "A x a b\nP 0 p deny-overrides *\n", "", 10, 1);
     decides("13, two attributes", WORKED, "", 10, 0);
     decides("13, a tab", WORKED, " ", 10, 1);
+    capitals();
+    words_and_letters();
+    bytes_beside_letters();
+    long_names();
+    long_lines();
+    lists();
     puts(bad == 0 ? "all cases hold" : "cases fail");
     return bad != 0;
 }

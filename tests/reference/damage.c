@@ -6,63 +6,19 @@
 
 #define ONE_OF(strings) ((strings)[below(sizeof(strings) / sizeof *(strings))])
 
-static const char tree[] = "SPR", attribute[] = "A", any_line[] = "";
-
-/* A random line that starts with one of these letters, if there is one: where it starts and how long it is, newline
- * left out. */
-static size_t pick_line(const struct bytes *file, const char *letters, size_t *length)
-{
-    uint32_t lines = 0;
-    size_t start = 0;
-
-    for (size_t i = 0, at = 0; i < file->length; i++)
-        if (file->bytes[i] == '\n') {
-            if ((*letters == 0 || (file->bytes[at] != 0 && strchr(letters, file->bytes[at]))) && one_in(++lines))
-                start = at;
-            at = i + 1;
-        }
-    for (*length = 0; start + *length < file->length && file->bytes[start + *length] != '\n'; ++*length)
-        ;
-    return start;
-}
-
-size_t field_of(const struct bytes *text, size_t line, size_t line_length, uint32_t number, size_t *length)
-{
-    size_t at = line, end = line + line_length;
-    for (size_t i = line; i < end && number > 0; i++)
-        if (text->bytes[i] == '\t') {
-            at = i + 1;
-            number--;
-        }
-    for (*length = 0; at + *length < end && text->bytes[at + *length] != '\t'; ++*length)
-        ;
-    return at;
-}
-
-static size_t pick_field(const struct bytes *file, const char *letters, uint32_t number, size_t *length)
-{
-    size_t line_length, line = pick_line(file, letters, &line_length);
-    return field_of(file, line, line_length, number, length);
-}
-
-static void set_field(struct bytes *file, const char *letters, uint32_t number, const char *string)
-{
-    size_t length, at = pick_field(file, letters, number, &length);
-    replace(file, at, length, string, strlen(string));
-}
-
 static const char *tricky(void)
 {
     static const char *const strings[] = {
         "", "A", "S", "P", "R", "AA", "a", "0", "1", "2", "7", "8", "07", "-1", "*", "**", "x", "-x", "x-", "X", "~",
-        "a,b", ",", "a,", ",a", "a_b", "a.b", "name-of-16-bytes", "name-of-17-bytes-", "permit", "deny",
+        "a,b", ",", "a,", ",a", "a_b", "a.b", "@x", "`x", "[", "{", "name-of-16-bytes", "Name-of-16-bytes",
+        "name-of-17-bytes-", "permit", "deny",
     };
     return ONE_OF(strings);
 }
 
 uint8_t tricky_byte(void)
 {
-    static const char bytes[] = "\t\n ,*-~!`aAz{09:/\r\x7f\x80\xff\x1f";
+    static const char bytes[] = "\t\n ,*-~!@AZ[`az{09:/\r\x7f\x80\xff\x1f";
     return one_in(4) ? (uint8_t)below(256) : (uint8_t)bytes[below(sizeof bytes)]; /* the last is byte 0 */
 }
 
@@ -80,13 +36,8 @@ static void damage_target(struct bytes *file, uint32_t number)
     }
     if (line >= file->length || file->bytes[line] != 'A')
         return;
-    uint32_t values = 0;
-    for (size_t i = 0; i < length; i++)
-        values += file->bytes[line + i] == '\t';
-    values -= values > 0;
-
     int all = one_in(3);
-    uint32_t value = below(values), pieces = all ? values : 1 + below(3);
+    uint32_t values = count_values(file, line, length), value = below(values), pieces = all ? values : 1 + below(3);
     target.length = 0;
     for (uint32_t i = 0; i < pieces; i++) {
         at = field_of(file, line, length, 2 + (all ? i : value), &count);
@@ -98,7 +49,7 @@ static void damage_target(struct bytes *file, uint32_t number)
         put(&target, one_in(2) ? "," : ",*");
     if (one_in(16))
         replace(&target, 0, 0, ",", 1);
-    at = pick_field(file, tree, 4 + number, &count);
+    at = pick_field(file, TREE_LINE, 4 + number, &count);
     replace(file, at, count, target.bytes, target.length);
 }
 
@@ -106,15 +57,17 @@ static void damage_target(struct bytes *file, uint32_t number)
 static void damage_values(struct bytes *file)
 {
     char value[24];
-    size_t length, line = pick_line(file, attribute, &length), count;
+    size_t length, line = pick_line(file, ATTRIBUTE_LINE, &length), count;
     size_t last = field_of(file, line, length, 2 + below(4), &count);
     uint32_t more = below(18);
 
     if (one_in(2)) {
         replace(file, line + length, 0, file->bytes + last, count);
+        if (one_in(2))
+            turn_case(file->bytes + line + length, count);
         replace(file, line + length, 0, "\t", 1);
     } else if (one_in(3))
-        replace(file, line + length, 0, "\tBad", 4);
+        replace(file, line + length, 0, "\tBad_", 5);
     for (uint32_t i = 0; i < more; i++) {
         sprintf(value, "\tmore%lu", (unsigned long)i);
         replace(file, line + length, 0, value, strlen(value));
@@ -126,9 +79,9 @@ static void damage_place(struct bytes *file)
 {
     static struct bytes element;
     char start[60];
-    size_t length, ignored, line = pick_line(file, tree, &length);
+    size_t length, ignored, line = pick_line(file, TREE_LINE, &length);
     size_t targets = field_of(file, line, length, 4, &ignored), depth = field_of(file, line, length, 1, &ignored);
-    char kind = tree[below(3)];
+    char kind = TREE_LINE[below(3)];
     int instead = one_in(4), deeper = instead ? 0 : (int)below(3);
 
     if (file->bytes[depth] < '0' || file->bytes[depth] > '7' || targets <= depth || line + length >= file->length)
@@ -145,23 +98,22 @@ static void damage_lines(struct bytes *file)
 {
     static uint8_t kept[sizeof file->bytes];
     uint32_t way = below(3); /* twice, moved, left out */
-    size_t length, other, line = pick_line(file, one_in(3) ? attribute : any_line, &length);
+    size_t length, other, line = pick_line(file, one_in(3) ? ATTRIBUTE_LINE : ANY_LINE, &length);
 
     length += line + length < file->length; /* its newline */
     memcpy(kept, file->bytes + line, length);
     if (way > 0)
         replace(file, line, length, "", 0);
     if (way < 2)
-        replace(file, one_in(2) ? file->length : pick_line(file, any_line, &other), 0, kept, length);
+        replace(file, one_in(2) ? file->length : pick_line(file, ANY_LINE, &other), 0, kept, length);
 }
 
-/* Of an element, an attribute or a value. */
-static size_t pick_name(const struct bytes *file, size_t *length)
+size_t pick_name(const struct bytes *file, size_t *length)
 {
-    return one_in(2) ? pick_field(file, tree, 2, length) : pick_field(file, attribute, 1 + below(3), length);
+    return one_in(2) ? pick_field(file, TREE_LINE, 2, length) : pick_field(file, ATTRIBUTE_LINE, 1 + below(3), length);
 }
 
-/* A name that stands elsewhere too. */
+/* A name that stands elsewhere too, perhaps in other case. */
 static void damage_name(struct bytes *file)
 {
     uint8_t kept[32];
@@ -170,6 +122,8 @@ static void damage_name(struct bytes *file)
     if (kept_length > sizeof kept)
         return;
     memcpy(kept, file->bytes + from, kept_length);
+    if (one_in(2))
+        turn_case(kept, kept_length);
     size_t at = pick_name(file, &length);
     replace(file, at, length, kept, kept_length);
 }
@@ -195,23 +149,23 @@ void damage(struct bytes *file)
 
     if (file->length == 0)
         return;
-    switch (below(22)) {
-    case 0: set_field(file, any_line, below(7), string); break;
-    case 1: set_field(file, tree, 2, string); break;
-    case 2: set_field(file, attribute, 1 + below(4), string); break;
+    switch (below(28)) {
+    case 0: set_field(file, ANY_LINE, below(7), string); break;
+    case 1: set_field(file, TREE_LINE, 2, string); break;
+    case 2: set_field(file, ATTRIBUTE_LINE, 1 + below(4), string); break;
     case 3: case 4: damage_name(file); break;
-    case 5: set_field(file, byte < 64 ? any_line : tree, 0, ONE_OF(kinds)); break;
-    case 6: case 7: set_field(file, tree, 1, ONE_OF(depths)); break;
-    case 8: case 9: set_field(file, tree, 3, ONE_OF(words)); break;
+    case 5: set_field(file, byte < 64 ? ANY_LINE : TREE_LINE, 0, ONE_OF(kinds)); break;
+    case 6: case 7: set_field(file, TREE_LINE, 1, ONE_OF(depths)); break;
+    case 8: case 9: set_field(file, TREE_LINE, 3, ONE_OF(words)); break;
     case 10: case 11: damage_target(file, below(one_in(2) ? 6 : 2)); break;
     case 12: damage_values(file); break;
     case 13: damage_lines(file); break;
     case 14: /* a field too few */
-        field = pick_field(file, any_line, below(7), &length);
+        field = pick_field(file, ANY_LINE, below(7), &length);
         replace(file, field, length + (field + length < file->length), "", 0);
         break;
     case 15: /* a field too many */
-        field = pick_field(file, any_line, 1 + below(6), &length);
+        field = pick_field(file, ANY_LINE, 1 + below(6), &length);
         replace(file, field, 0, "\t", 1);
         replace(file, field, 0, string, strlen(string));
         break;
@@ -224,10 +178,11 @@ void damage(struct bytes *file)
     case 17: file->length = one_in(2) ? file->length - 1 : one_in(3) ? 0 : at; break;
     case 18: put(file, ONE_OF(more_lines)); break;
     case 19: case 20: damage_place(file); break;
-    default: /* to the size's edge */
+    case 21: /* to the size's edge */
         length = 16382 + below(6);
         while (file->length < length)
             file->bytes[file->length++] = '\n';
         break;
+    default: damage_case(file); break;
     }
 }

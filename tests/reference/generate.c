@@ -4,55 +4,18 @@
 #include <stdio.h>
 #include <string.h>
 
-static uint64_t state;
+struct style { int look, spelling; };
 
-void start_random(uint64_t seed)
-{
-    state = seed;
-}
-
-/* splitmix64: any seed will do, neighbours too. */
-uint32_t below(uint32_t limit)
-{
-    state += 0x9e3779b97f4a7c15u;
-    uint64_t z = state;
-    z = (z ^ z >> 30) * 0xbf58476d1ce4e5b9u;
-    z = (z ^ z >> 27) * 0x94d049bb133111ebu;
-    z ^= z >> 31;
-    return limit == 0 ? 0 : (uint32_t)(z >> 32) % limit;
-}
-
-int one_in(uint32_t many)
-{
-    return below(many) == 0;
-}
-
-void replace(struct bytes *text, size_t at, size_t length, const void *bytes, size_t count)
-{
-    if (text->length - length + count > sizeof text->bytes)
-        return;
-    memmove(text->bytes + at + count, text->bytes + at + length, text->length - at - length);
-    memcpy(text->bytes + at, bytes, count);
-    text->length = text->length - length + count;
-}
-
-void put(struct bytes *text, const char *string)
-{
-    replace(text, text->length, 0, string, strlen(string));
-}
-
-/* Valid files. */
-
-/* Names of one style, told apart by `number`, which is under 100. */
-static void name_of(int style, int number, char name[17])
+/* Names of one style, told apart by `number`, which is under 100. No two differ in letter case alone. */
+static void name_of(struct style style, int number, char name[17])
 {
     static const char letters[] = "abcdefghijklmnopqrstuvwxyz0123456789-";
     int length = 0;
 
-    switch (style) {
+    switch (style.look) {
     case 0:
-        sprintf(name, "%c%d", 'a' + number % 26, number);
-        return;
+        length = sprintf(name, "%c%d", 'a' + number % 26, number);
+        break;
     case 1: /* one a beginning of the other: only the length tells them apart */
         name[length++] = (char)('a' + number / 16);
         while (length <= number % 16)
@@ -64,6 +27,12 @@ static void name_of(int style, int number, char name[17])
         name[15] = letters[number % 10];
         length = 16;
         break;
+    case 3: /* 16 bytes, told apart by the first and the last */
+        memset(name, '-', 16);
+        name[0] = (char)('z' - number % 26);
+        name[15] = (char)('z' - number / 26);
+        length = 16;
+        break;
     default: /* of any length */
         length = 1 + (int)below(14);
         for (int i = 0; i < length; i++)
@@ -73,15 +42,24 @@ static void name_of(int style, int number, char name[17])
         break;
     }
     name[length] = 0;
+    spell(name, style.spelling);
 }
 
 struct shape {
+    int capitals; /* whether names may have them */
     int attributes;
     int values[8];
     char value[8][20][17];
     uint32_t stars; /* of ten targets so many are `*` */
     int narrow;     /* the others have one value each, so that more rules are kept */
 };
+
+static struct style any_style(const struct shape *shape)
+{
+    struct style style = {.look = (int)below(5)};
+    style.spelling = shape->capitals ? (int)below(SPELLINGS) : 0;
+    return style;
+}
 
 /* How many values each attribute has. */
 static void choose_values(struct shape *shape)
@@ -112,11 +90,11 @@ static void choose_values(struct shape *shape)
 
 static void make_attributes(struct bytes *file, struct shape *shape)
 {
-    int attribute_style = (int)below(4);
+    struct style attribute_style = any_style(shape);
 
     choose_values(shape);
     for (int i = 0; i < shape->attributes; i++) {
-        int style = (int)below(4);
+        struct style style = any_style(shape);
         char name[17];
         name_of(attribute_style, i, name);
         put(file, "A\t");
@@ -157,7 +135,8 @@ static void make_elements(struct bytes *file, const struct shape *shape)
     };
     static const int sizes[] = {1, 4, 8, 12, 16, 24, 40, 64};
     char kinds[9] = ""; /* of the last element and all above it */
-    int last = 0, style = (int)below(4), deep = (int)below(3);
+    struct style style = any_style(shape);
+    int last = 0, deep = (int)below(3);
     int deepest = one_in(20) ? 8 : 7; /* 8 is one too deep */
     /* so many sets, each the only child of the one before */
     int chain = deep == 2 ? (int)below((uint32_t)deepest + 1) : 0;
@@ -213,6 +192,7 @@ static void make_elements(struct bytes *file, const struct shape *shape)
 /* Long rules, then short ones whose names' lengths find the size. */
 void make_edge_file(struct bytes *file)
 {
+    const char *value_name = one_in(2) ? "value-of-16-byt" : "Value-Of-16-byT";
     size_t size = 16382 + below(5);
     char line[80];
     int rules = 0;
@@ -222,17 +202,18 @@ void make_edge_file(struct bytes *file)
         sprintf(line, "A\tx%d", i);
         put(file, line);
         for (int value = 0; value < 8; value++) {
-            sprintf(line, "\tvalue-of-16-byt%d", value);
+            sprintf(line, "\t%s%d", value_name, value);
             put(file, line);
         }
         put(file, "\n");
     }
     put(file, "P\t0\ttop\tdeny-overrides\t*\t*\t*\n");
     while (size - file->length > 500) {
-        sprintf(line, "R\t1\tlong%d\t%s", rules++, one_in(2) ? "deny" : "permit");
+        sprintf(line, "R\t1\t%s%d", one_in(2) ? "long" : "LonG", rules++);
         put(file, line);
+        put(file, one_in(2) ? "\tdeny" : "\tpermit");
         for (int i = 0; i < 21; i++) {
-            sprintf(line, "%cvalue-of-16-byt%d", i % 7 == 0 ? '\t' : ',', i % 7);
+            sprintf(line, "%c%s%d", i % 7 == 0 ? '\t' : ',', value_name, i % 7);
             put(file, line);
         }
         put(file, "\n");
@@ -253,6 +234,7 @@ void make_file(struct bytes *file)
         return;
     }
     file->length = 0;
+    shape.capitals = !one_in(3);
     make_attributes(file, &shape);
     shape.stars = shape.attributes > 3 ? 5 + below(4) : below(7);
     shape.narrow = one_in(3);
@@ -272,12 +254,14 @@ void make_request(struct bytes *request, const struct policy *policy, int good)
         put(request, i > 0 ? "\t" : "");
         replace(request, request->length, 0, value.bytes, value.length);
     }
+    if (one_in(2))
+        turn_case(request->bytes, request->length);
     if (good)
         return;
     uint8_t byte = tricky_byte();
     uint32_t at = below((uint32_t)request->length + 1);
     size_t length, field = field_of(request, 0, request->length, below(6), &length);
-    switch (below(8)) {
+    switch (below(10)) {
     case 0: put(request, one_in(2) ? "\n" : "\t"); break;
     case 1: request->length = 0; break;
     case 2: request->length = at; break;
@@ -285,6 +269,8 @@ void make_request(struct bytes *request, const struct policy *policy, int good)
     case 4: replace(request, at, at < request->length, &byte, 1); break;
     case 5: replace(request, at, at < request->length, "", 0); break;
     case 6: put(request, "\tx\tx\tx\tx\tx\tx\tx"); break;
+    case 7: request->bytes[at] ^= (uint8_t)(one_in(2) ? CASE_BIT : 1 << below(8)); break; /* fine in a letter */
+    case 8: byte = byte_beside_letters(); replace(request, at, at < request->length, &byte, 1); break;
     default: replace(request, field, length, "*", byte < 64); break; /* another field, or an empty one */
     }
 }

@@ -115,7 +115,7 @@ def build(program, *parts):
 def lists_and_answers(scratch):
     """Lists for the writer, and the lines that must be printed of them."""
     program, lists, answers = (pathlib.Path(scratch) / name for name in ("make_lists", "lists", "answers"))
-    build(program, "make_lists", "generate", "damage", "read", "write")
+    build(program, "make_lists", "lists", "generate", "damage", "letter_case", "text", "read", "write")
     subprocess.run([program, "1", str(LISTS), lists, answers], check=True, stdout=subprocess.DEVNULL)
     return lists.read_bytes(), answers.read_bytes()
 
@@ -144,12 +144,16 @@ def made():
 def main():
     check = sys.argv[1:] == ["--check"]
     others = 0
-    for path, data in made().items():
+    wanted = made()
+    for path, data in wanted.items():
         if not check:
             path.write_bytes(data)
         elif path.read_bytes() != data:
             print("other bytes:", path.relative_to(CRATE))
             others += 1
+    for path in sorted(set((CRATE / "data").iterdir()) - set(wanted)):
+        print("not made here:", path.relative_to(CRATE))
+        others += 1
     print(len(files), "stored files and", LISTS, "lists", "compared with the reference's output" if check else "written")
     return others != 0
 

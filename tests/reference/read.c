@@ -18,9 +18,24 @@ const struct word_text words[WORDS] = {
     [ONLY_ONE_APPLICABLE] = {"only-one-applicable", "S"},
 };
 
-int same(struct slice a, struct slice b)
+static int same(struct slice a, struct slice b)
 {
     return a.length == b.length && memcmp(a.bytes, b.bytes, a.length) == 0;
+}
+
+static uint8_t small_letter(uint8_t byte)
+{
+    return byte >= 'A' && byte <= 'Z' ? (uint8_t)(byte - 'A' + 'a') : byte;
+}
+
+int equal_names(struct slice a, struct slice b)
+{
+    if (a.length != b.length)
+        return 0;
+    for (size_t i = 0; i < a.length; i++)
+        if (small_letter(a.bytes[i]) != small_letter(b.bytes[i]))
+            return 0;
+    return 1;
 }
 
 static int is(struct slice field, const char *text)
@@ -34,7 +49,8 @@ int is_name(struct slice field)
         return 0;
     for (size_t i = 0; i < field.length; i++) {
         uint8_t byte = field.bytes[i];
-        if (!((byte >= 'a' && byte <= 'z') || (byte >= '0' && byte <= '9') || byte == '-'))
+        int letter = (byte >= 'a' && byte <= 'z') || (byte >= 'A' && byte <= 'Z');
+        if (!letter && !(byte >= '0' && byte <= '9') && byte != '-')
             return 0;
     }
     return 1;
@@ -43,7 +59,7 @@ int is_name(struct slice field)
 int value_number(const struct attribute *attribute, struct slice name)
 {
     for (int value = 0; value < attribute->values; value++)
-        if (same(attribute->value[value], name))
+        if (equal_names(attribute->value[value], name))
             return value;
     return -1;
 }
@@ -78,12 +94,12 @@ static uint32_t read_attribute(struct policy *policy, const struct fields *field
         if (!is_name(fields->field[i]))
             return 3;
     for (int i = 0; i < policy->attributes; i++)
-        if (same(policy->attribute[i].name, *name))
+        if (equal_names(policy->attribute[i].name, *name))
             return 4;
     /* All values count here, also those behind the sixteenth: 4 is lower than 5. */
     for (size_t later = 1; later < values; later++)
         for (size_t earlier = 0; earlier < later; earlier++)
-            if (same(value[earlier], value[later]))
+            if (equal_names(value[earlier], value[later]))
                 return 4;
     if (policy->attributes == ATTRIBUTES || values > VALUES || policy->space * (int)values > SPACE)
         return 5;
@@ -143,8 +159,9 @@ static unsigned target_of(struct slice field, const struct attribute *attribute)
     for (size_t start = 0, end; start <= field.length; start = end + 1) {
         for (end = start; end < field.length && field.bytes[end] != ','; end++)
             ;
-        int value = value_number(attribute, (struct slice){field.bytes + start, end - start});
-        if (value < lowest)
+        struct slice name = {field.bytes + start, end - start};
+        int value = value_number(attribute, name);
+        if (value < lowest || !same(attribute->value[value], name)) /* spelt as its attribute line does */
             return 0;
         mask |= 1u << value;
         lowest = value + 1;
@@ -160,7 +177,7 @@ static uint32_t read_element(struct policy *policy, const struct fields *fields,
     if (!is_name(element.name))
         return 3;
     for (int i = 0; i < policy->elements; i++)
-        if (same(policy->element[i].name, element.name))
+        if (equal_names(policy->element[i].name, element.name))
             return 4;
     if (policy->elements == ELEMENTS)
         return 5;

@@ -1,4 +1,4 @@
-/* Reference implementation of paper 01, written from the paper alone: plain code, for comparing with.
+/* Reference implementation of paper 01 with change C-11, written from the paper alone: plain code, for comparing with.
  *
  * Every function answers two numbers. `number` is 0 where the work was done, and `second` is then the result; any other
  * `number` is the paper's refusal with its second number. Lent memory is left as it was on every refusal. */
@@ -65,9 +65,9 @@ struct policy {
 /* read.c */
 extern const struct word_text { const char *text, *kinds; } words[WORDS]; /* each word, and the kinds it is for */
 struct answer read_policy(const uint8_t *file, size_t length, struct policy *policy);
-int same(struct slice a, struct slice b);
+int equal_names(struct slice a, struct slice b); /* letter case (A-Z, a-z) aside; no other bytes are alike */
 int is_name(struct slice field);
-int value_number(const struct attribute *attribute, struct slice name); /* -1 if it is no value */
+int value_number(const struct attribute *attribute, struct slice name); /* letter case aside; -1 if it is no value */
 int parent_of(const struct policy *policy, int depth); /* the nearest earlier element of depth one less, or -1 */
 int well_placed(const struct policy *policy, char kind, int depth, int parent);
 

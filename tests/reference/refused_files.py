@@ -21,18 +21,25 @@ add("refused-2-attribute-no-value", AB, "A y\n", TOP2)
 add("refused-2-target-missing", TWO, TOP2, "R 1 r permit a\n")
 add("refused-2-target-too-many", AB, TOP, "R 1 r permit a b\n")
 add("refused-2-tree-line-first-with-target", TOP, AB)
+add("refused-2-letter-small-a", "a x a b\n", TOP)
+add("refused-2-letter-small-p", AB, TOP.lower())
 
 # Refusal 3 to 9, each reason.
 
-add("refused-3-attribute-uppercase", "A Role a b\n", TOP)
 add("refused-3-attribute-17-bytes", f"A {LONG}x a b\n", TOP)
 add("refused-3-value-17-bytes", f"A x a {LONG}x\n", TOP)
 add("refused-3-value-tilde", "A x a b~\n", TOP)
 add("refused-3-value-hyphen-first", "A x a -b\n", TOP)
-add("refused-3-value-17-is-bad", attribute("x", [*LETTERS, "Q"]), TOP)
+add("refused-3-value-17-is-bad", attribute("x", [*LETTERS, "Q_"]), TOP)
 add("refused-3-element-17-bytes", AB, f"P 0 {LONG}x first-applicable *\n")
 add("refused-3-element-hyphen-first", AB, TOP, "R 1 -r permit a\n")
 add("refused-3-element-underscore", AB, TOP, "R 1 r permit a\nR 1 r_2 deny a\n")
+add("refused-3-attribute-byte-64-first", "A @x a b\n", TOP)
+add("refused-3-value-byte-91-middle", "A x a b[c\n", TOP)
+add("refused-3-element-byte-96-last", AB, TOP, "R 1 r` permit a\n")
+add("refused-3-element-byte-123-alone", AB, "P 0 { first-applicable *\n")
+# They differ in the bit that tells A from a, but are no letters: 3, not 4.
+add("refused-3-values-of-bytes-64-and-96", "A x @x `x\n", TOP)
 
 add("refused-4-attribute-twice", AB, "A y c\nA x d e\n", "P 0 top first-applicable * * *\n")
 add("refused-4-value-twice", "A x a b a\n", TOP)
@@ -43,10 +50,25 @@ add("refused-4-rule-named-as-set", AB, "S 0 top first-applicable *\nP 1 p first-
 add("refused-4-attribute-7-is-double", *(attribute(name, "a") for name in "uvwxyzu"),
     "P 0 top first-applicable" + " *" * 7 + "\n")
 
+# Equal but for letter case.
+MANY = [f"value-{number:02}-of-long" for number in range(40)]  # 680 bytes with their tabs
+add("refused-4-attribute-but-for-case", "A Role a\nA y c\nA rOLE d e\n", "P 0 top first-applicable * * *\n")
+add("refused-4-value-but-for-case", AB, "A y Tech guest tecH\n", TOP2)
+add("refused-4-element-but-for-case", AB, SET, "P 1 p first-applicable *\nR 2 TOP permit a\n")
+add("refused-4-letters-a-and-z-but-for-case", AB, "P 0 aZ first-applicable *\nR 1 az permit a\n")
+add("refused-4-attribute-of-16-bytes-first-but-for-case", f"A {LONG} a\nA P{LONG[1:]} b\n", TOP2)
+add("refused-4-value-of-16-bytes-last-but-for-case", "A x value-of-16-byte a value-of-16-bytE\n", TOP)
+add("refused-4-element-of-16-bytes-last-but-for-case", AB, "P 0 rule-of-16-bytes first-applicable *\n"
+    "R 1 rule-of-16-byteS permit a\n")
+add("refused-4-value-17-but-for-case", attribute("x", [*LETTERS, "C"]), TOP)
+add("refused-4-value-40-of-40-but-for-case", attribute("x", [*MANY[:39], MANY[0].upper()]), TOP)
+add("refused-4-values-39-and-40-but-for-case", attribute("x", [*MANY[:39], MANY[38].capitalize()]), TOP)
+
 SIX = "".join(attribute(name, "a") for name in "uvwxyz")
 SIXTYFOUR = AB + TOP + "".join(f"R 1 r{number} permit a\n" for number in range(63))
 add("refused-5-attribute-7", SIX, "A t a\n", "P 0 top first-applicable" + " *" * 7 + "\n")
 add("refused-5-value-17", attribute("x", [*LETTERS, "q"]), TOP)
+add("refused-5-40-values-with-capitals", attribute("x", [value.capitalize() for value in MANY]), TOP)
 # No space lies nearer over 4,096: 4,097 to 4,115 all have a prime factor over 16.
 add("refused-5-space-4116", *(attribute(name, LETTERS[:count]) for name, count in zip("wxyz", (14, 14, 7, 3))),
     "P 0 top first-applicable * * * *\n")
@@ -76,6 +98,8 @@ add("refused-7-deny-on-policy", AB, SET, "P 1 p deny *\n")
 add("refused-7-algorithm-on-rule", AB, TOP, "R 1 r first-applicable a\n")
 add("refused-7-unknown-word", AB, TOP, "R 1 r1 permit a\nR 1 r2 allow b\n")
 add("refused-7-word-a-letter-short", AB, "S 0 top deny-override *\n")
+add("refused-7-word-capital", AB, TOP, "R 1 r Permit a\n")
+add("refused-7-word-in-capitals", AB, "P 0 top DENY-OVERRIDES *\n")
 
 add("refused-8-wrong-order", "A x a b c\n", TOP, "R 1 r permit b,a\n")
 add("refused-8-value-twice", "A x a b c\n", TOP, "R 1 r permit a,a\n")
@@ -88,14 +112,18 @@ add("refused-8-double-comma", "A x a b c\n", TOP, "R 1 r permit a,,b\n")
 add("refused-8-one-value-listed", "A x a\n", TOP, "R 1 r permit a\n")
 add("refused-8-no-possible-name", AB, TOP, "R 1 r permit A~\n")
 add("refused-8-last-target", TWO, TOP2, "R 1 r permit a d,c\n")
+add("refused-8-target-in-other-case", "A x Tech guest\n", TOP, "R 1 r permit Tech\nR 1 s deny tech\n")
+add("refused-8-later-value-in-other-case", "A x a b c\n", TOP, "R 1 r permit a,B\n")
+add("refused-8-16-bytes-last-in-other-case", "A x value-of-16-byte a\n", TOP, "R 1 r permit value-of-16-bytE\n")
 
 add("refused-9-attributes-only", TWO)
 
 # The lowest number on the first bad line.
 
 add("lowest-2-over-all", AB, TOP, "A -X b b c")
-add("lowest-3-over-4-to-8", AB, TOP, "S 9 Top permit a,b\n")
+add("lowest-3-over-4-to-8", AB, TOP, "S 9 Top_ permit a,b\n")
 add("lowest-4-over-6-7-8", AB, TOP, "S 0 top permit a,b\n")
+add("lowest-4-but-for-case-over-6-7-8", AB, TOP, "S 9 Top permit a,b\n")
 add("lowest-4-behind-tree", AB, TOP, "A x c\n")
 add("lowest-6-over-7-and-8", AB, TOP, "R 0 r first-applicable a,b\n")
 add("lowest-7-over-8", AB, TOP, "R 1 r first-applicable a,b\n")

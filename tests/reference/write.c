@@ -60,7 +60,7 @@ static uint32_t test_record(const struct policy *policy, const struct record *re
     if (bad_name(record))
         return 3;
     for (int i = 0; i < policy->elements; i++)
-        if (same(policy->element[i].name, (struct slice){record->name, record->length}))
+        if (equal_names(policy->element[i].name, (struct slice){record->name, record->length}))
             return 4;
     if (policy->elements == ELEMENTS)
         return 5;

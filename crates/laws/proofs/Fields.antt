@@ -38,7 +38,7 @@ fields-free c (f ∷ fs) k h =
 
 -- A name is a field, and so are names by commas
 printable : (b : ℕ) → nameByte b ≡ true → between 33 126 b ≡ true
-printable b h = go (test (between 97 122 b)) (test (between 48 57 b)) (test (eqb b 45))
+printable b h = go (test (between 97 122 b)) (test (between 65 90 b)) (test (between 48 57 b)) (test (eqb b 45))
   where
     inside : (low high : ℕ) → 33 ≤ low → high ≤ 126 → between low high b ≡ true → between 33 126 b ≡ true
     inside low high l u e =
@@ -47,11 +47,12 @@ printable b h = go (test (between 97 122 b)) (test (between 48 57 b)) (test (eqb
         let y = leb-true b high c in
         rw (le-leb 33 b (omega arith), le-leb b 126 (omega arith))
 
-    go : Test (between 97 122 b) → Test (between 48 57 b) → Test (eqb b 45) → between 33 126 b ≡ true
-    go (passed e) y z = inside 97 122 (lit≤ tt) (lit≤ tt) e
-    go (failed e) (passed y) z = inside 48 57 (lit≤ tt) (lit≤ tt) y
-    go (failed e) (failed y) (passed z) = rw (eqb-true b 45 z)
-    go (failed e) (failed y) (failed z) = contradiction h (rw (e, y, z))
+    go : Test (between 97 122 b) → Test (between 65 90 b) → Test (between 48 57 b) → Test (eqb b 45) → between 33 126 b ≡ true
+    go (passed e) x y z = inside 97 122 (lit≤ tt) (lit≤ tt) e
+    go (failed e) (passed x) y z = inside 65 90 (lit≤ tt) (lit≤ tt) x
+    go (failed e) (failed x) (passed y) z = inside 48 57 (lit≤ tt) (lit≤ tt) y
+    go (failed e) (failed x) (failed y) (passed z) = rw (eqb-true b 45 z)
+    go (failed e) (failed x) (failed y) (failed z) = contradiction h (rw (e, x, y, z))
 
 bytes-printable : (n : Bytes) → all nameByte n ≡ true → all (between 33 126) n ≡ true
 bytes-printable [] h = refl

@@ -1,17 +1,16 @@
 -- What was read so far, as lines that break no rule: an invariant that every line of a file and every element of a list keeps.
 use mathlib.Core.Path.{_≡_, refl, sym, ap, _∙_}
-use mathlib.Core.Logic.{_⊎_, inl, inr}
 use Prim.Native.Nat.{_≤_}
 use native.Mathlib.Omega.{arith}
 use mathlib.Core.Bool.{true, false, not}
-use mathlib.Core.List.{List, [], _∷_, _++_, map, reverse, reverseAux, reverse-cons, map-append, append-assoc, append-nil, List·Memᴰ, List·Memᴰ·head, List·Memᴰ·tail, List·Memᴰ·append-cases, List·Memᴰ·not-nil, List·Memᴰ·eq-of-singleton}
+use mathlib.Core.List.{List, [], _∷_, _++_, map, reverse, reverseAux, reverse-cons, map-append, append-assoc, append-nil}
 use lib.ListN.{length, length-reverse}
 use borrow.Author.Tests.{not-false}
 use Rattle.meaning.specs.Text.{Bytes, empty, all, isNone, amongNames, repeated, isField}
 use Rattle.meaning.specs.Model.{Attribute, nameOf, wordText}
 use Rattle.meaning.specs.Reading.{Line, attributeLine, treeLine, otherLine, lineOf, elementOf, wordOf, Sofar, wellPlaced, attributeTests, elementTests, lineTests, withElement, extended, nothing}
 use Rattle.meaning.specs.Writing.{elementFields}
-use Rattle.meaning.specs.Claims.Texts.{All, Distinct, Each}
+use Rattle.meaning.specs.Claims.Texts.{All, Each, DistinctNames}
 use Rattle.meaning.specs.Claims.PolicyFile.{attributeFields, attributeNames, Placed, NewName, GoodLines}
 use Rattle.meaning.specs.Claims.Writing.{Shaped}
 use Rattle.laws.proofs.Types.{Element}
@@ -21,18 +20,10 @@ use Rattle.laws.proofs.Lines.{attribute-fields}
 use Rattle.laws.proofs.Bounds.{GoodElement, all-reverse, Good, nothing-good, line-good, element-good}
 use Rattle.laws.proofs.Rewritten.{word-again, fields-again}
 use Rattle.laws.proofs.TreeLines.{HasWord, lines-of}
-use Rattle.laws.proofs.Placed.{well-placed, not-among}
+use Rattle.laws.proofs.Placed.{well-placed}
+use Rattle.laws.proofs.Names.{not-among, snoc-distinct}
 
--- Lists that have no element twice, from the end
 module _ {A : Type 0} where
-  snoc-distinct : (xs : List A) (x : A) → Distinct xs → (List·Memᴰ x xs → ⊥) → Distinct (xs ++ (x ∷ []))
-  snoc-distinct [] x d n = (List·Memᴰ·not-nil, tt)
-  snoc-distinct (y ∷ ys) x d n = (λ m. go (List·Memᴰ·append-cases ys m), snoc-distinct ys x (d .1) (λ m. n (List·Memᴰ·tail m)))
-    where
-      go : List·Memᴰ y ys ⊎ List·Memᴰ y (x ∷ []) → ⊥
-      go (inl m) = d .0 m
-      go (inr m) = n (List·Memᴰ·head (sym (List·Memᴰ·eq-of-singleton m)))
-
   -- what holds of each element of a list turned round, with those behind it
   abbrev Chain : (List A → A → Type 0) → List A → Type 0
   Chain P [] = Unit {0}
@@ -48,7 +39,7 @@ not-empty (x ∷ xs) l = refl
 
 -- What each line and each element keeps beside the bounds
 pub record Kept (s : Sofar) : Type 0 where
-  pub attributes-distinct : Distinct (attributeNames (s .attributes))
+  pub attributes-distinct : DistinctNames (attributeNames (s .attributes))
   pub placed : Chain Placed (s .before)
   pub new-names : Chain NewName (s .before)
   pub words : All HasWord (s .before)

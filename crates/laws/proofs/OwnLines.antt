@@ -4,7 +4,7 @@ use Prim.Native.Nat.{ℕ, zero, suc}
 use mathlib.Core.Bool.{Bool, true, false, not, _&&_, _||_}
 use mathlib.Core.List.{List, [], _∷_, _++_, map}
 use lib.ListN.{getD}
-use Rattle.meaning.specs.Text.{Bytes, any, keep, without, front, same, amongNames, cut, tab}
+use Rattle.meaning.specs.Text.{Bytes, any, keep, without, front, same, sameName, amongNames, cut, tab}
 use Rattle.meaning.specs.Model.{nameOf, Policy, given}
 use Rattle.meaning.specs.Reading.{Line, attributeLine, treeLine, otherLine, lineOf, elementOf, Sofar, lineTests, extended, readLines, nothing, read}
 use Rattle.meaning.specs.Trimming.{lines, fieldOf, ruleLine, nameAt, strike}
@@ -12,6 +12,7 @@ use Rattle.meaning.specs.Claims.Trimming.{Trims, none-left, last-struck, stays}
 use Rattle.laws.proofs.Types.{rule}
 use Rattle.laws.proofs.Bools.{Test, passed, failed, test, contradiction, or-false, or-true, and-true}
 use Rattle.laws.proofs.Text.{same-true, same-refl}
+use Rattle.laws.proofs.Names.{name-refl}
 use Rattle.laws.proofs.Reading.{line-numbered, PassesLine, read-step, accepted}
 use Rattle.laws.proofs.Lines.{tree-fields}
 use Rattle.laws.proofs.Bounds.{padded-name}
@@ -35,7 +36,7 @@ names s = map nameOf (s .before)
 -- a name that is there stays
 known-stays : (n : Bytes) (s : Sofar) (l : Line) → amongNames n (names s) ≡ true → amongNames n (names (extended s l)) ≡ true
 known-stays n s (attributeLine a) h = h
-known-stays n s (treeLine k d m w ts) h = or-true (same n (nameOf (elementOf (s .attributes) k d m w ts))) (amongNames n (names s)) h
+known-stays n s (treeLine k d m w ts) h = or-true (sameName n (nameOf (elementOf (s .attributes) k d m w ts))) (amongNames n (names s)) h
 known-stays n s otherLine h = h
 
 not-known : (n m : Bytes) (ms : List Bytes) → amongNames n ms ≡ true → amongNames m ms ≡ false → same m n ≡ false
@@ -56,7 +57,7 @@ rule-read s l r t = go (lineOf (cut tab l)) refl (rule-lineOf (cut tab l) r) t
     go : (x : Line) → lineOf (cut tab l) ≡ x → RuleLine x → PassesLine lineTests line-numbered s (cut tab l) x → NewName s l
     go x e (rule-line d n w ts) (f2, (f3, (f4, f))) =
         let m : nameIn l ≡ nameOf (elementOf (s .attributes) rule d n w ts) = ap (λ fs. getD fs 2 []) (tree-fields (cut tab l) rule d n w ts e) ∙ sym (padded-name (s .attributes) rule d n w ts) in
-        record { was-new = subst (λ y. amongNames y (names s) ≡ false) (sym m) f4; is-known = rw (e, m, same-refl (nameOf (elementOf (s .attributes) rule d n w ts))) }
+        record { was-new = subst (λ y. amongNames y (names s) ≡ false) (sym m) f4; is-known = rw (e, m, name-refl (nameOf (elementOf (s .attributes) rule d n w ts))) }
     go x e no-line (f2, f) = other-refused s (cut tab l) f2
 
 -- no later rule line has a name that is there

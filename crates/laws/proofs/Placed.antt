@@ -1,20 +1,17 @@
--- Place, parent and names used before, as the tests have them and as the paper says them.
-use mathlib.Core.Path.{_≡_, refl, sym, ap, _∙_, subst}
+-- Place and parent, as the tests have them and as the paper says them.
+use mathlib.Core.Path.{_≡_, refl, sym, ap, subst}
 use mathlib.Core.Logic.{_≢_}
-use Prim.Native.Nat.{ℕ, zero, suc, _≤_, zero-le, suc-le-suc}
+use Prim.Native.Nat.{ℕ, zero, suc, _≤_}
 use native.Mathlib.Omega.{arith}
-use mathlib.Core.Bool.{Bool, true, false, _&&_}
-use mathlib.Core.List.{List, [], _∷_, _++_, map, List·Memᴰ, Memᴰ·cast}
+use mathlib.Core.Bool.{true, _&&_}
+use mathlib.Core.List.{List, [], _∷_, _++_}
 use lib.Dec.{eqb, leb}
 use borrow.Author.Tests.{leb-true, le-leb, eqb-true, eqb-false, eq-eqb, ne-eqb}
-use Rattle.meaning.specs.Text.{Bytes, any, sameName, amongNames}
 use Rattle.meaning.specs.Reading.{mayHold, parentHolds, wellPlaced}
 use Rattle.meaning.specs.Claims.Texts.{All}
 use Rattle.meaning.specs.Claims.PolicyFile.{parentKind, HasParent, PlacedAt}
 use Rattle.laws.proofs.Types.{Kind, set, policy, rule, Element}
 use Rattle.laws.proofs.Bools.{Test, passed, failed, test, contradiction, and-true, never}
-use Rattle.laws.proofs.Text.{same-true, same-refl}
-use Rattle.laws.proofs.Search.{any-has, any-only}
 
 -- Kinds
 may-hold : (k : Kind) → mayHold (parentKind k) k ≡ true
@@ -76,14 +73,3 @@ well-placed (e ∷ before) k (suc m) h =
     let (near, holds) = and-true (leb (suc m) 7 && leb m (e .depth)) (parentHolds m k (e ∷ before)) h in
     let step = leb-true m (e .depth) (and-true (leb (suc m) 7) (leb m (e .depth)) near .1) in
     (omega arith, omega arith, holds-parent m k (e ∷ before) holds)
-
--- Names used before
-pub not-among : (n : Bytes) (ns : List Bytes) → amongNames n ns ≡ false → List·Memᴰ n ns → ⊥
-not-among n ns h m = contradiction (any-has (sameName n) n m (same-refl n)) h
-
-pub new-name : (n : Bytes) (ns : List Bytes) → (List·Memᴰ n ns → ⊥) → amongNames n ns ≡ false
-new-name n ns h = go (test (amongNames n ns))
-  where
-    go : Test (amongNames n ns) → amongNames n ns ≡ false
-    go (passed e) = let (x, m, s) = any-only (sameName n) ns e in absurd (h (Memᴰ·cast (same-true n x s) m))
-    go (failed e) = e

@@ -4,18 +4,16 @@ use mathlib.Core.Logic.{_⊎_, inl, inr}
 use Prim.Native.Nat.{ℕ, suc, _≤_, _<_, zero-le, suc-le-suc}
 use native.Mathlib.Omega.{arith}
 use mathlib.Core.Bool.{Bool, true, false, not, _||_, false≢true}
-use mathlib.Core.List.{List, [], _∷_, List·Memᴰ, Memᴰ·cast}
+use mathlib.Core.List.{List, [], _∷_}
 use lib.ListN.{length}
 use lib.Dec.{eqb, leb, ltb}
 use borrow.Author.Tests.{leb-true, le-leb, ltb-true, lt-ltb, eqb-true, eq-eqb, not-true, not-false}
-use Rattle.meaning.specs.Text.{Bytes, empty, all, between, same, sameName, amongNames}
+use Rattle.meaning.specs.Text.{Bytes, empty, all, between, same}
 use Rattle.meaning.specs.Reading.{Tests, lowest}
 use Rattle.meaning.specs.Claims.Texts.{All, In}
 use Rattle.meaning.specs.Claims.Refusals.{Lowest}
 use Rattle.laws.proofs.Bools.{Test, passed, failed, test, contradiction, and-true}
-use Rattle.laws.proofs.Search.{any-only}
 use Rattle.laws.proofs.Text.{same-true, same-refl}
-use Rattle.laws.proofs.Placed.{not-among}
 
 -- A test that passes exactly if something holds
 pub record Reflects (b : Bool) (R : Type 0) : Type 0 where
@@ -60,9 +58,6 @@ at-least n m = record { holds = leb-true n m; tests = le-leb n m }
 pub more-than : (n m : ℕ) → Reflects (ltb n m) (n < m)
 more-than n m = record { holds = ltb-true n m; tests = lt-ltb n m }
 
-pub among : (n : Bytes) (ns : List Bytes) → Reflects (amongNames n ns) (List·Memᴰ n ns)
-among n ns = reflects (amongNames n ns) (List·Memᴰ n ns) (λ e. let (x, m, s) = any-only (sameName n) ns e in Memᴰ·cast (same-true n x s) m) (not-among n ns)
-
 pub not-nothing : {A : Type 0} (xs : List A) → Reflects (not (empty xs)) (1 ≤ length xs)
 not-nothing [] = record { holds = λ e. absurd (false≢true e); tests = λ l. absurd (omega arith) }
 not-nothing (x ∷ xs) = record { holds = λ e. suc-le-suc zero-le; tests = λ l. refl }
@@ -89,6 +84,10 @@ same-text m n = record { holds = same-true m n; tests = λ e. subst (λ x. same 
 pub either-of-three : (a b c : Bool) (P Q R : Type 0) → Reflects a P → Reflects b Q → Reflects c R → Reflects (a || b || c) (P ⊎ (Q ⊎ R))
 either-of-three true b c P Q R x y z = either true (b || c) P (Q ⊎ R) x (either b c Q R y z)
 either-of-three false b c P Q R x y z = either false (b || c) P (Q ⊎ R) x (either b c Q R y z)
+
+pub either-of-four : (a b c d : Bool) (P Q R S : Type 0) → Reflects a P → Reflects b Q → Reflects c R → Reflects d S → Reflects (a || b || c || d) (P ⊎ (Q ⊎ (R ⊎ S)))
+either-of-four true b c d P Q R S x y z w = either true (b || c || d) P (Q ⊎ (R ⊎ S)) x (either-of-three b c d Q R S y z w)
+either-of-four false b c d P Q R S x y z w = either false (b || c || d) P (Q ⊎ (R ⊎ S)) x (either-of-three b c d Q R S y z w)
 
 -- Tests and rows, one for one
 abbrev pub Matches : Tests → List (ℕ × Type 0) → Type 0

@@ -1,19 +1,19 @@
 -- Names, fields, pieces of a text and numbers in decimal, as the paper says them.
 use mathlib.Core.Path.{_≡_, refl, sym, ap}
-use mathlib.Core.Logic.{_≢_, _↔_}
+use mathlib.Core.Logic.{_≢_}
 use Prim.Native.Nat.{ℕ, zero, suc, _+_, _*_, _-_, _/_, _%_, _≤_, _<_, zero-le, suc-le-suc}
 use native.Mathlib.Omega.{arith}
-use mathlib.Core.Bool.{Bool, true, false, not, _&&_}
+use mathlib.Core.Bool.{true, false, not, _&&_}
 use mathlib.Core.List.{List, [], _∷_, _++_, List·Memᴰ, List·Memᴰ·head, List·Memᴰ·tail}
 use lib.ListN.{length, getD}
 use lib.Dec.{eqb, ltb}
 use borrow.Author.Tests.{ltb-true, ltb-false, eqb-false, not-true}
-use Rattle.meaning.specs.Text.{Bytes, bytes, all, between, same, amongNames, repeated, cut, nameByte, isField, isName, digits, decimal}
-use Rattle.meaning.specs.Claims.Texts.{All, Distinct, In, Field, NameByte, Name, decimalValue, Decimal, Parted, Texts}
-use Rattle.laws.proofs.Bools.{Test, passed, failed, test, contradiction, or-false, and-true}
+use Rattle.meaning.specs.Text.{Bytes, bytes, all, between, same, cut, nameByte, isField, isName, digits}
+use Rattle.meaning.specs.Claims.Texts.{All, In, Field, NameByte, Name, decimalValue, Decimal, Parted, Texts}
+use Rattle.laws.proofs.Bools.{Test, passed, failed, test, contradiction, and-true}
 use Rattle.laws.proofs.Text.{Free, Frees, Some, one-or-more, cut-some, join-cut, cut-frees, same-true}
-use Rattle.laws.proofs.Placed.{not-among, new-name}
-use Rattle.laws.proofs.Reflects.{Reflects, reflects, either-of-three, each-one, within, equal, same-text, among}
+use Rattle.laws.proofs.Names.{equal-names, among, distinct-names, names-distinct}
+use Rattle.laws.proofs.Reflects.{Reflects, either-of-four, each-one, within, equal}
 
 -- Fields and names
 field-reflects : (f : Bytes) → Reflects (isField f) (Field f)
@@ -23,7 +23,7 @@ field-reflects (b ∷ f) =
     record { holds = λ e. record { some-byte = suc-le-suc zero-le; field-bytes = body .holds e }; tests = λ h. body .tests (h .field-bytes) }
 
 byte-reflects : (b : ℕ) → Reflects (nameByte b) (NameByte b)
-byte-reflects b = either-of-three (between 97 122 b) (between 48 57 b) (eqb b 45) _ _ _ (within 97 122 b) (within 48 57 b) (equal b 45)
+byte-reflects b = either-of-four (between 97 122 b) (between 65 90 b) (between 48 57 b) (eqb b 45) _ _ _ _ (within 97 122 b) (within 65 90 b) (within 48 57 b) (equal b 45)
 
 name-reflects : (n : Bytes) → Reflects (isName n) (Name n)
 name-reflects [] = record { holds = λ e. contradiction e refl; tests = λ h. absurd (omega (arith, h .size .0)) }
@@ -47,15 +47,6 @@ name-reflects (b ∷ n) = record { holds = there; tests = back }
 
     back : Name (b ∷ n) → isName (b ∷ n) ≡ true
     back h = rw (size-too .tests (h .size), body .tests (h .name-bytes), other h (test (same (b ∷ []) (bytes "-"))))
-
--- no name twice
-distinct-names : (ns : List Bytes) → repeated ns ≡ false → Distinct ns
-distinct-names [] e = tt
-distinct-names (n ∷ ns) e = let (a, b) = or-false (amongNames n ns) (repeated ns) e in (not-among n ns a, distinct-names ns b)
-
-names-distinct : (ns : List Bytes) → Distinct ns → repeated ns ≡ false
-names-distinct [] d = refl
-names-distinct (n ∷ ns) d = rw (new-name n ns (d .0), names-distinct ns (d .1))
 
 -- Pieces
 free-apart : (b : ℕ) (p : Bytes) → Free b p → List·Memᴰ b p → ⊥
@@ -113,7 +104,7 @@ pub texts : Texts
 texts = record {
   fields = λ f. (field-reflects f .holds, field-reflects f .tests);
   names = λ n. (name-reflects n .holds, name-reflects n .tests);
-  same-names = λ m n. (same-text m n .holds, same-text m n .tests);
+  same-names = λ m n. (equal-names m n .holds, equal-names m n .tests);
   used-names = λ n ns. (among n ns .holds, among n ns .tests);
   no-name-twice = λ ns. (distinct-names ns, names-distinct ns);
   pieces = parted;

@@ -4,7 +4,7 @@ use mathlib.Core.Logic.{inl, inr}
 use Prim.Native.Nat.{ℕ, _+_, _-_, _≤_}
 use native.Mathlib.Omega.{arith}
 use mathlib.Core.Bool.{Bool, true, false, not, _||_}
-use mathlib.Core.List.{List, [], _∷_, _++_, map, List·Memᴰ}
+use mathlib.Core.List.{List, [], _∷_, _++_, map}
 use mathlib.Core.Option.{some}
 use lib.ListN.{length, take, drop, replicate}
 use lib.Seq.{drop-append-seam}
@@ -13,7 +13,7 @@ use borrow.Author.Tests.{eqb-true, not-true, not-false}
 use Rattle.meaning.specs.Text.{Bytes, empty, all, isNone, amongNames, repeated, isField, isName}
 use Rattle.meaning.specs.Model.{Attribute, padded, nameOf, space, kindText}
 use Rattle.meaning.specs.Reading.{Line, attributeLine, treeLine, otherLine, lineOf, depthOf, wordOf, orPermit, targetOf, masksOf, elementOf, Sofar, wellPlaced, Tests, lowest, wrongFields, nonZero, badName, badMasks, attributeTests, elementTests, lineTests}
-use Rattle.meaning.specs.Claims.Texts.{All}
+use Rattle.meaning.specs.Claims.Texts.{All, Among}
 use Rattle.meaning.specs.Claims.PolicyFile.{GoodAttribute, attributeFields, attributeNames, Targets, PlacedAt}
 use Rattle.meaning.specs.Claims.Refusals.{On, Used, TooMany, BadPlace, BadWord, BadTargets, tableRows}
 use Rattle.laws.proofs.Types.{Kind, Element}
@@ -27,7 +27,8 @@ use Rattle.laws.proofs.Rewritten.{depth-again, word-again, targets-agai
 use Rattle.laws.proofs.Reread.{depth-back}
 use Rattle.laws.proofs.TreeLines.{word-allowed, allowed-word, zeros, name-size, targets-back, targets-of}
 use Rattle.laws.proofs.Placed.{placed-well, well-placed}
-use Rattle.laws.proofs.Reflects.{Reflects, reflects, either, either-of-three, opposite, itself, never-holds, at-least, more-than, among, not-nothing, is-nothing, Matches}
+use Rattle.laws.proofs.Names.{among}
+use Rattle.laws.proofs.Reflects.{Reflects, reflects, either, either-of-three, opposite, itself, never-holds, at-least, more-than, not-nothing, is-nothing, Matches}
 use Rattle.laws.proofs.BadFields.{kind-same, not-letter, Beside}
 
 -- the masks of some targets
@@ -78,7 +79,7 @@ module _ (s : Sofar) where
     on-attribute (λ a. all isName (a .name ∷ a .values) ≡ false) (λ k d n w ts. isName n ≡ false) _ a (opposite (all isName (a .name ∷ a .values))),
     (
       refl,
-      on-attribute (Used attrs) (λ k d n w ts. List·Memᴰ n (map nameOf before)) _ a (either _ _ _ _ (among (a .name) (attributeNames attrs)) (itself (repeated (a .values)))),
+      on-attribute (Used attrs) (λ k d n w ts. Among n (map nameOf before)) _ a (either _ _ _ _ (among (a .name) (attributeNames attrs)) (itself (repeated (a .values)))),
       (
         refl,
         on-attribute (TooMany attrs) (λ k d n w ts. 64 ≤ length before) _ a (either-of-three _ _ _ _ _ _ (at-least 6 (length attrs)) (more-than 16 (length (a .values))) (more-than 4096 (space (attrs ++ (a ∷ []))))),
@@ -117,8 +118,8 @@ module _ (s : Sofar) where
         good : badName el ≡ false → isName n ≡ false → ⊥
         good e x = contradiction (named el e .is-name) (ap isName same-name ∙ x)
 
-    row-4 : Reflects (amongNames (nameOf el) (map nameOf before)) (List·Memᴰ n (map nameOf before))
-    row-4 = subst (λ x. Reflects (amongNames x (map nameOf before)) (List·Memᴰ n (map nameOf before))) (sym (padded-name attrs k d n w ts)) (among n (map nameOf before))
+    row-4 : Reflects (amongNames (nameOf el) (map nameOf before)) (Among n (map nameOf before))
+    row-4 = subst (λ x. Reflects (amongNames x (map nameOf before)) (Among n (map nameOf before))) (sym (padded-name attrs k d n w ts)) (among n (map nameOf before))
 
     row-6 : Reflects (empty attrs || not (wellPlaced k (depthOf d) before)) (BadPlace attrs before k d)
     row-6 = either _ _ _ _ (is-nothing attrs) (reflects (not (wellPlaced k (depthOf d) before)) _ bad good)
@@ -157,7 +158,7 @@ module _ (s : Sofar) where
       on-tree (λ a. all isName (a .name ∷ a .values) ≡ false) (λ k d n w ts. isName n ≡ false) _ k d n w ts row-3,
       (
         refl,
-        on-tree (Used attrs) (λ k d n w ts. List·Memᴰ n (map nameOf before)) _ k d n w ts row-4,
+        on-tree (Used attrs) (λ k d n w ts. Among n (map nameOf before)) _ k d n w ts row-4,
         (
           refl,
           on-tree (TooMany attrs) (λ k d n w ts. 64 ≤ length before) _ k d n w ts (at-least 64 (length before)),

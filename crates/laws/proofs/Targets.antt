@@ -11,11 +11,12 @@ use lib.ListN.{length}
 use lib.Dec.{eqb}
 use lib.Pow.{pow-pos, pow-lt}
 use borrow.Author.Tests.{eq-eqb, ne-eqb, eqb-true, eqb-false}
-use Rattle.meaning.specs.Text.{Bytes, bytes, all, same, amongNames, repeated, cut, join, comma, isName}
+use Rattle.meaning.specs.Text.{Bytes, bytes, all, same, sameName, amongNames, repeated, cut, join, comma, isName}
 use Rattle.meaning.specs.Reading.{twice, maskOf, full, notFull, targetOf}
 use Rattle.meaning.specs.Writing.{valueNames, targetText}
 use Rattle.laws.proofs.Bools.{Test, passed, failed, test, contradiction, or-false, or-true, and-true, never}
 use Rattle.laws.proofs.Text.{Some, one-or-more, cut-some, join-cut, cut-join, same-true, same-refl, other-byte, NonEmptyName, name-bytes, name-of, names-free}
+use Rattle.laws.proofs.Names.{name-refl}
 
 -- A bit in front of a mask
 twice-some : (b m : ℕ) (o : Option ℕ) → twice b o ≡ some m → (k : ℕ) × (o ≡ some k) × (m ≡ b + 2 * k)
@@ -109,8 +110,8 @@ names-among (v ∷ vs) m n ns h = go (test (eqb (m % 2) 1)) (names-among vs (m /
     go (passed e) later =
         let i : v ∷ valueNames vs (m / 2) ≡ n ∷ ns = rw e at h in
         let j : v ≡ n = cc in
-        rw (j, same-refl n)
-    go (failed e) later = or-true (same n v) (amongNames n vs) (later (rw e at h))
+        rw (j, name-refl n)
+    go (failed e) later = or-true (sameName n v) (amongNames n vs) (later (rw e at h))
 
 other-name : (v n : Bytes) (vs : List Bytes) → amongNames v vs ≡ false → amongNames n vs ≡ true → same v n ≡ false
 other-name v n vs h k = go (test (same v n))

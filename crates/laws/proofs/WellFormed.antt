@@ -5,7 +5,7 @@ use Prim.Native.Nat.{ℕ, suc, _+_, _≤_, _<_, zero-le, suc-le-suc}
 use native.Mathlib.Omega.{arith}
 use native.Mathlib.Nat.{mul-le-mul-left}
 use mathlib.Core.Bool.{true, false}
-use mathlib.Core.List.{List, [], _∷_, _++_, map, reverse, reverseAux, reverse-reverse, map-append, append-assoc, append-nil, List·Memᴰ, List·Memᴰ·head, List·Memᴰ·tail, List·Memᴰ·not-nil, Memᴰ·append-right}
+use mathlib.Core.List.{List, [], _∷_, _++_, map, reverse, reverseAux, reverse-reverse, map-append, append-assoc, append-nil}
 use lib.ListN.{length, length-append, length-map, length-reverse}
 use lib.Seq.{append-snoc}
 use borrow.Author.Tests.{lt-leb, le-ltb}
@@ -13,7 +13,7 @@ use Rattle.meaning.specs.Text.{Bytes, bytes, empty, all, cut, join, newline, ta
 use Rattle.meaning.specs.Model.{Attribute, nameOf, Policy, sizes, space, given, wordText}
 use Rattle.meaning.specs.Reading.{Line, attributeLine, lineOf, Sofar, Tests, attributeTests, elementTests, lineTests, withElement, extended, readLines, nothing, read}
 use Rattle.meaning.specs.Writing.{headerTests, readElements, elementFields}
-use Rattle.meaning.specs.Claims.Texts.{All, Distinct, Each}
+use Rattle.meaning.specs.Claims.Texts.{All, Each, DistinctNames}
 use Rattle.meaning.specs.Claims.PolicyFile.{GoodAttribute, attributeFields, attributeNames, Placed, NewName, GoodLines, WellFormed}
 use Rattle.laws.proofs.Types.{Element}
 use Rattle.laws.proofs.Bools.{contradiction, and-true}
@@ -26,7 +26,8 @@ use Rattle.laws.proofs.Answers.{positive}
 use Rattle.laws.proofs.Rewritten.{only}
 use Rattle.laws.proofs.Reread.{bare, element-line, lines-free}
 use Rattle.laws.proofs.TreeLines.{HasWord, of-lines}
-use Rattle.laws.proofs.Placed.{placed-well, new-name}
+use Rattle.laws.proofs.Placed.{placed-well}
+use Rattle.laws.proofs.Names.{new-name, distinct-new}
 use Rattle.laws.proofs.FirstBad.{text-given, rows-read}
 use Rattle.laws.proofs.GoodSofar.{not-empty, GoodSofar, nothing-sofar, line-sofar, good-lines}
 
@@ -61,29 +62,24 @@ module _ (a : Attribute) (g : GoodAttribute a) where
       go n [] l = absurd (omega arith)
       go n (v ∷ vs) l = refl
 
-distinct-new : {A : Type 0} (xs : List A) (x : A) (ys : List A) → Distinct (xs ++ (x ∷ ys)) → List·Memᴰ x xs → ⊥
-distinct-new [] x ys d m = List·Memᴰ·not-nil m
-distinct-new (z ∷ xs) x ys d (List·Memᴰ·head e) = d .0 (Memᴰ·append-right xs (List·Memᴰ·head (sym e)))
-distinct-new (z ∷ xs) x ys d (List·Memᴰ·tail m) = distinct-new xs x ys (d .1) m
-
 space-grows : (xs ys : List Attribute) → All GoodAttribute ys → space xs ≤ space (xs ++ ys)
 space-grows [] ys g = product-pos (sizes ys) (positive ys g)
 space-grows (x ∷ xs) ys g = mul-le-mul-left (length (x .values)) (space-grows xs ys g)
 
 -- by the reader and, alone, by the writer
 module _ (tests : Sofar → Line → Tests) (numbered : (s : Sofar) (l : Line) → Numbered (tests s l)) (alike : (s : Sofar) (a : Attribute) → tests s (attributeLine a) ≡ attributeTests s a) where
-  attributes-read : (rest : Bytes) (bs attrs : List Attribute) (n m : ℕ) (more : List Bytes) → m ≡ n + length bs → All GoodAttribute bs → Distinct (attributeNames (attrs ++ bs)) → length (attrs ++ bs) ≤ 6 → space (attrs ++ bs) ≤ 4096
+  attributes-read : (rest : Bytes) (bs attrs : List Attribute) (n m : ℕ) (more : List Bytes) → m ≡ n + length bs → All GoodAttribute bs → DistinctNames (attributeNames (attrs ++ bs)) → length (attrs ++ bs) ≤ 6 → space (attrs ++ bs) ≤ 4096
       → readLines tests rest n (only attrs) (map attributeText bs ++ more) ≡ readLines tests rest m (only (attrs ++ bs)) more
   attributes-read rest [] attrs n m more c g d l s = let e : n ≡ m = omega arith in rw e (ap (λ x. readLines tests rest m (only x) more) (sym (append-nil attrs)))
   attributes-read rest (a ∷ bs) attrs n m more c g d l s =
       let split : (attrs ++ (a ∷ [])) ++ bs ≡ attrs ++ (a ∷ bs) = append-snoc attrs a bs in
-      let new = new-name (a .name) (attributeNames attrs) (distinct-new (attributeNames attrs) (a .name) (attributeNames bs) (subst Distinct (map-append (λ a. a .name) attrs (a ∷ bs)) d)) in
+      let new = new-name (a .name) (attributeNames attrs) (distinct-new (attributeNames attrs) (a .name) (attributeNames bs) (subst DistinctNames (map-append (λ a. a .name) attrs (a ∷ bs)) d)) in
       let few : length attrs < 6 = omega (arith, l, length-append attrs (a ∷ bs)) in
       let small : space (attrs ++ (a ∷ [])) ≤ 4096 = omega (arith, s, ap space split, space-grows (attrs ++ (a ∷ [])) bs (g .1)) in
       let own : Passes (attributeTests (only attrs) a) =
       (rw (g .0 .named, g .0 .values-named), (rw (new, g .0 .distinct), (rw (lt-leb 6 (length attrs) few, le-ltb 16 (length (a .values)) (g .0 .few-values), le-ltb 4096 (space (attrs ++ (a ∷ []))) small), (refl, tt)))) in
       let passes : PassesLine tests numbered (only attrs) (attributeFields a) (attributeLine a) = (rw (fields-good a (g .0)), subst Passes (sym (alike (only attrs) a)) own) in
-      let later = attributes-read rest bs (attrs ++ (a ∷ [])) (suc n) m more (omega arith) (g .1) (subst (λ x. Distinct (attributeNames x)) (sym split) d) (subst (λ x. length x ≤ 6) (sym split) l) (subst (λ x. space x ≤ 4096) (sym split) s) in
+      let later = attributes-read rest bs (attrs ++ (a ∷ [])) (suc n) m more (omega arith) (g .1) (subst (λ x. DistinctNames (attributeNames x)) (sym split) d) (subst (λ x. length x ≤ 6) (sym split) l) (subst (λ x. space x ≤ 4096) (sym split) s) in
       read-step⁻ tests numbered rest n (only attrs) (attributeText a) (map attributeText bs ++ more) (subst (λ x. PassesLine tests numbered (only attrs) x (lineOf x)) (sym (text-cut a (g .0))) (subst (PassesLine tests numbered (only attrs) (attributeFields a)) (sym (is-attribute a (g .0))) passes))
       ∙ ap (λ x. readLines tests rest (suc n) (extended (only attrs) x) (map attributeText bs ++ more)) (ap lineOf (text-cut a (g .0)) ∙ is-attribute a (g .0))
       ∙ later ∙ ap (λ x. readLines tests rest m (only x) more) split

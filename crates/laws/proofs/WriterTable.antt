@@ -4,7 +4,7 @@ use mathlib.Core.Logic.{_≢_, _⊎_, inl, inr}
 use Prim.Native.Nat.{ℕ, zero, suc, _^_, _≤_, _<_, zero-le, suc-le-suc}
 use native.Mathlib.Omega.{arith}
 use mathlib.Core.Bool.{true, false, not}
-use mathlib.Core.List.{List, [], _∷_, map, List·Memᴰ, List·Memᴰ·not-nil}
+use mathlib.Core.List.{List, [], _∷_, map, List·Memᴰ·not-nil}
 use lib.ListN.{length, getD, drop}
 use lib.Pow.{pow-pos}
 use lib.Dec.{eqb, ltb}
@@ -13,6 +13,7 @@ use Rattle.meaning.specs.Text.{Bytes, all, isNone, isName, isField}
 use Rattle.meaning.specs.Model.{Attribute, nameOf, kindText, wordText}
 use Rattle.meaning.specs.Reading.{Line, attributeLine, treeLine, otherLine, lineOf, full, wordOf, Sofar, wellPlaced, Tests, lowest, wrongFields, nonZero, badName, badMasks, attributeTests, elementTests}
 use Rattle.meaning.specs.Writing.{headerTests}
+use Rattle.meaning.specs.Claims.Texts.{Among}
 use Rattle.meaning.specs.Claims.PolicyFile.{attributeFields, Allowed, Placed}
 use Rattle.meaning.specs.Claims.Refusals.{Used, TooMany}
 use Rattle.meaning.specs.Claims.WriterRefusals.{headerRows, NonZeroFrom, BadName, BadMasks, elementRows}
@@ -23,7 +24,8 @@ use Rattle.laws.proofs.Lines.{attribute-fields, tree-fields}
 use Rattle.laws.proofs.Rewritten.{only}
 use Rattle.laws.proofs.TreeLines.{word-allowed, allowed-word}
 use Rattle.laws.proofs.Placed.{placed-well, well-placed}
-use Rattle.laws.proofs.Reflects.{Reflects, reflects, restated, refutes, either, either-of-three, opposite, at-least, more-than, within, equal, among, is-nothing, Matches}
+use Rattle.laws.proofs.Names.{among}
+use Rattle.laws.proofs.Reflects.{Reflects, reflects, restated, refutes, either, either-of-three, opposite, at-least, more-than, within, equal, is-nothing, Matches}
 use Rattle.laws.proofs.BadFields.{not-letter, Beside}
 use Rattle.laws.proofs.Table.{on-tree, attribute-rows}
 
@@ -47,7 +49,7 @@ module _ (attrs : List Attribute) where
     on-tree (λ a. all isName (a .name ∷ a .values) ≡ false) (λ k d n w ts. isName n ≡ false) _ k d n w ts (opposite (isName n)),
     (
       refl,
-      on-tree (Used attrs) (λ k d n w ts. List·Memᴰ n []) _ k d n w ts (reflects false _ (λ e. contradiction e refl) (λ e. List·Memᴰ·not-nil)),
+      on-tree (Used attrs) (λ k d n w ts. Among n []) _ k d n w ts (reflects false _ (λ e. contradiction e refl) (λ e a. List·Memᴰ·not-nil (a .1))),
       (refl, on-tree (TooMany attrs) (λ k d n w ts. 64 ≤ 0) _ k d n w ts (at-least 64 0), (refl, record { holds = λ e. (k, refl); tests = λ x. refl }, tt)),
     ),
   )

@@ -1,3 +1,4 @@
 -- The paper's cases, computed.
 pub mod Cases
 pub mod Rows
+pub mod Capitals

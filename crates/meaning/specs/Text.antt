@@ -3,7 +3,7 @@ use Prim.Native.Nat.{ℕ, zero, suc, _+_, _/_, _%_}
 use Prim.Native.Char.{code}
 use Prim.Native.String.{String, [] as []ˢ, _∷_ as _∷ˢ_}
 use mathlib.Core.Bool.{Bool, true, false, not, cond, _&&_, _||_}
-use mathlib.Core.List.{List, [], _∷_, _++_}
+use mathlib.Core.List.{List, [], _∷_, _++_, map}
 use mathlib.Core.Option.{Option, none, some}
 use lib.ListN.{length, take}
 use lib.Dec.{leb, ltb, eqb}
@@ -93,9 +93,15 @@ same [] (y ∷ ys) = false
 same (x ∷ xs) [] = false
 same (x ∷ xs) (y ∷ ys) = eqb x y && same xs ys
 
--- Names that are equal: apart from `same`, so that names can come to be compared otherwise than other texts
+-- Names that are equal: they differ only in letter case, so A-Z count as a-z
+abbrev pub folded : ℕ → ℕ
+folded b = cond (between 65 90 b) (b + 32) b
+
+abbrev pub lower : Bytes → Bytes
+lower n = map folded n
+
 abbrev pub sameName : Bytes → Bytes → Bool
-sameName m n = same m n
+sameName m n = same (lower m) (lower n)
 
 abbrev pub amongNames : Bytes → List Bytes → Bool
 amongNames n ns = any (sameName n) ns
@@ -135,9 +141,9 @@ line fs = join tab fs ++ (newline ∷ [])
 abbrev pub isField : Bytes → Bool
 isField f = not (empty f) && all (between 33 126) f
 
--- A name: 1 to 16 bytes of a-z, 0-9 and hyphen, not starting with a hyphen
+-- A name: 1 to 16 bytes of a-z, A-Z, 0-9 and hyphen, not starting with a hyphen
 abbrev pub nameByte : ℕ → Bool
-nameByte b = between 97 122 b || between 48 57 b || eqb b 45
+nameByte b = between 97 122 b || between 65 90 b || between 48 57 b || eqb b 45
 
 abbrev pub isName : Bytes → Bool
 isName n = between 1 16 (length n) && all nameByte n && not (same (take 1 n) (bytes "-"))

@@ -7,7 +7,7 @@ use Prim.Native.Nat.{ℕ, suc, _+_, _-_, _≤_, _<_}
 use native.Mathlib.Numerals.{add-one}
 use native.Mathlib.Omega.{arith}
 use lib.ListN.{length, getD, take, drop}
-use Rattle.meaning.specs.Text.{Bytes, all, same, cut, tab}
+use Rattle.meaning.specs.Text.{Bytes, all, sameName, cut, tab}
 use Rattle.meaning.specs.Deciding.{valueOf}
 use Rattle.laws.proofs.Bools.{Test, passed, failed, test, never}
 use Rattle.names.specs.declared.Found.{Found}
@@ -30,13 +30,13 @@ module _ (s : Bytes) (at e : ℕ) (p : e ≡ at + length (getD (cut tab (drop at
 
   -- the place of a name, where field n starts at `at`
   module _ (name : Bytes) (n : ℕ) where
-    pub place-hit : e ≤ length s → same name (take (e - at) (drop at s)) ≡ true → valueOf n name (cut tab (drop at s)) ≡ some n
+    pub place-hit : e ≤ length s → sameName name (take (e - at) (drop at s)) ≡ true → valueOf n name (cut tab (drop at s)) ≡ some n
     place-hit q f = rw (piece-at tab s at e p q, f)
 
-    pub place-end : e ≡ length s → same name (take (e - at) (drop at s)) ≡ false → valueOf n name (cut tab (drop at s)) ≡ none
+    pub place-end : e ≡ length s → sameName name (take (e - at) (drop at s)) ≡ false → valueOf n name (cut tab (drop at s)) ≡ none
     place-end l f = rw (piece-last tab s at e p l, f)
 
-    pub place-more : e < length s → same name (take (e - at) (drop at s)) ≡ false → valueOf n name (cut tab (drop at s)) ≡ valueOf (n + 1) name (cut tab (drop (e + 1) s))
+    pub place-more : e < length s → sameName name (take (e - at) (drop at s)) ≡ false → valueOf n name (cut tab (drop at s)) ≡ valueOf (n + 1) name (cut tab (drop (e + 1) s))
     place-more l f = rw (piece-more tab s at e p l, f, add-one n)
 
 -- A place is below the number of names
@@ -48,8 +48,8 @@ found-within name fs r e v h = let d = below 0 fs (sym e ∙ h) in omega arith
   where
     below : (n : ℕ) (fs : List Bytes) → foundOf (valueOf n name fs) ≡ At v → v < n + length fs
     below n [] i = never (cc)
-    below n (f ∷ fs) i = go (test (same name f)) (below (suc n) fs)
+    below n (f ∷ fs) i = go (test (sameName name f)) (below (suc n) fs)
       where
-        go : Test (same name f) → (foundOf (valueOf (suc n) name fs) ≡ At v → v < suc n + length fs) → v < n + length (f ∷ fs)
+        go : Test (sameName name f) → (foundOf (valueOf (suc n) name fs) ≡ At v → v < suc n + length fs) → v < n + length (f ∷ fs)
         go (passed t) later = let d : n ≡ v = at-at (rw t at i) in omega arith
         go (failed t) later = let d = later (rw t at i) in omega arith

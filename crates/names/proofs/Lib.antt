@@ -1,4 +1,5 @@
 -- Laws of names in fields.
 pub mod Bytes
+pub mod Letters
 pub mod Fields
 pub mod Ends

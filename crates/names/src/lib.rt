@@ -2,17 +2,65 @@
 ghost use mathlib.Core.Path.{_≡_};
 ghost use mathlib.Core.Bool.{true, false};
 ghost use Prim.Native.Nat.{ℕ, _-_, _≤_, _<_};
+ghost use lib.Dec.{eqb};
 ghost use lib.ListN.{length, take, drop};
-ghost use Rattle.meaning.specs.Text.{all, sameName, cut, tab, nameByte, isName};
+ghost use Rattle.meaning.specs.Text.{all, folded, sameName, cut, tab, nameByte, isName};
 ghost use Rattle.meaning.specs.Deciding.{valueOf};
 ghost use Rattle.names.specs.Places.{foundOf};
 ghost use Rattle.names.specs.Ends.{endsOtherwise};
 
-// Whether two names are equal. Nothing else compares names.
+// A capital as its small letter, any other byte as it is.
+fn folded(b: u8) -> u8
+    ensures { λ r. ⌜ r ≡ folded b ⌝ }
+{
+    if b < 65 {
+        return b;
+    }
+    if 90 < b {
+        return b;
+    }
+    b + 32
+}
+
+// Whether two bytes differ at most in letter case. Most are the same, or differ in more than the bit that tells the cases
+// apart; that bit alone also makes others than letters one.
+fn same_letter(x: u8, y: u8) -> bool
+    ensures { λ r. ⌜ r ≡ eqb (folded x) (folded y) ⌝ }
+{
+    if x == y {
+        return true;
+    }
+    if x | 32 != y | 32 {
+        return false;
+    }
+    let first = folded(x);
+    let second = folded(y);
+    first == second
+}
+
+// Whether two names of one length are equal. From the last byte: names that are alike mostly differ in a number at the end.
+fn same_letters(a: &[u8], b: &[u8]) -> bool
+    requires { ⌜ length (now a) ≡ length (now b) ⌝ }
+    ensures { λ r. ⌜ r ≡ sameName (now (a .entry)) (now (b .entry)) ⌝ }
+{
+    let mut i = a.len();
+    while 0 < i {
+        i -= 1;
+        if !same_letter(a[i], b[i]) {
+            return false;
+        }
+    }
+    true
+}
+
+// Whether two names are equal: they differ at most in letter case. Nothing else compares names.
 pub fn same_name(a: &[u8], b: &[u8]) -> bool
     ensures { λ r. ⌜ r ≡ sameName (now (a .entry)) (now (b .entry)) ⌝ }
 {
-    comparing::same(a, b)
+    if a.len() != b.len() {
+        return false;
+    }
+    same_letters(a, b)
 }
 
 // Whether the texts that end at this place end otherwise than the name: a quick test that tells most names apart.
@@ -25,10 +73,9 @@ pub fn ends_otherwise(s: &[u8], end: usize, name: &[u8]) -> bool
         return false;
     }
     let last = name.len() - 1;
-    if s[end - 1] == name[last] {
-        return false;
-    }
-    true
+    let own = name[last];
+    let other = s[end - 1];
+    own | 32 != other | 32
 }
 
 fn name_byte(b: u8) -> bool
@@ -36,6 +83,9 @@ fn name_byte(b: u8) -> bool
 {
     if 97 <= b {
         return b <= 122;
+    }
+    if 65 <= b {
+        return b <= 90;
     }
     if 48 <= b {
         return b <= 57;

@@ -1,13 +1,12 @@
 -- A field that stands twice, as the code that compares each field with those behind it finds it.
 use mathlib.Core.Path.{_≡_, refl}
-use mathlib.Core.Bool.{Bool, true, false, not}
-use mathlib.Core.List.{List, [], _∷_}
+use mathlib.Core.Bool.{Bool, true, false}
+use mathlib.Core.List.{[]}
 use mathlib.Core.Option.{Option, none, some}
-use Prim.Native.Nat.{ℕ, suc, _+_, _-_, _<_}
+use Prim.Native.Nat.{ℕ, _+_, _-_, _<_}
 use lib.ListN.{length, getD, take, drop}
-use Rattle.meaning.specs.Text.{Bytes, isNone, same, amongNames, repeated, cut, tab}
-use Rattle.meaning.specs.Deciding.{valueOf}
-use Rattle.laws.proofs.Bools.{Test, passed, failed, test, never}
+use Rattle.meaning.specs.Text.{Bytes, isNone, amongNames, repeated, cut, tab}
+use Rattle.laws.proofs.Bools.{never}
 use Rattle.names.specs.declared.Found.the-variants.{At, Nothing}
 use Rattle.names.specs.Places.{foundOf}
 use Rattle.text.proofs.Pieces.{rest-of, piece-last, piece-more}
@@ -27,15 +26,6 @@ module _ (s : Bytes) (at e : ℕ) (p : e ≡ at + length (getD (cut tab (drop at
 
     pub repeated-more : amongRest s at e ≡ false → repeated (cut tab (drop at s)) ≡ repeated (cut tab (drop (e + 1) s))
     repeated-more f = let among = rw rest-of at f in rw (piece-more tab s at e p l, among)
-
--- A name that has a place is among the names
-pub among-placed : (n : ℕ) (name : Bytes) (fs : List Bytes) → amongNames name fs ≡ not (isNone (valueOf n name fs))
-among-placed n name [] = refl
-among-placed n name (f ∷ fs) = go (test (same name f)) (among-placed (suc n) name fs)
-  where
-    go : Test (same name f) → amongNames name fs ≡ not (isNone (valueOf (suc n) name fs)) → amongNames name (f ∷ fs) ≡ not (isNone (valueOf n name (f ∷ fs)))
-    go (passed e) later = rw e
-    go (failed e) later = rw e later
 
 pub found-some : (o : Option ℕ) {v : ℕ} → foundOf o ≡ At v → isNone o ≡ false
 found-some none h = never (cc)

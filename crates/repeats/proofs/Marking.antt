@@ -1,8 +1,8 @@
 -- Sets of names: a mark stays, and equal names have one mark.
-use mathlib.Core.Path.{_≡_, refl, sym, ap, _∙_}
+use mathlib.Core.Path.{_≡_, refl, sym, ap, ap₂, _∙_}
 use mathlib.Core.Bool.{Bool, true, false, _&&_, _||_}
 use mathlib.Core.List.{List, [], _∷_}
-use Prim.Native.Nat.{ℕ, _/_, _%_, _^_, _<_}
+use Prim.Native.Nat.{ℕ, _+_, _*_, _/_, _%_, _^_, _<_}
 use native.Mathlib.Nat.{one-mul}
 use native.Mathlib.Omega.{arith}
 use lib.ListN.{length, getD, set, length-set}
@@ -11,11 +11,12 @@ use lib.Dec.{eqb}
 use lib.Bits.{bitOr}
 use lib.Pow.{shl-shr}
 use borrow.Author.Tests.{eqb-true, eqb-false}
-use Rattle.meaning.specs.Text.{Bytes, sameName, amongNames}
+use Rattle.meaning.specs.Text.{Bytes, folded, sameName, amongNames}
 use Rattle.meaning.specs.Deciding.{bit}
 use Rattle.laws.proofs.Bits.{bit-or}
 use Rattle.laws.proofs.Bools.{Test, passed, failed, test, contradiction, or-true, and-true}
-use Rattle.laws.proofs.Text.{same-true}
+use Rattle.names.specs.Letters.{caseless}
+use Rattle.names.proofs.Letters.{fold-caseless}
 use Rattle.repeats.specs.Marks.{hashOf, isSet, withBit, firstBit, secondBit, marked, withMark, Kept, Caught}
 
 own-bit : (k : ℕ) → bit (2 ^ k) k ≡ true
@@ -97,7 +98,13 @@ module _ (ws : List ℕ) (h : ℕ) (room : length ws ≡ 256) where
 
 -- Equal names have one hash
 pub same-hash : (m n : Bytes) → sameName m n ≡ true → hashOf m ≡ hashOf n
-same-hash m n e = ap hashOf (same-true m n e)
+same-hash [] [] e = refl
+same-hash [] (y ∷ n) e = contradiction e refl
+same-hash (x ∷ m) [] e = contradiction e refl
+same-hash (x ∷ m) (y ∷ n) e =
+    let (letter, later) = and-true (eqb (folded x) (folded y)) (sameName m n) e in
+    let cases = sym (fold-caseless x) ∙ ap caseless (eqb-true (folded x) (folded y) letter) ∙ fold-caseless y in
+    ap₂ (λ b h. (h % 4294967296 + b) * 374761393) cases (same-hash m n later)
 
 -- A name without a mark is not among those that are kept
 pub unmarked : (t : ℕ → Bool) (ws : List ℕ) (f : Bytes) (fs : List Bytes) → Kept t ws fs → t (hashOf f) ≡ true → marked ws (hashOf f) ≡ false → amongNames f fs ≡ false

@@ -7,10 +7,11 @@ use lib.ListN.{length, getD, set, drop}
 use lib.Bits.{bitOr}
 use Rattle.meaning.specs.Text.{Bytes, amongNames, cut, tab}
 use Rattle.meaning.specs.Deciding.{bit}
+use Rattle.names.specs.Letters.{caseless}
 
--- the hash of a name, from its last byte to its first
+-- the hash of a name, from its last byte to its first, the same in either letter case
 abbrev pub hashStep : ℕ → ℕ → ℕ
-hashStep b h = (h % 4294967296 + b) * 374761393
+hashStep b h = (h % 4294967296 + caseless b) * 374761393
 
 abbrev pub hashOf : Bytes → ℕ
 hashOf [] = 0

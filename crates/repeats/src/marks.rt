@@ -3,11 +3,11 @@ ghost use mathlib.Core.Path.{_≡_};
 ghost use Prim.Native.Nat.{_<_};
 ghost use Rattle.repeats.specs.Marks.{hashStep, isSet, withBit, marked, withMark};
 
-// The hash of a name, from that of all its bytes but the first.
+// The hash of a name, from that of all its bytes but the first: one for both cases of a letter.
 pub fn hash_step(b: u8, h: usize) -> usize
     ensures { λ r. ⌜ r ≡ hashStep b h ⌝ }
 {
-    (h % 4294967296 + b as usize) * 374761393
+    (h % 4294967296 + (b | 32) as usize) * 374761393
 }
 
 fn is_set(words: &[u64; 256], p: usize) -> bool

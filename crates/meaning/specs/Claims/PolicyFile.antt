@@ -7,7 +7,7 @@ use mathlib.Core.List.{List, [], _∷_, _++_, map, List·Memᴰ}
 use lib.ListN.{length}
 use Rattle.meaning.specs.Text.{Bytes, bytes, all, gathered, repeated, join, comma, line, isName}
 use Rattle.meaning.specs.Model.{Kind, set, policy, rule, Word, deny-overrides, permit-overrides, first-applicable, only-one-applicable, Attribute, Element, padded, nameOf, Policy, choices, space, Result, given, kindText, wordText}
-use Rattle.meaning.specs.Claims.Texts.{All, Distinct, Each}
+use Rattle.meaning.specs.Claims.Texts.{All, Each, Paired, Among, DistinctNames}
 
 -- Attribute line: `A`, name, then 1 to 16 value names
 pub record GoodAttribute (a : Attribute) : Type 0 where
@@ -67,10 +67,7 @@ pub record TreeLine (attrs : List Attribute) (fields : List Bytes) (e : Element)
   pub element-masks : e .masks ≡ padded 6 masks
 
 abbrev pub TreeLines : List Attribute → List (List Bytes) → List Element → Type 0
-TreeLines attrs [] [] = Unit {0}
-TreeLines attrs [] (e ∷ es) = ⊥
-TreeLines attrs (l ∷ ls) [] = ⊥
-TreeLines attrs (l ∷ ls) (e ∷ es) = TreeLine attrs l e × TreeLines attrs ls es
+TreeLines attrs ls es = Paired (TreeLine attrs) ls es
 
 -- An element's parent, the nearest earlier element of depth one less: an `S` for `S` and `P`, a `P` for `R`
 abbrev pub parentKind : Kind → Kind
@@ -97,7 +94,7 @@ Placed before e = PlacedAt before (e .kind) (e .depth)
 
 -- its name is not used before
 abbrev pub NewName : List Element → Element → Type 0
-NewName before e = List·Memᴰ (nameOf e) (map nameOf before) → ⊥
+NewName before e = Among (nameOf e) (map nameOf before) → ⊥
 
 -- Lines that break no rule, each by its fields: attribute lines, then tree lines
 abbrev pub attributeNames : List Attribute → List Bytes
@@ -108,7 +105,7 @@ pub record GoodLines (rows : List (List Bytes)) (attrs : List Attribute) (es : L
   pub are : rows ≡ map attributeFields attrs ++ tree
   pub few-attributes : length attrs ≤ 6
   pub attributes-good : All GoodAttribute attrs
-  pub attributes-distinct : Distinct (attributeNames attrs)
+  pub attributes-distinct : DistinctNames (attributeNames attrs)
   pub small-space : space attrs ≤ 4096
   pub few-elements : length es ≤ 64
   pub some-attribute : 1 ≤ length es → 1 ≤ length attrs

@@ -3,10 +3,11 @@ use mathlib.Core.Path.{_≡_}
 use mathlib.Core.Logic.{_≢_, _⊎_}
 use Prim.Native.Nat.{ℕ, suc, _+_, _≤_, _<_}
 use mathlib.Core.Bool.{true, false}
-use mathlib.Core.List.{List, [], _∷_, _++_, map, reverse, List·Memᴰ}
+use mathlib.Core.List.{List, [], _∷_, _++_, map, reverse}
 use lib.ListN.{length, getD, drop}
 use Rattle.meaning.specs.Text.{Bytes, bytes, all, gathered, repeated, cut, join, newline, tab, line, isField, isName}
 use Rattle.meaning.specs.Model.{Kind, Word, Attribute, Element, nameOf, space, kindText, wordText}
+use Rattle.meaning.specs.Claims.Texts.{Among}
 use Rattle.meaning.specs.Claims.PolicyFile.{Allowed, Targets, PlacedAt, attributeNames, GoodLines}
 
 -- Refused: the table's rows 2 to 8 on a line, by its fields, behind lines that break no rule, of these attributes and elements,
@@ -24,7 +25,7 @@ BadFields attrs fs = (all isField fs ≡ false)
 
 -- a name used before among the attributes, a value twice; attribute 7, value 17, space over 4,096
 abbrev pub Used : List Attribute → Attribute → Type 0
-Used attrs a = List·Memᴰ (a .name) (attributeNames attrs) ⊎ (repeated (a .values) ≡ true)
+Used attrs a = Among (a .name) (attributeNames attrs) ⊎ (repeated (a .values) ≡ true)
 
 abbrev pub TooMany : List Attribute → Attribute → Type 0
 TooMany attrs a = (6 ≤ length attrs) ⊎ ((16 < length (a .values)) ⊎ (4096 < space (attrs ++ (a ∷ []))))
@@ -43,7 +44,7 @@ abbrev pub tableRows : (unended : Type 0) → List Attribute → List Element �
 tableRows unended attrs before fs =
     (2, unended ⊎ BadFields attrs fs)
     ∷ (3, On (λ a. all isName (a .name ∷ a .values) ≡ false) (λ k d n w ts. isName n ≡ false) fs)
-    ∷ (4, On (Used attrs) (λ k d n w ts. List·Memᴰ n (map nameOf before)) fs)
+    ∷ (4, On (Used attrs) (λ k d n w ts. Among n (map nameOf before)) fs)
     ∷ (5, On (TooMany attrs) (λ k d n w ts. 64 ≤ length before) fs)
     ∷ (6, On (λ a. 1 ≤ length before) (λ k d n w ts. BadPlace attrs before k d) fs)
     ∷ (7, On (λ a. ⊥) (λ k d n w ts. BadWord k w) fs)

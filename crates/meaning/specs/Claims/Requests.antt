@@ -8,14 +8,12 @@ use lib.ListN.{length, getD}
 use Rattle.meaning.specs.Text.{Bytes, cut, join, tab}
 use Rattle.meaning.specs.Model.{Attribute, Element, Policy, sizes, space, refused, given}
 use Rattle.meaning.specs.Deciding.{Request, numberOf, requestOf, nextRequest, requestLine, hits}
+use Rattle.meaning.specs.Claims.Texts.{Paired, EqualNames, Among}
 use Rattle.meaning.specs.Claims.PolicyFile.{marksMask}
 
 -- One value number for each attribute, counted from 0, below its count
 abbrev pub Fits : List ℕ → Request → Type 0
-Fits [] [] = Unit {0}
-Fits [] (v ∷ vs) = ⊥
-Fits (s ∷ ss) [] = ⊥
-Fits (s ∷ ss) (v ∷ vs) = (v < s) × Fits ss vs
+Fits ss vs = Paired (λ s v. v < s) ss vs
 
 -- As a line: the value names parted by tabs
 abbrev pub requestFields : List Attribute → Request → List Bytes
@@ -26,6 +24,10 @@ requestFields (a ∷ attrs) (v ∷ vs) = getD (a .values) v [] ∷ requestFields
 abbrev pub requestText : List Attribute → Request → Bytes
 requestText attrs q = join tab (requestFields attrs q)
 
+-- a line names a request if each field is a name equal to its value's
+abbrev pub NamesRequest : List Attribute → Bytes → Request → Type 0
+NamesRequest attrs r q = Paired EqualNames (cut tab r) (requestFields attrs q)
+
 -- one request before another: a lower value in the first attribute that differs
 abbrev pub Earlier : Request → Request → Type 0
 Earlier [] r = ⊥
@@ -34,16 +36,16 @@ Earlier (v ∷ vs) (w ∷ ws) = (v < w) ⊎ ((v ≡ w) × Earlier vs ws)
 
 -- field i is a value of attribute i, both from 0
 abbrev pub ValueAt : List Attribute → List Bytes → ℕ → Type 0
-ValueAt attrs fs i = List·Memᴰ (getD fs i []) (getD (map (λ a. a .values) attrs) i [])
+ValueAt attrs fs i = Among (getD fs i []) (getD (map (λ a. a .values) attrs) i [])
 
--- Numbers below the space and requests, one for the other, in order; a line for each of them, and 10 for any other
+-- Numbers below the space and requests, one for the other, in order; the lines that name each of them, and 10 for any other
 pub record Numbered (attrs : List Attribute) : Type 0 where
   pub number-again : (n : ℕ) → n < space attrs → Fits (sizes attrs) (requestOf (sizes attrs) n) × (numberOf (sizes attrs) (requestOf (sizes attrs) n) ≡ n)
   pub request-again : (q : Request) → Fits (sizes attrs) q → (numberOf (sizes attrs) q < space attrs) × (requestOf (sizes attrs) (numberOf (sizes attrs) q) ≡ q)
   pub rising : (q r : Request) → Fits (sizes attrs) q → Fits (sizes attrs) r → Earlier q r → numberOf (sizes attrs) q < numberOf (sizes attrs) r
   pub next-number : (q : Request) → numberOf (sizes attrs) (nextRequest (sizes attrs) q) ≡ (numberOf (sizes attrs) q + 1) % space attrs
   pub to-line : (q : Request) → Fits (sizes attrs) q → requestLine attrs (requestText attrs q) ≡ given q
-  pub by-line : (r : Bytes) (q : Request) → requestLine attrs r ≡ given q → Fits (sizes attrs) q × (r ≡ requestText attrs q)
+  pub by-line : (r : Bytes) (q : Request) → requestLine attrs r ≡ given q ↔ (Fits (sizes attrs) q × NamesRequest attrs r q)
   pub wrong-count : (r : Bytes) → length (cut tab r) ≢ length attrs → requestLine attrs r ≡ refused 10 0
   pub no-value : (r : Bytes) (i : ℕ) → length (cut tab r) ≡ length attrs → i < length attrs
       → ((j : ℕ) → j < i → ValueAt attrs (cut tab r) j) → (ValueAt attrs (cut tab r) i → ⊥) → requestLine attrs r ≡ refused 10 (suc i)

@@ -3,11 +3,11 @@ use mathlib.Core.Path.{_≡_}
 use mathlib.Core.Logic.{_≢_, _⊎_}
 use Prim.Native.Nat.{ℕ, suc, _^_, _≤_, _<_}
 use mathlib.Core.Bool.{false}
-use mathlib.Core.List.{List, [], _∷_, _++_, map, reverse, List·Memᴰ}
+use mathlib.Core.List.{List, [], _∷_, _++_, map, reverse}
 use lib.ListN.{length, getD, take}
 use Rattle.meaning.specs.Text.{Bytes, gathered, cut, join, newline, tab, line, isName}
 use Rattle.meaning.specs.Model.{Kind, Attribute, Element, nameOf, sizes, kindText}
-use Rattle.meaning.specs.Claims.Texts.{In}
+use Rattle.meaning.specs.Claims.Texts.{In, Among}
 use Rattle.meaning.specs.Claims.PolicyFile.{attributeFields, Allowed, Placed, GoodLines}
 use Rattle.meaning.specs.Claims.Refusals.{tableRows, Lowest}
 
@@ -45,7 +45,7 @@ BadMasks attrs ms = ((i : ℕ) × (i < length attrs) × ((getD ms i 0 ≡ 0) ⊎
 abbrev pub elementRows : List Attribute → List Element → Element → List (ℕ × Type 0)
 elementRows attrs before e =
     (3, BadName e)
-    ∷ (4, List·Memᴰ (nameOf e) (map nameOf before))
+    ∷ (4, Among (nameOf e) (map nameOf before))
     ∷ (5, 64 ≤ length before)
     ∷ (6, BadlyPlaced attrs before e)
     ∷ (7, Allowed (e .kind) (e .word) → ⊥)

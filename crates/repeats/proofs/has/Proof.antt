@@ -4,7 +4,8 @@ use mathlib.Core.Bool.{not}
 use borrow.Author.Needs.{needs}
 use Rattle.meaning.specs.Text.{cut, tab}
 use Rattle.meaning.specs.Deciding.{valueOf}
-use Rattle.repeats.proofs.Fields.{among-placed, found-some, found-none}
+use Rattle.laws.proofs.Names.{among-placed}
+use Rattle.repeats.proofs.Fields.{found-some, found-none}
 use Rattle.repeats.proofs.has.Statement.{statement}
 use Rattle.repeats.proofs.has.Tie as tie
 
