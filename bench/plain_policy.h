@@ -18,7 +18,7 @@ enum word {
 struct name { uint64_t half[2]; };
 
 struct attribute {
-    struct name name, value[VALUES];
+    struct name name, value[VALUES], spelled[VALUES]; /* in small letters, but as spelled for targets */
     uint8_t values, length[VALUES];
 };
 
@@ -33,7 +33,7 @@ struct policy {
     unsigned attributes, space, elements;
     struct attribute attribute[ATTRIBUTES];
     struct element element[ELEMENTS];
-    struct name name[ELEMENTS];
+    struct name name[ELEMENTS]; /* in small letters */
     uint8_t text[FILE_BYTES + 2 * NAME_BYTES]; /* the file, with room behind so that names may be loaded whole */
 };
 

@@ -12,8 +12,8 @@ static const uint8_t kind_of[256] = {
     0, 0, 0, 0, 0, 0, 0, 0, 0, 0, 0, 0, 0, 0, 0, 0,
     0, O, O, O, O, O, O, O, O, O, O, O, O, N, O, O,
     N, N, N, N, N, N, N, N, N, N, O, O, O, O, O, O,
-    O, O, O, O, O, O, O, O, O, O, O, O, O, O, O, O,
-    O, O, O, O, O, O, O, O, O, O, O, O, O, O, O, O,
+    O, N, N, N, N, N, N, N, N, N, N, N, N, N, N, N,
+    N, N, N, N, N, N, N, N, N, N, N, O, O, O, O, O,
     O, N, N, N, N, N, N, N, N, N, N, N, N, N, N, N,
     N, N, N, N, N, N, N, N, N, N, N, O, O, O, O, 0,
 };
@@ -41,6 +41,21 @@ static struct name load_name(const uint8_t *bytes, size_t length)
     name.half[0] &= mask.half[0];
     name.half[1] &= mask.half[1];
     return name;
+}
+
+/* The capitals of eight bytes in small letters: bit 7 of each byte tells what is at least A and at most Z. */
+static uint64_t fold(uint64_t bytes)
+{
+    const uint64_t each = 0x0101010101010101u;
+    uint64_t low = bytes & 0x7f * each;
+    uint64_t capitals = (low + (128 - 'A') * each) & ~(low + (127 - 'Z') * each) & ~bytes & 0x80 * each;
+
+    return bytes | capitals >> 2;
+}
+
+static struct name folded(struct name name)
+{
+    return (struct name){{fold(name.half[0]), fold(name.half[1])}};
 }
 
 static bool same(struct name a, struct name b)
@@ -96,11 +111,11 @@ static bool repeats_value(const struct line *line)
         size_t length = 0;
         while (kind_of[at[length]] & NAME)
             length++;
-        struct name name = load_name(at, length);
+        struct name name = folded(load_name(at, length));
         size_t slot = ((name.half[0] * 31 + name.half[1]) * 0x9e3779b97f4a7c15u) >> 50;
         for (; slots[slot] != 0; slot = (slot + 1) % FILE_BYTES) {
             const uint8_t *earlier = base + slots[slot];
-            if (memcmp(earlier, at, length) == 0 && !(kind_of[earlier[length]] & NAME))
+            if (same(folded(load_name(earlier, length)), name) && !(kind_of[earlier[length]] & NAME))
                 return true;
         }
         slots[slot] = (uint16_t)(at - base);
@@ -116,13 +131,14 @@ static unsigned read_attribute(struct policy *policy, const struct line *line)
     if (line->bad_names & ~1u)
         return 3;
 
-    struct attribute attribute = {.name = load_name(line->field[1], line->length[1])};
+    struct attribute attribute = {.name = folded(load_name(line->field[1], line->length[1]))};
     unsigned values = line->fields - 2;
     for (unsigned i = 0; i < policy->attributes; i++)
         if (same(attribute.name, policy->attribute[i].name))
             return 4;
     for (unsigned i = 0; i < values && values <= VALUES; i++) {
-        attribute.value[i] = load_name(line->field[2 + i], line->length[2 + i]);
+        attribute.spelled[i] = load_name(line->field[2 + i], line->length[2 + i]);
+        attribute.value[i] = folded(attribute.spelled[i]);
         attribute.length[i] = (uint8_t)line->length[2 + i];
         if (among(attribute.value[i], attribute.value, i))
             return 4;
@@ -165,7 +181,7 @@ static uint16_t target_of(const struct attribute *attribute, const uint8_t *at, 
         return (uint16_t)all;
     for (unsigned value = 0; value < attribute->values; value++) {
         size_t bytes = attribute->length[value];
-        if (!same(load_name(at, bytes), attribute->value[value]) || (at[bytes] != ',' && at + bytes != end))
+        if (!same(load_name(at, bytes), attribute->spelled[value]) || (at[bytes] != ',' && at + bytes != end))
             continue;
         mask |= 1u << value;
         at += bytes;
@@ -205,7 +221,7 @@ static unsigned read_element(struct policy *policy, const struct line *line, con
         return 2;
     if (line->bad_names & 1u << 2)
         return 3;
-    struct name name = load_name(line->field[2], line->length[2]);
+    struct name spelled = load_name(line->field[2], line->length[2]), name = folded(spelled);
     if (among(name, policy->name, policy->elements))
         return 4;
     if (policy->elements == ELEMENTS)
@@ -223,7 +239,7 @@ static unsigned read_element(struct policy *policy, const struct line *line, con
             new.target[i] &= policy->element[new.parent].target[i];
     }
     new.length = (uint8_t)line->length[2];
-    memcpy(new.label, &name, NAME_BYTES);
+    memcpy(new.label, &spelled, NAME_BYTES);
     new.label[new.length] = ',';
     new.line = (uint16_t)(line->field[0] - policy->text);
     new.line_length = (uint16_t)(end - line->field[0]);
@@ -280,6 +296,7 @@ jogimaduve_answer plain_read_request(const struct policy *policy, const uint8_t 
         unsigned value = 0;
         if (bytes <= NAME_BYTES)
             memcpy(&name, field[i], bytes);
+        name = folded(name);
         while (value < attribute->values && (attribute->length[value] != bytes || !same(name, attribute->value[value])))
             value++;
         if (value == attribute->values)
