@@ -14,7 +14,7 @@
 #include <stddef.h>
 #include <stdint.h>
 
-#define JOGIMADUVE_VERSION "1.0.0"
+#define JOGIMADUVE_VERSION "1.1.0"
 
 #ifdef __cplusplus
 extern "C" {
@@ -30,12 +30,12 @@ enum {
     JOGIMADUVE_DONE = 0,
     JOGIMADUVE_TOO_LONG = 1,     /* 0: the file exceeds JOGIMADUVE_LONGEST_FILE bytes */
     JOGIMADUVE_BAD_LINE = 2,     /* line: empty line or field, other byte, no last newline, wrong first field or field count */
-    JOGIMADUVE_BAD_NAME = 3,     /* line: bad attribute, value or element name */
-    JOGIMADUVE_NAME_USED = 4,    /* line: name used before */
+    JOGIMADUVE_BAD_NAME = 3,     /* line: a name not of 1 to 16 of a-z, A-Z, 0-9 and hyphen, or with a hyphen first */
+    JOGIMADUVE_NAME_USED = 4,    /* line: name used before, letter case aside */
     JOGIMADUVE_TOO_MANY = 5,     /* line: attribute 7, value 17, space over 4,096, element 65 */
     JOGIMADUVE_BAD_PLACE = 6,    /* line: attribute behind a tree line, tree line before any, bad depth, place or parent */
     JOGIMADUVE_BAD_WORD = 7,     /* line: word not allowed for its kind */
-    JOGIMADUVE_BAD_TARGET = 8,   /* line: bad target */
+    JOGIMADUVE_BAD_TARGET = 8,   /* line: bad target; its values are spelled as on the attribute line */
     JOGIMADUVE_NO_ELEMENT = 9,   /* 0: no tree line */
     JOGIMADUVE_BAD_REQUEST = 10, /* place of the first request field that is no value; 0 if the field count is wrong */
     JOGIMADUVE_SHORT_BUFFER = 11 /* bytes: so many are needed */
@@ -55,7 +55,8 @@ enum {
     JOGIMADUVE_REPORT_STACK = 262144
 };
 
-/* Decides a request: one value name for each attribute of the file, in order, parted by tabs, no newline. */
+/* Decides a request: one value name for each attribute of the file, in order and in any letter case, parted by tabs, no
+ * newline. */
 jogimaduve_answer jogimaduve_decide(const uint8_t *file, size_t file_length,
                                     const uint8_t *request, size_t request_length);
 
