@@ -1,36 +1,16 @@
 -- Equal words have equal bytes, and two words cover a text of 8 to 16 bytes.
-use mathlib.Core.Path.{_≡_, sym, ap, _∙_}
-use mathlib.Core.Bool.{true, false}
-use mathlib.Core.Logic.{⊎-elim}
+use mathlib.Core.Path.{_≡_}
+use mathlib.Core.Bool.{true}
 use Prim.Native.Nat.{ℕ, zero, suc, _+_, _*_, _-_, _≤_, _<_}
-use native.Mathlib.Nat.{zero-add, add-zero, eq-or-lt-of-le}
+use native.Mathlib.Nat.{zero-add, add-zero}
 use native.Mathlib.Omega.{arith}
 use lib.ListN.{length, getD}
-use lib.Seq.{ext-getD}
 use lib.Dec.{ltb}
 use borrow.Author.Tests.{ltb-true, ltb-false}
 use Rattle.meaning.specs.Text.{Bytes, same}
 use Rattle.laws.proofs.Bools.{Test, passed, failed, test}
-use Rattle.laws.proofs.Text.{same-true, same-refl}
+use Rattle.laws.proofs.Text.{same-bytes}
 use Rattle.comparing.specs.Words.{wordAt, BytesAt}
-
--- texts are the same where nothing tells them apart
-pub same-apart : (a b : Bytes) → (a ≡ b → ⊥) → same a b ≡ false
-same-apart a b n = go (test (same a b))
-  where
-    go : Test (same a b) → same a b ≡ false
-    go (passed e) = absurd (n (same-true a b e))
-    go (failed e) = e
-
-pub same-bytes : (a b : Bytes) → length a ≡ length b → ((k : ℕ) → k < length a → getD a k 0 ≡ getD b k 0) → same a b ≡ true
-same-bytes a b l h = ap (same a) (sym (ext-getD 0 a b l h)) ∙ same-refl a
-
--- bytes that are equal from place i on and at the one before
-pub from-less : (a b : Bytes) (i : ℕ) → 0 < i → ((k : ℕ) → i ≤ k → k < length a → getD a k 0 ≡ getD b k 0) → getD a (i - 1) 0 ≡ getD b (i - 1) 0 → (k : ℕ) → i - 1 ≤ k → k < length a → getD a k 0 ≡ getD b k 0
-from-less a b i p h e k m l = ⊎-elim
-    (λ (q : i - 1 ≡ k). rw q at e)
-    (λ (q : i - 1 < k). h k (omega arith) l)
-    (eq-or-lt-of-le m)
 
 lowest-byte : (x y m n : ℕ) → x < 256 → y < 256 → x + 256 * m ≡ y + 256 * n → (x ≡ y) × (m ≡ n)
 lowest-byte x y m n h k e = (omega arith, omega arith)

@@ -1,3 +1,2 @@
 -- Laws of equal texts.
-pub mod Lengths
 pub mod Equal

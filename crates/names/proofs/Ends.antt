@@ -10,7 +10,7 @@ use lib.Seq.{getD-take, getD-drop, length-take-le}
 use borrow.Author.Tests.{eqb-false, not-true}
 use Rattle.meaning.specs.Text.{Bytes, folded, lower, sameName}
 use Rattle.laws.proofs.Bools.{Test, passed, failed, test, contradiction}
-use Rattle.comparing.proofs.Equal.{same-apart}
+use Rattle.laws.proofs.Text.{same-apart}
 use Rattle.names.specs.Letters.{caseless}
 use Rattle.names.specs.Ends.{endsOtherwise}
 use Rattle.names.proofs.Letters.{other-cases, lower-at, lower-length}

@@ -10,11 +10,10 @@ use lib.Dec.{eqb}
 use borrow.Author.Tests.{eqb-true, eqb-false, not-false}
 use Rattle.meaning.specs.Text.{Bytes, between, folded, lower, sameName}
 use Rattle.laws.proofs.Bools.{Test, passed, failed, test}
+use Rattle.laws.proofs.Text.{same-apart, same-length}
 use Rattle.laws.proofs.Search.{first-none}
 use Rattle.laws.proofs.Reflects.{within}
 use Rattle.names.specs.Letters.{caseless}
-use Rattle.comparing.proofs.Lengths.{same-length}
-use Rattle.comparing.proofs.Equal.{same-apart}
 
 -- The bit that tells the cases of a letter apart, letter by letter
 cases-share : (b : ℕ) → 65 ≤ b → b ≤ 90 → caseless (b + 32) ≡ caseless b

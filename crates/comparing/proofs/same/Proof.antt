@@ -1,7 +1,7 @@
 -- `comparing::same` meets its contract: by lengths, or by what compares texts of one length.
 use mathlib.Core.Path.{sym}
 use borrow.Author.Needs.{needs}
-use Rattle.comparing.proofs.Lengths.{same-length}
+use Rattle.laws.proofs.Text.{same-length}
 use Rattle.comparing.proofs.same.Statement.{statement}
 use Rattle.comparing.proofs.same.Tie as tie
 

@@ -4,7 +4,7 @@ use mathlib.Core.Path.{_≡_, sym, ap}
 use native.Mathlib.Omega.{arith}
 use borrow.Author.Needs.{needs}
 use lib.ListN.{length, getD}
-use Rattle.comparing.proofs.Equal.{same-apart, same-bytes, from-less}
+use Rattle.laws.proofs.Text.{same-apart, same-bytes, from-less}
 use Rattle.comparing.proofs.same_bytes.Statement.{statement}
 use Rattle.comparing.proofs.same_bytes.Tie as tie
 

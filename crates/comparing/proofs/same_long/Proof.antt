@@ -5,7 +5,8 @@ use native.Mathlib.Omega.{arith}
 use borrow.Author.Needs.{needs}
 use lib.ListN.{length}
 use Rattle.comparing.specs.Words.{wordAt}
-use Rattle.comparing.proofs.Equal.{same-apart, same-words}
+use Rattle.laws.proofs.Text.{same-apart}
+use Rattle.comparing.proofs.Equal.{same-words}
 use Rattle.comparing.proofs.same_long.Statement.{statement}
 use Rattle.comparing.proofs.same_long.Tie as tie
 

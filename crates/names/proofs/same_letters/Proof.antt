@@ -6,7 +6,7 @@ use borrow.Author.Needs.{needs}
 use borrow.Author.Tests.{not-true, not-false}
 use lib.ListN.{length, getD}
 use Rattle.meaning.specs.Text.{lower}
-use Rattle.comparing.proofs.Equal.{same-bytes, from-less}
+use Rattle.laws.proofs.Text.{same-bytes, from-less}
 use Rattle.names.proofs.Letters.{lower-length, one-letter, other-letter}
 use Rattle.names.proofs.same_letters.Statement.{statement}
 use Rattle.names.proofs.same_letters.Tie as tie
