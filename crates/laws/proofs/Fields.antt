@@ -16,6 +16,7 @@ use Rattle.meaning.specs.Claims.PolicyFile.{GoodAttribute}
 use Rattle.laws.proofs.Bounds.{GoodElement}
 use Rattle.laws.proofs.Bools.{Test, passed, failed, test, contradiction, and-true}
 use Rattle.laws.proofs.Text.{Free, Frees, NonEmptyName, name-bytes, name-of}
+use Rattle.laws.proofs.Names.{names-distinct}
 use Rattle.laws.proofs.Targets.{Written, star, names, mask-written}
 use Rattle.laws.proofs.Bounds.{named, masks-good}
 
@@ -130,7 +131,7 @@ targets-fields [] ms g h = refl
 targets-fields (a ∷ attrs) [] g h = contradiction refl h
 targets-fields (a ∷ attrs) (m ∷ ms) g h =
     let b = masks-good a attrs m ms h in
-    let w = mask-written (a .values) m (g .0 .values-named) (g .0 .distinct) (b .not-empty) (b .no-high-bit) in
+    let w = mask-written (a .values) m (g .0 .values-named) (names-distinct (a .values) (g .0 .distinct)) (b .not-empty) (b .no-high-bit) in
     rw (target-field (a .values) m w, targets-fields attrs ms (g .1) (b .others))
 
 pub element-fields : (attrs : List Attribute) (e : Element) → All GoodAttribute attrs → GoodElement attrs e → all isField (elementFields attrs e) ≡ true

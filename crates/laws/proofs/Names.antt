@@ -12,8 +12,8 @@ use Rattle.meaning.specs.Deciding.{valueOf}
 use Rattle.meaning.specs.Claims.Texts.{CapitalOf, SameLetter, EqualNames, Among, DistinctNames}
 use Rattle.laws.proofs.Bools.{Test, passed, failed, test, contradiction, or-false, and-true}
 use Rattle.laws.proofs.Search.{any-has, any-only}
-use Rattle.laws.proofs.Text.{same-true, same-refl}
-use Rattle.laws.proofs.Reflects.{Reflects, refutes, within}
+use Rattle.laws.proofs.Text.{same-true, same-refl, same-apart}
+use Rattle.laws.proofs.Reflects.{Reflects, reflects, refutes, within}
 
 -- Every name is equal to itself, and equal names are equal to the same names
 pub name-refl : (n : Bytes) → sameName n n ≡ true
@@ -68,6 +68,10 @@ not-among n ns e a = contradiction (among n ns .tests a) e
 pub new-name : (n : Bytes) (ns : List Bytes) → (Among n ns → ⊥) → amongNames n ns ≡ false
 new-name n ns h = not-true (amongNames n ns) (refutes (amongNames n ns) (Among n ns) (among n ns) .tests h)
 
+-- a text that is not among them is none of theirs
+pub not-same : (m n : Bytes) (ns : List Bytes) → amongNames m ns ≡ false → amongNames n ns ≡ true → same m n ≡ false
+not-same m n ns h k = same-apart m n (λ e. contradiction (subst (λ x. amongNames x ns ≡ true) (sym e) k) h)
+
 -- it has a place there
 pub among-placed : (k : ℕ) (n : Bytes) (ns : List Bytes) → amongNames n ns ≡ not (isNone (valueOf k n ns))
 among-placed k n [] = refl
@@ -85,6 +89,9 @@ distinct-names (n ∷ ns) e = let (a, b) = or-false (amongNames n ns) (repeated 
 pub names-distinct : (ns : List Bytes) → DistinctNames ns → repeated ns ≡ false
 names-distinct [] d = refl
 names-distinct (n ∷ ns) d = rw (new-name n ns (d .0), names-distinct ns (d .1))
+
+pub some-twice : (ns : List Bytes) → Reflects (repeated ns) (DistinctNames ns → ⊥)
+some-twice ns = reflects (repeated ns) (DistinctNames ns → ⊥) (λ e d. contradiction e (names-distinct ns d)) (λ e n. n (distinct-names ns e))
 
 pub snoc-distinct : (ns : List Bytes) (n : Bytes) → DistinctNames ns → (Among n ns → ⊥) → DistinctNames (ns ++ (n ∷ []))
 snoc-distinct [] n d new = (λ a. List·Memᴰ·not-nil (a .1), tt)

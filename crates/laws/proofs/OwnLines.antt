@@ -12,7 +12,7 @@ use Rattle.meaning.specs.Claims.Trimming.{Trims, none-left, last-struck, stays}
 use Rattle.laws.proofs.Types.{rule}
 use Rattle.laws.proofs.Bools.{Test, passed, failed, test, contradiction, or-false, or-true, and-true}
 use Rattle.laws.proofs.Text.{same-true, same-refl}
-use Rattle.laws.proofs.Names.{name-refl}
+use Rattle.laws.proofs.Names.{name-refl, not-same}
 use Rattle.laws.proofs.Reading.{line-numbered, PassesLine, read-step, accepted}
 use Rattle.laws.proofs.Lines.{tree-fields}
 use Rattle.laws.proofs.Bounds.{padded-name}
@@ -39,22 +39,15 @@ known-stays n s (attributeLine a) h = h
 known-stays n s (treeLine k d m w ts) h = or-true (sameName n (nameOf (elementOf (s .attributes) k d m w ts))) (amongNames n (names s)) h
 known-stays n s otherLine h = h
 
-not-known : (n m : Bytes) (ms : List Bytes) → amongNames n ms ≡ true → amongNames m ms ≡ false → same m n ≡ false
-not-known n m ms h k = go (test (same m n))
-  where
-    go : Test (same m n) → same m n ≡ false
-    go (passed e) = contradiction (rw (same-true m n e) h) k
-    go (failed e) = e
-
 -- a rule line that is read has a name that was not there, and then is
-record NewName (s : Sofar) (l : Bytes) : Type 0 where
+record NameAdded (s : Sofar) (l : Bytes) : Type 0 where
   was-new : amongNames (nameIn l) (names s) ≡ false
   is-known : amongNames (nameIn l) (names (extended s (lineOf (cut tab l)))) ≡ true
 
-rule-read : (s : Sofar) (l : Bytes) → ruleLine l ≡ true → PassesLine lineTests line-numbered s (cut tab l) (lineOf (cut tab l)) → NewName s l
+rule-read : (s : Sofar) (l : Bytes) → ruleLine l ≡ true → PassesLine lineTests line-numbered s (cut tab l) (lineOf (cut tab l)) → NameAdded s l
 rule-read s l r t = go (lineOf (cut tab l)) refl (rule-lineOf (cut tab l) r) t
   where
-    go : (x : Line) → lineOf (cut tab l) ≡ x → RuleLine x → PassesLine lineTests line-numbered s (cut tab l) x → NewName s l
+    go : (x : Line) → lineOf (cut tab l) ≡ x → RuleLine x → PassesLine lineTests line-numbered s (cut tab l) x → NameAdded s l
     go x e (rule-line d n w ts) (f2, (f3, (f4, f))) =
         let m : nameIn l ≡ nameOf (elementOf (s .attributes) rule d n w ts) = ap (λ fs. getD fs 2 []) (tree-fields (cut tab l) rule d n w ts e) ∙ sym (padded-name (s .attributes) rule d n w ts) in
         record { was-new = subst (λ y. amongNames y (names s) ≡ false) (sym m) f4; is-known = rw (e, m, name-refl (nameOf (elementOf (s .attributes) rule d n w ts))) }
@@ -68,7 +61,7 @@ later-names n rest k s (l ∷ ls) z h e =
     go (test (ruleLine l)) a (later-names n rest (suc k) (extended s (lineOf (cut tab l))) ls z b (known-stays n s (lineOf (cut tab l)) e))
   where
     go : Test (ruleLine l) → PassesLine lineTests line-numbered s (cut tab l) (lineOf (cut tab l)) → any (called n) ls ≡ false → any (called n) (l ∷ ls) ≡ false
-    go (passed r) t ih = rw (r, not-known n (nameIn l) (names s) e (rule-read s l r t .was-new), ih)
+    go (passed r) t ih = rw (r, not-same (nameIn l) n (names s) (rule-read s l r t .was-new) e, ih)
     go (failed r) t ih = rw (r, ih)
 
 lines-once : (rest : Bytes) (k : ℕ) (s : Sofar) (ls : List Bytes) (z : Sofar) → readLines lineTests rest k s ls ≡ given z → NamesOnce ls

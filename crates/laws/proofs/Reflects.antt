@@ -46,9 +46,6 @@ either false b P Q x y = record { holds = λ e. inr (y .holds e); tests = go }
 pub opposite : (b : Bool) → Reflects (not b) (b ≡ false)
 opposite b = record { holds = not-true b; tests = λ e. rw e }
 
-pub itself : (b : Bool) → Reflects b (b ≡ true)
-itself b = record { holds = λ e. e; tests = λ e. e }
-
 pub never-holds : Reflects false ⊥
 never-holds = record { holds = λ e. false≢true e; tests = absurd }
 

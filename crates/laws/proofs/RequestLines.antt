@@ -19,7 +19,7 @@ use Rattle.meaning.specs.Claims.Deciding.{Decides}
 use Rattle.laws.proofs.Bools.{Test, passed, failed, test, contradiction, or-false, and-true}
 use Rattle.laws.proofs.Search.{any-has, some-some, none-some}
 use Rattle.laws.proofs.Text.{Frees, cut-join, name-free}
-use Rattle.laws.proofs.Names.{name-refl, name-alike, equal-names, among, new-name, among-placed}
+use Rattle.laws.proofs.Names.{name-refl, name-alike, equal-names, among, new-name, among-placed, names-distinct}
 use Rattle.laws.proofs.Reading.{refused-given, given-given}
 use Rattle.laws.proofs.Requests.{Fits, number-request, request-number, next-request, earlier-lower}
 use Rattle.laws.proofs.Bounds.{bounded}
@@ -30,11 +30,11 @@ getD-in [] v l = absurd (omega arith)
 getD-in (x ∷ xs) zero l = List·Memᴰ·head refl
 getD-in (x ∷ xs) (suc v) l = List·Memᴰ·tail (getD-in xs v (omega arith))
 
-paired-length : (fs gs : List Bytes) → Paired EqualNames fs gs → length fs ≡ length gs
-paired-length [] [] p = refl
-paired-length [] (g ∷ gs) p = absurd p
-paired-length (f ∷ fs) [] p = absurd p
-paired-length (f ∷ fs) (g ∷ gs) p = ap suc (paired-length fs gs (p .1))
+paired-length : {A B : Type 0} (R : A → B → Type 0) (xs : List A) (ys : List B) → Paired R xs ys → length xs ≡ length ys
+paired-length R [] [] p = refl
+paired-length R [] (y ∷ ys) p = absurd p
+paired-length R (x ∷ xs) [] p = absurd p
+paired-length R (x ∷ xs) (y ∷ ys) p = ap suc (paired-length R xs ys (p .1))
 
 paired-refl : (fs : List Bytes) → Paired EqualNames fs fs
 paired-refl [] = tt
@@ -85,7 +85,7 @@ values-read i (a ∷ attrs) fs [] g f p = absurd f
 values-read i (a ∷ attrs) [] (v ∷ vs) g f p = absurd p
 values-read i (a ∷ attrs) (x ∷ fs) (v ∷ vs) g f p =
     let e : 0 + v ≡ v = omega arith in
-    rw (value-found 0 v x (a .values) (g .0 .distinct) (f .0) (equal-names x (getD (a .values) v []) .tests (p .0)), values-read (suc i) attrs fs vs (g .1) (f .1) (p .1), e)
+    rw (value-found 0 v x (a .values) (names-distinct (a .values) (g .0 .distinct)) (f .0) (equal-names x (getD (a .values) v []) .tests (p .0)), values-read (suc i) attrs fs vs (g .1) (f .1) (p .1), e)
 
 fields-count : (attrs : List Attribute) (q : Request) → Fits (sizes attrs) q → length (requestFields attrs q) ≡ length attrs
 fields-count [] [] f = refl
@@ -141,7 +141,7 @@ module _ (attrs : List Attribute) (some-attribute : 1 ≤ length attrs) (good : 
 
   -- a line that names a request is answered with it, and no other is answered
   from-names : (r : Bytes) (q : Request) → Fits (sizes attrs) q → NamesRequest attrs r q → requestLine attrs r ≡ given q
-  from-names r q f p = rw (eq-eqb (length (cut tab r)) (length attrs) (paired-length (cut tab r) (requestFields attrs q) p ∙ fields-count attrs q f)) (values-read 1 attrs (cut tab r) q good f p)
+  from-names r q f p = rw (eq-eqb (length (cut tab r)) (length attrs) (paired-length EqualNames (cut tab r) (requestFields attrs q) p ∙ fields-count attrs q f)) (values-read 1 attrs (cut tab r) q good f p)
 
   to-names : (r : Bytes) (q : Request) → requestLine attrs r ≡ given q → NamesRequest attrs r q
   to-names r q h = go (test (eqb (length (cut tab r)) (length attrs)))

@@ -21,6 +21,7 @@ use Rattle.meaning.specs.Claims.PolicyFile.{GoodAttribute}
 use Rattle.laws.proofs.Bounds.{GoodElement}
 use Rattle.laws.proofs.Bools.{Test, passed, failed, test, contradiction, or-false, and-true}
 use Rattle.laws.proofs.Text.{Frees, cut-frees, cut-join, join-free, frees-append}
+use Rattle.laws.proofs.Names.{names-distinct}
 use Rattle.laws.proofs.Reading.{refused-given, given-given, step-then, step-unless, Passes, lowest-zero, element-numbered, line-numbered, PassesLine, read-step, read-step⁻, lines-keep, ReadText, text-read, short-given, policyOf, finished-given, read-lines}
 use Rattle.laws.proofs.Lines.{tree-line, unlines, unlines-append, text-unlines, cut-unlines, frees-front}
 use Rattle.laws.proofs.Targets.{mask-read}
@@ -78,7 +79,7 @@ masks-back (a ∷ attrs) [] g h = contradiction refl h
 masks-back (a ∷ attrs) (m ∷ ms) g h =
     let b = masks-good a attrs m ms h in
     let later = masks-back attrs ms (g .1) (b .others) in
-    let own = mask-read (a .values) m (g .0 .values-named) (g .0 .distinct) (b .not-empty) (b .no-high-bit) in
+    let own = mask-read (a .values) m (g .0 .values-named) (names-distinct (a .values) (g .0 .distinct)) (b .not-empty) (b .no-high-bit) in
     record { count = ap suc (later .count); masks = rw (own, later .masks); zeros-behind = later .zeros-behind }
 
 -- An element that passed: its line, without the newline, is read as that element

@@ -10,7 +10,7 @@ use lib.ListN.{length, take, drop, replicate}
 use lib.Seq.{drop-append-seam}
 use lib.Dec.{eqb}
 use borrow.Author.Tests.{eqb-true, not-true, not-false}
-use Rattle.meaning.specs.Text.{Bytes, empty, all, isNone, amongNames, repeated, isField, isName}
+use Rattle.meaning.specs.Text.{Bytes, empty, all, isNone, amongNames, isField, isName}
 use Rattle.meaning.specs.Model.{Attribute, padded, nameOf, space, kindText}
 use Rattle.meaning.specs.Reading.{Line, attributeLine, treeLine, otherLine, lineOf, depthOf, wordOf, orPermit, targetOf, masksOf, elementOf, Sofar, wellPlaced, Tests, lowest, wrongFields, nonZero, badName, badMasks, attributeTests, elementTests, lineTests}
 use Rattle.meaning.specs.Claims.Texts.{All, Among}
@@ -27,8 +27,8 @@ use Rattle.laws.proofs.Rewritten.{depth-again, word-again, targets-agai
 use Rattle.laws.proofs.Reread.{depth-back}
 use Rattle.laws.proofs.TreeLines.{word-allowed, allowed-word, zeros, name-size, targets-back, targets-of}
 use Rattle.laws.proofs.Placed.{placed-well, well-placed}
-use Rattle.laws.proofs.Names.{among}
-use Rattle.laws.proofs.Reflects.{Reflects, reflects, either, either-of-three, opposite, itself, never-holds, at-least, more-than, not-nothing, is-nothing, Matches}
+use Rattle.laws.proofs.Names.{among, some-twice, names-distinct}
+use Rattle.laws.proofs.Reflects.{Reflects, reflects, either, either-of-three, opposite, never-holds, at-least, more-than, not-nothing, is-nothing, Matches}
 use Rattle.laws.proofs.BadFields.{kind-same, not-letter, Beside}
 
 -- the masks of some targets
@@ -40,7 +40,7 @@ masks-of (a ∷ attrs) [] ms g x = absurd x
 masks-of (a ∷ attrs) (t ∷ ts) [] g x = absurd x
 masks-of (a ∷ attrs) (t ∷ ts) (m ∷ ms) g x =
     let own = of-target (a .values) t m (g .0 .some-value) (x .0) in
-    let is : targetOf (a .values) t ≡ some m = ap (targetOf (a .values)) (own .is-text) ∙ mask-read (a .values) m (g .0 .values-named) (g .0 .distinct) (own .not-empty) (own .no-high-bit) in
+    let is : targetOf (a .values) t ≡ some m = ap (targetOf (a .values)) (own .is-text) ∙ mask-read (a .values) m (g .0 .values-named) (names-distinct (a .values) (g .0 .distinct)) (own .not-empty) (own .no-high-bit) in
     rw (is, masks-of attrs ts ms (g .1) (x .1))
 
 -- A row on an attribute line and on a tree line
@@ -79,7 +79,7 @@ module _ (s : Sofar) where
     on-attribute (λ a. all isName (a .name ∷ a .values) ≡ false) (λ k d n w ts. isName n ≡ false) _ a (opposite (all isName (a .name ∷ a .values))),
     (
       refl,
-      on-attribute (Used attrs) (λ k d n w ts. Among n (map nameOf before)) _ a (either _ _ _ _ (among (a .name) (attributeNames attrs)) (itself (repeated (a .values)))),
+      on-attribute (Used attrs) (λ k d n w ts. Among n (map nameOf before)) _ a (either _ _ _ _ (among (a .name) (attributeNames attrs)) (some-twice (a .values))),
       (
         refl,
         on-attribute (TooMany attrs) (λ k d n w ts. 64 ≤ length before) _ a (either-of-three _ _ _ _ _ _ (at-least 6 (length attrs)) (more-than 16 (length (a .values))) (more-than 4096 (space (attrs ++ (a ∷ []))))),

@@ -14,9 +14,9 @@ use borrow.Author.Tests.{eq-eqb, ne-eqb, eqb-true, eqb-false}
 use Rattle.meaning.specs.Text.{Bytes, bytes, all, same, sameName, amongNames, repeated, cut, join, comma, isName}
 use Rattle.meaning.specs.Reading.{twice, maskOf, full, notFull, targetOf}
 use Rattle.meaning.specs.Writing.{valueNames, targetText}
-use Rattle.laws.proofs.Bools.{Test, passed, failed, test, contradiction, or-false, or-true, and-true, never}
+use Rattle.laws.proofs.Bools.{Test, passed, failed, test, or-false, or-true, and-true, never}
 use Rattle.laws.proofs.Text.{Some, one-or-more, cut-some, join-cut, cut-join, same-true, same-refl, other-byte, NonEmptyName, name-bytes, name-of, names-free}
-use Rattle.laws.proofs.Names.{name-refl}
+use Rattle.laws.proofs.Names.{name-refl, not-same}
 
 -- A bit in front of a mask
 twice-some : (b m : ℕ) (o : Option ℕ) → twice b o ≡ some m → (k : ℕ) × (o ≡ some k) × (m ≡ b + 2 * k)
@@ -113,13 +113,6 @@ names-among (v ∷ vs) m n ns h = go (test (eqb (m % 2) 1)) (names-among vs (m /
         rw (j, name-refl n)
     go (failed e) later = or-true (sameName n v) (amongNames n vs) (later (rw e at h))
 
-other-name : (v n : Bytes) (vs : List Bytes) → amongNames v vs ≡ false → amongNames n vs ≡ true → same v n ≡ false
-other-name v n vs h k = go (test (same v n))
-  where
-    go : Test (same v n) → same v n ≡ false
-    go (passed e) = contradiction (rw (same-true v n e) k) h
-    go (failed e) = e
-
 mask-again : (vs : List Bytes) (m : ℕ) → repeated vs ≡ false → m < 2 ^ length vs → maskOf vs (valueNames vs m) ≡ some m
 mask-again [] m r l = ap some (omega arith)
 mask-again (v ∷ vs) m r l =
@@ -139,7 +132,7 @@ mask-again (v ∷ vs) m r l =
     go once (failed e) (n ∷ ns) i h =
         let even : m % 2 ≢ 1 = eqb-false (m % 2) 1 e in
         let h' : maskOf vs (n ∷ ns) ≡ some (m / 2) = rw i at h in
-        rw (e, i, other-name v n vs once (names-among vs (m / 2) n ns i), h') (ap some (omega arith))
+        rw (e, i, not-same v n vs once (names-among vs (m / 2) n ns i), h') (ap some (omega arith))
 
 names-named : (vs : List Bytes) (m : ℕ) → all isName vs ≡ true → all isName (valueNames vs m) ≡ true
 names-named [] m h = refl

@@ -2,6 +2,7 @@
 use mathlib.Core.Path.{refl}
 use Prim.Native.String.{String, _++_ as _and_}
 use mathlib.Core.List.{List, [], _∷_}
+use Rattle.meaning.specs.Text.{bytes}
 use Rattle.meaning.specs.Model.{Decision, not-applicable, Element, policy, rule, Word, deny-overrides, refused, given}
 use Rattle.meaning.specs.Reading.{read}
 use Rattle.meaning.specs.Deciding.{decideFile}
@@ -9,7 +10,7 @@ use Rattle.meaning.specs.Trimming.{firstChange, trimmed}
 use Rattle.meaning.specs.Segments.{segments, segmentSize, childrenOf, conflicts}
 use Rattle.meaning.specs.Report.{report, trimFile, reportFile, program}
 use Rattle.meaning.specs.Writing.{listFile, writeFile}
-use Rattle.meaning.proofs.Cases.{Case, decides, trims, prints, writes, Each}
+use Rattle.meaning.proofs.Cases.{Case, decides, trims, prints, lists, writes, Each}
 use Rattle.meaning.proofs.Rows.{element}
 
 -- names in both cases, the same one in two pools in other letter case
@@ -26,14 +27,20 @@ spelledReport = "G\t0\t1\tpermit\tTop,role,TOP2\n" and "G\t1\t1\tnot-applicable\
 abbrev one : String
 one = "A\tx\ta\tb\nP\t0\tTop\tdeny-overrides\t*\n"
 
-abbrev all : Element
-all = element policy 0 "Top" deny-overrides (3 ∷ 0 ∷ 0 ∷ 0 ∷ 0 ∷ 0 ∷ [])
+abbrev top : Element
+top = element policy 0 "Top" deny-overrides (3 ∷ 0 ∷ 0 ∷ 0 ∷ 0 ∷ 0 ∷ [])
+
+abbrev ruleOf : String → Element
+ruleOf n = element rule 1 n Word.Permit (1 ∷ 0 ∷ 0 ∷ 0 ∷ 0 ∷ 0 ∷ [])
 
 abbrev pub capitals : List Case
 capitals =
     -- reports and trimmed texts keep each name's spelling
     prints spelled spelledReport
     ∷ trims spelled "A\tRole\tLab-Tech\tguest\nP\t0\tTop\tfirst-applicable\t*\nR\t1\trole\tpermit\tLab-Tech\n"
+    -- and so do lists, read and written
+    ∷ lists 1 one (given (top ∷ []))
+    ∷ writes 999 "A\tX\tAa\tb\n" (top ∷ ruleOf "R-z" ∷ []) (given (bytes "A\tX\tAa\tb\nP\t0\tTop\tdeny-overrides\t*\nR\t1\tR-z\tpermit\tAa\n"))
     -- a request line may have a value in any letter case
     ∷ decides spelled "Lab-Tech" (given Decision.Permit)
     ∷ decides spelled "lAB-tECH" (given Decision.Permit)
@@ -52,7 +59,8 @@ capitals =
     ∷ prints "A\tRole\ta\nA\trolE\tb\n" "E\t4\t2\n"
     ∷ prints "A\tx\taZ\tb\tAz\n" "E\t4\t1\n"
     ∷ prints (one and "R\t1\ttop\tpermit\t*\n") "E\t4\t3\n"
-    ∷ writes 999 "A\tx\ta\tb\n" (all ∷ element rule 1 "tOP" Word.Permit (1 ∷ 0 ∷ 0 ∷ 0 ∷ 0 ∷ 0 ∷ []) ∷ []) (refused 4 3)
+    ∷ writes 999 "A\tx\ta\tb\n" (top ∷ ruleOf "tOP" ∷ []) (refused 4 3)
+    ∷ writes 999 "A\tx\ta\tb\nA\tX\ta\n" (top ∷ []) (refused 4 2)
     -- 8: a target spells a value as its attribute line does
     ∷ prints (one and "R\t1\tr\tpermit\tA\n") "E\t8\t3\n"
     -- 2 and 7: letters and words have one spelling
@@ -63,4 +71,4 @@ capitals =
 
 pub capitals-hold : Each capitals
 unfolding read decideFile firstChange trimmed segments segmentSize childrenOf conflicts report trimFile reportFile program listFile writeFile
-capitals-hold = (refl, (refl, (refl, (refl, (refl, (refl, (refl, (refl, (refl, (refl, (refl, (refl, (refl, (refl, (refl, (refl, (refl, (refl, (refl, (refl, (refl, tt)))))))))))))))))))))
+capitals-hold = (refl, (refl, (refl, (refl, (refl, (refl, (refl, (refl, (refl, (refl, (refl, (refl, (refl, (refl, (refl, (refl, (refl, (refl, (refl, (refl, (refl, (refl, (refl, (refl, tt))))))))))))))))))))))))

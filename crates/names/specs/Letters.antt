@@ -2,6 +2,6 @@
 use Prim.Native.Nat.{ℕ}
 use lib.Bits.{bitOr}
 
--- a byte with the bit that small letters have and capitals lack: both cases of a letter have one. So do a few bytes that no name has, so it may tell names apart and not call them equal
+-- a byte with the bit set that small letters have and capitals lack: where these differ, so do the letters; the converse fails, as for `@` and the backquote
 abbrev pub caseless : ℕ → ℕ
 caseless b = bitOr b 32

@@ -23,7 +23,7 @@ fn folded(b: u8) -> u8
 }
 
 // Whether two bytes differ at most in letter case. Most are the same, or differ in more than the bit that tells the cases
-// apart; that bit alone also makes others than letters one.
+// apart; by that bit alone `@` and the backquote would be one.
 fn same_letter(x: u8, y: u8) -> bool
     ensures { λ r. ⌜ r ≡ eqb (folded x) (folded y) ⌝ }
 {
@@ -53,7 +53,8 @@ fn same_letters(a: &[u8], b: &[u8]) -> bool
     true
 }
 
-// Whether two names are equal: they differ at most in letter case. Nothing else compares names.
+// Whether two names are equal: they differ at most in letter case. Nothing else calls names equal; a target's are compared to
+// the byte, in `syntax`.
 pub fn same_name(a: &[u8], b: &[u8]) -> bool
     ensures { λ r. ⌜ r ≡ sameName (now (a .entry)) (now (b .entry)) ⌝ }
 {

@@ -115,7 +115,8 @@ fn bit(k: usize) -> u32
     1u32 << k
 }
 
-// The mask of the names in `field`, matched along the values once; 0 where they are not values in declared order, each once.
+// The mask of the names in `field`, matched along the values once; 0 where they are not values, to the byte, in
+// declared order, each once.
 fn names_mask(values: &[u8], field: &[u8]) -> u16
     requires { ⌜ length (cut tab (now values)) ≤ 16 ⌝ }
     ensures { λ r. ⌜ r ≡ orEmpty (maskOf (cut tab (now (values .entry))) (cut comma (now (field .entry)))) ⌝ }

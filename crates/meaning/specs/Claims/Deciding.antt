@@ -46,7 +46,7 @@ pub record Standardly (p : Policy) : Type 0 where
       ≡ cond (getD (map (hits p n) (p .elements)) i false) (standard (getD (map (λ e. e .word) (p .elements)) i Word.Permit) (map (replyAt p n) (childrenOf (p .elements) i))) not-applicable
   pub of-first : (n : ℕ) → outcome p n ≡ decisionAt p n 0
 
--- A tool that decides: the line of each number gets that number's outcome, and what is refused is refused with its place
+-- A tool that decides: every line that names a request gets that request's outcome, and what is refused is refused with its place
 pub record Decides (tool : Bytes → Bytes → Result Outcome) (f : Bytes) (p : Policy) : Type 0 where
   pub each-number : (n : ℕ) → n < space (p .attributes) → tool f (requestText (p .attributes) (requestOf (sizes (p .attributes)) n)) ≡ given (outcome p n)
   pub each-line : (r : Bytes) (q : Request) → requestLine (p .attributes) r ≡ given q → tool f r ≡ given (outcome p (numberOf (sizes (p .attributes)) q))

@@ -5,7 +5,7 @@ use Prim.Native.Nat.{ℕ, suc, _+_, _*_, _≤_}
 use mathlib.Core.Bool.{Bool, true, false, cond}
 use mathlib.Core.List.{List, [], _∷_, _++_, map, List·Memᴰ}
 use lib.ListN.{length}
-use Rattle.meaning.specs.Text.{Bytes, bytes, all, gathered, repeated, join, comma, line, isName}
+use Rattle.meaning.specs.Text.{Bytes, bytes, all, gathered, join, comma, line, isName}
 use Rattle.meaning.specs.Model.{Kind, set, policy, rule, Word, deny-overrides, permit-overrides, first-applicable, only-one-applicable, Attribute, Element, padded, nameOf, Policy, choices, space, Result, given, kindText, wordText}
 use Rattle.meaning.specs.Claims.Texts.{All, Each, Paired, Among, DistinctNames}
 
@@ -13,15 +13,15 @@ use Rattle.meaning.specs.Claims.Texts.{All, Each, Paired, Among, Distinc
 pub record GoodAttribute (a : Attribute) : Type 0 where
   pub named : isName (a .name) ≡ true
   pub values-named : all isName (a .values) ≡ true
-  pub distinct : repeated (a .values) ≡ false
+  pub distinct : DistinctNames (a .values)
   pub some-value : 1 ≤ choices a
   pub few-values : length (a .values) ≤ 16
 
 abbrev pub attributeFields : Attribute → List Bytes
 attributeFields a = bytes "A" ∷ a .name ∷ a .values
 
--- A target field by marks, one for each value: `*` if all are marked; else the marked values' names by commas, in declared
--- order, some and not all. Its mask has a bit for each mark, bit 0 for the first
+-- A target field by marks, one for each value: `*` if all are marked; else the marked values' names by commas, spelled and
+-- ordered as declared, some and not all. Its mask has a bit for each mark, bit 0 for the first
 abbrev pub marksMask : List Bool → ℕ
 marksMask [] = 0
 marksMask (b ∷ bs) = cond b 1 0 + 2 * marksMask bs

@@ -54,7 +54,7 @@ pub record Name (n : Bytes) : Type 0 where
 
 -- Two names are equal if they differ only in letter case: at each place the same byte, or a letter of A-Z and that letter of a-z
 abbrev pub CapitalOf : ℕ → ℕ → Type 0
-CapitalOf small big = In 65 90 big × (small ≡ big + 32)
+CapitalOf small capital = In 65 90 capital × (small ≡ capital + 32)
 
 abbrev pub SameLetter : ℕ → ℕ → Type 0
 SameLetter x y = (x ≡ y) ⊎ (CapitalOf x y ⊎ CapitalOf y x)
