@@ -30,8 +30,10 @@ void numbered(struct policy_file *file, const struct shape *shape, char kind, un
 unsigned random_below(uint64_t *state, unsigned limit);
 unsigned random_mask(uint64_t *state, unsigned values, unsigned bits);
 
-/* laboratories.c: the small file, and the common one with this algorithm at the top. */
+/* laboratories.c: the small file, the common one with this algorithm at the top, and it with capitals in all names but
+ * those of requests. */
 void small_laboratory(struct policy_file *file, struct shape *shape);
 void common_laboratory(struct policy_file *file, struct shape *shape, const char *algorithm);
+void spelled_laboratory(struct policy_file *file, struct shape *shape);
 
 #endif

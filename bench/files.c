@@ -218,7 +218,8 @@ static void make_requests(struct policy_file *file, const struct shape *shape)
 int make_file(struct policy_file *file, unsigned number)
 {
     static const char *const names[] = {
-        "lab-12", "lab-25-deny", "lab-25-permit", "lab-25-first", "lab-25-only-one", "largest", "long-lists",
+        "lab-12", "lab-25-deny", "lab-25-permit", "lab-25-first", "lab-25-only-one", "lab-25-capitals", "largest",
+        "long-lists",
         "flat-deny", "flat-permit", "flat-first", "all-needed", "none-needed-first", "none-needed-permit",
         "needless-first", "deep", "only-one", "many-policies",
         "refused-target", "refused-name", "refused-values",
@@ -234,21 +235,22 @@ int make_file(struct policy_file *file, unsigned number)
     switch (number) {
     case 0: small_laboratory(file, &shape); break;
     case 1: case 2: case 3: case 4: common_laboratory(file, &shape, algorithms[number - 1]); break;
-    case 5: largest(file, &shape); break;
-    case 6: long_lists(file, &shape); break;
-    case 7: case 8: case 9: flat(file, &shape, algorithms[number - 7]); break;
-    case 10: all_needed(file, &shape); break;
-    case 11: none_needed(file, &shape, "first-applicable"); break;
-    case 12: none_needed(file, &shape, "permit-overrides"); break;
-    case 13: needless_first(file, &shape); break;
-    case 14: deep(file, &shape); break;
-    case 15: only_one(file, &shape); break;
-    case 16: many_policies(file, &shape); break;
-    case 17: bad_last_target(file, &shape); break;
-    case 18: name_again(file, &shape); break;
+    case 5: spelled_laboratory(file, &shape); break;
+    case 6: largest(file, &shape); break;
+    case 7: long_lists(file, &shape); break;
+    case 8: case 9: case 10: flat(file, &shape, algorithms[number - 8]); break;
+    case 11: all_needed(file, &shape); break;
+    case 12: none_needed(file, &shape, "first-applicable"); break;
+    case 13: none_needed(file, &shape, "permit-overrides"); break;
+    case 14: needless_first(file, &shape); break;
+    case 15: deep(file, &shape); break;
+    case 16: only_one(file, &shape); break;
+    case 17: many_policies(file, &shape); break;
+    case 18: bad_last_target(file, &shape); break;
+    case 19: name_again(file, &shape); break;
     default: many_values(file, &shape); break;
     }
-    if (number < 17)
+    if (number < 18)
         make_requests(file, &shape);
     return 1;
 }

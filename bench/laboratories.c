@@ -82,3 +82,18 @@ void common_laboratory(struct policy_file *file, struct shape *shape, const char
     laboratory(file, shape);
     lay_out(file, shape, common, sizeof common / sizeof *common, algorithm);
 }
+
+void spelled_laboratory(struct policy_file *file, struct shape *shape)
+{
+    unsigned field = 0;
+    uint8_t letter = 'A';
+
+    common_laboratory(file, shape, "first-applicable");
+    for (size_t i = 1; i < file->length; i++) {
+        uint8_t before = file->bytes[i - 1], *byte = &file->bytes[i];
+        field = before == '\n' ? 0 : field + (before == '\t');
+        letter = before == '\n' ? *byte : letter;
+        if ((before == '\t' || before == ',') && *byte >= 'a' && (field != 3 || letter == 'A'))
+            *byte -= 'a' - 'A';
+    }
+}
