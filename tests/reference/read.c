@@ -161,7 +161,7 @@ static unsigned target_of(struct slice field, const struct attribute *attribute)
             ;
         struct slice name = {field.bytes + start, end - start};
         int value = value_number(attribute, name);
-        if (value < lowest || !same(attribute->value[value], name)) /* spelt as its attribute line does */
+        if (value < lowest || !same(attribute->value[value], name)) /* as its attribute line spells it */
             return 0;
         mask |= 1u << value;
         lowest = value + 1;
