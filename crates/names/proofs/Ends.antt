@@ -13,7 +13,7 @@ use Rattle.laws.proofs.Bools.{Test, passed, failed, test, contradiction}
 use Rattle.laws.proofs.Text.{same-apart}
 use Rattle.names.specs.Letters.{caseless}
 use Rattle.names.specs.Ends.{endsOtherwise}
-use Rattle.names.proofs.Letters.{other-cases, lower-at, lower-length}
+use Rattle.names.proofs.Letters.{other-caseless, lower-at, lower-length}
 
 -- A text that ends otherwise than a name
 pub other-end : (f name : Bytes) (start end : ℕ) → start ≤ end → end ≤ length f → endsOtherwise f end name ≡ true → sameName name (take (end - start) (drop start f)) ≡ false
@@ -36,4 +36,4 @@ other-end f name start end before inside other = same-apart (lower name) (lower 
         let x = getD name (length name - 1) 0 in
         let y = getD f (end - 1) 0 in
         let apart : caseless x ≢ caseless y = eqb-false (caseless x) (caseless y) (not-true (eqb (caseless x) (caseless y)) (rw some at other)) in
-        other-cases x y apart (last-letter e (eqb-false (length name) 0 some))
+        other-caseless x y apart (last-letter e (eqb-false (length name) 0 some))

@@ -19,16 +19,19 @@ use Rattle.names.specs.Letters.{caseless}
 cases-share : (b : ℕ) → 65 ≤ b → b ≤ 90 → caseless (b + 32) ≡ caseless b
 cases-share b l u = eqb-true _ _ (not-false _ (first-none (λ n. not (eqb (caseless (n + 32)) (caseless n))) 65 26 refl b l (omega arith)))
 
-pub fold-caseless : (b : ℕ) → caseless (folded b) ≡ caseless b
+fold-caseless : (b : ℕ) → caseless (folded b) ≡ caseless b
 fold-caseless b = go (test (between 65 90 b))
   where
     go : Test (between 65 90 b) → caseless (folded b) ≡ caseless b
     go (passed e) = let (l, u) = within 65 90 b .holds e in rw e (cases-share b l u)
     go (failed e) = rw e
 
--- so what it tells apart are two letters
-pub other-cases : (x y : ℕ) → (caseless x ≡ caseless y → ⊥) → folded x ≢ folded y
-other-cases x y n e = n (sym (fold-caseless x) ∙ ap caseless e ∙ fold-caseless y)
+-- one letter has it set alike, so what it tells apart are two
+pub one-caseless : (x y : ℕ) → folded x ≡ folded y → caseless x ≡ caseless y
+one-caseless x y e = sym (fold-caseless x) ∙ ap caseless e ∙ fold-caseless y
+
+pub other-caseless : (x y : ℕ) → caseless x ≢ caseless y → folded x ≢ folded y
+other-caseless x y n e = n (one-caseless x y e)
 
 pub lower-at : (s : Bytes) (i : ℕ) → getD (lower s) i 0 ≡ folded (getD s i 0)
 lower-at [] i = refl

@@ -1,9 +1,8 @@
 // Names: what is one, which are equal, and where one stands among the fields of a line.
 ghost use mathlib.Core.Path.{_≡_};
-ghost use mathlib.Core.Bool.{true, false};
-ghost use Prim.Native.Nat.{ℕ, _-_, _≤_, _<_};
+ghost use Prim.Native.Nat.{ℕ, _≤_, _<_};
 ghost use lib.Dec.{eqb};
-ghost use lib.ListN.{length, take, drop};
+ghost use lib.ListN.{length};
 ghost use Rattle.meaning.specs.Text.{all, folded, sameName, cut, tab, nameByte, isName};
 ghost use Rattle.meaning.specs.Deciding.{valueOf};
 ghost use Rattle.names.specs.Places.{foundOf};
@@ -68,7 +67,6 @@ pub fn same_name(a: &[u8], b: &[u8]) -> bool
 pub fn ends_otherwise(s: &[u8], end: usize, name: &[u8]) -> bool
     requires { ⌜ (1 ≤ end) × (end ≤ length (now s)) ⌝ }
     ensures { λ r. ⌜ r ≡ endsOtherwise (now (s .entry)) end (now (name .entry)) ⌝ }
-    ensures apart { λ r. ⌜ (r ≡ true → (start : ℕ) → start ≤ end → sameName (now (name .entry)) (take (end - start) (drop start (now (s .entry)))) ≡ false) ⌝ }
 {
     if name.len() == 0 {
         return false;

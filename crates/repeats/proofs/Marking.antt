@@ -15,8 +15,7 @@ use Rattle.meaning.specs.Text.{Bytes, folded, sameName, amongNames}
 use Rattle.meaning.specs.Deciding.{bit}
 use Rattle.laws.proofs.Bits.{bit-or}
 use Rattle.laws.proofs.Bools.{Test, passed, failed, test, contradiction, or-true, and-true}
-use Rattle.names.specs.Letters.{caseless}
-use Rattle.names.proofs.Letters.{fold-caseless}
+use Rattle.names.proofs.Letters.{one-caseless}
 use Rattle.repeats.specs.Marks.{hashOf, isSet, withBit, firstBit, secondBit, marked, withMark, Kept, Caught}
 
 own-bit : (k : ℕ) → bit (2 ^ k) k ≡ true
@@ -103,8 +102,7 @@ same-hash [] (y ∷ n) e = contradiction e refl
 same-hash (x ∷ m) [] e = contradiction e refl
 same-hash (x ∷ m) (y ∷ n) e =
     let (letter, later) = and-true (eqb (folded x) (folded y)) (sameName m n) e in
-    let cases = sym (fold-caseless x) ∙ ap caseless (eqb-true (folded x) (folded y) letter) ∙ fold-caseless y in
-    ap₂ (λ b h. (h % 4294967296 + b) * 374761393) cases (same-hash m n later)
+    ap₂ (λ b h. (h % 4294967296 + b) * 374761393) (one-caseless x y (eqb-true (folded x) (folded y) letter)) (same-hash m n later)
 
 -- A name without a mark is not among those that are kept
 pub unmarked : (t : ℕ → Bool) (ws : List ℕ) (f : Bytes) (fs : List Bytes) → Kept t ws fs → t (hashOf f) ≡ true → marked ws (hashOf f) ≡ false → amongNames f fs ≡ false

@@ -5,6 +5,7 @@ use native.Mathlib.Omega.{arith}
 use lib.ListN.{length, getD}
 use borrow.Author.Needs.{needs}
 use Rattle.meaning.specs.Text.{amongNames}
+use Rattle.names.proofs.Ends.{other-end}
 use Rattle.layout.specs.Places.{startOf, namesTo}
 use Rattle.layout.proofs.Names.{elements-end, element-hit, element-miss}
 use Rattle.layout.proofs.known_element.Statement.{statement}
@@ -46,7 +47,8 @@ loop-again c =
     let turn = c .before .before .before .before in
     let a = turn .before .before .before .before .args in
     let (room, start, end) = placed (c .before .before .before) in
-    let other = c .before .ends-otherwise .ensures .1 (c .if1 .taken) (startOf (a .places .now) (turn .loop .i - 1) + 4) start in
+    let i = turn .loop .i - 1 in
+    let other = other-end (a .file .now) (a .name .now) (startOf (a .places .now) i + 4) (getD (a .places .now) (2 * i + 1) 0) start end (sym (c .before .ends-otherwise .ensures) ∙ c .if1 .taken) in
     (omega arith, sym (element-miss (a .file .now) (a .name .now) (a .places .now) (turn .loop .i) (omega arith) other) ∙ turn .loop .inv .1)
 
 mul-start : tie.Need-mul-start Inv-loop μ-loop
