@@ -3,12 +3,12 @@ use Prim.Native.Nat.{ℕ, zero, suc, _+_, _*_, _/_, _%_, _^_, _≤_, _<_, zero-l
 use mathlib.Core.Path.{_≡_, refl, sym, ap, ap₂, _∙_}
 use mathlib.Core.Bool.{Bool, true, false, _&&_, _||_}
 use mathlib.Core.List.{List}
-use mathlib.Core.Option.{Option, none, some}
-use native.Mathlib.Nat.{pow-succ', div-one}
+use mathlib.Core.Option.{none, some}
+use native.Mathlib.Nat.{pow-succ'}
 use native.Mathlib.Omega.{arith}
 use lib.Bits.{bitAnd, bitOr}
 use lib.Count.{trailingZeros}
-use lib.Dec.{eqb, leb}
+use lib.Dec.{leb}
 use lib.ListN.{getD}
 use borrow.Author.Tests.{leb-true, leb-false}
 use Rattle.meaning.specs.declared.Decision.{Decision}
@@ -17,7 +17,7 @@ use Rattle.meaning.specs.Deciding.{bit}
 use Rattle.meaning.specs.declared.Element.{Element}
 use Rattle.laws.proofs.Bits.{bit-and, bit-or, bit-zero}
 use Rattle.laws.proofs.Bools.{Test, passed, failed, test}
-use Rattle.laws.proofs.Search.{First, first-is, first-absent}
+use Rattle.laws.proofs.Search.{first-is, first-absent}
 use Rattle.table.specs.Tree.{placeOr}
 use Rattle.outcomes.proofs.Searching.{first-alike}
 use Rattle.rows.specs.Rows.{Applied, Given}

@@ -4,12 +4,12 @@ use Prim.Native.Nat.{ℕ, zero, suc, _<_}
 use native.Mathlib.Omega.{arith}
 use mathlib.Core.Bool.{Bool, false, cond}
 use mathlib.Core.List.{List, [], _∷_, map, List·Memᴰ, List·Memᴰ·head, List·Memᴰ·tail}
-use mathlib.Core.Option.{Option, none, some}
+use mathlib.Core.Option.{some}
 use lib.ListN.{length, getD, drop}
 use Rattle.meaning.specs.Text.{Bytes}
 use Rattle.meaning.specs.Model.{Policy, given}
 use Rattle.meaning.specs.Reading.{read}
-use Rattle.meaning.specs.Deciding.{Reply, combined, reply, childReplies, firstDecision, hits, outcome}
+use Rattle.meaning.specs.Deciding.{combined, childReplies, firstDecision, hits}
 use Rattle.meaning.specs.Claims.Standard.{standard}
 use Rattle.meaning.specs.Segments.{depthAt, childrenOf, decisionAt}
 use Rattle.meaning.specs.Claims.Deciding.{replyAt, Standardly}

@@ -1,5 +1,5 @@
 -- The writer makes just the policy file that has the attribute lines and the elements.
-use mathlib.Core.Path.{_≡_, refl, sym, ap, ap₂, _∙_}
+use mathlib.Core.Path.{_≡_, sym, ap₂, _∙_}
 use mathlib.Core.Logic.{_↔_}
 use Prim.Native.Nat.{ℕ, _≤_}
 use mathlib.Core.List.{List}
@@ -7,12 +7,12 @@ use lib.Dec.{ltb}
 use lib.ListN.{length}
 use borrow.Author.Tests.{ltb-false, le-ltb}
 use Rattle.meaning.specs.Text.{Bytes}
-use Rattle.meaning.specs.Model.{Policy, refused, given}
+use Rattle.meaning.specs.Model.{refused, given}
 use Rattle.meaning.specs.Reading.{read}
 use Rattle.meaning.specs.Report.{fitted}
 use Rattle.meaning.specs.Writing.{writeFile}
 use Rattle.meaning.specs.Claims.Texts.{All}
-use Rattle.meaning.specs.Claims.Writing.{Shaped, attributeLines, Made}
+use Rattle.meaning.specs.Claims.Writing.{Shaped, Made}
 use Rattle.laws.proofs.Types.{Element}
 use Rattle.laws.proofs.Bools.{Test, passed, failed, test}
 use Rattle.laws.proofs.Reading.{refused-given, given-given, step-then}

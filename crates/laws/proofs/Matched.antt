@@ -1,21 +1,18 @@
 -- A request matches an element's target if each attribute's value is marked in its mask.
-use mathlib.Core.Path.{_≡_, refl, sym, ap, _∙_, subst}
-use mathlib.Core.Logic.{_↔_}
-use Prim.Native.Nat.{ℕ, zero, suc, _+_, _*_, _/_, _%_, _^_, _≤_, _<_}
+use mathlib.Core.Path.{_≡_, refl, sym, ap, _∙_}
+use Prim.Native.Nat.{ℕ, zero, suc, _+_, _*_, _/_, _%_, _≤_}
 use native.Mathlib.Omega.{arith}
-use native.Mathlib.Nat.{pow-succ'}
-use mathlib.Core.Bool.{Bool, true, false, cond, _&&_}
+use mathlib.Core.Bool.{Bool, true, false}
 use mathlib.Core.List.{List, [], _∷_, List·Memᴰ, List·Memᴰ·head, List·Memᴰ·tail}
 use lib.ListN.{length, getD}
-use lib.Dec.{eqb}
-use lib.Pow.{pow-pos, shr-shr}
+use lib.Pow.{pow-pos}
 use borrow.Author.Tests.{eq-eqb, ne-eqb}
 use Rattle.meaning.specs.Text.{Bytes}
-use Rattle.meaning.specs.Model.{Attribute, Policy, sizes, space, given}
+use Rattle.meaning.specs.Model.{Attribute, Policy, sizes, given}
 use Rattle.meaning.specs.Reading.{full, badMasks, read}
-use Rattle.meaning.specs.Deciding.{Request, requestOf, bit, within, hits}
+use Rattle.meaning.specs.Deciding.{Request, requestOf, bit, within}
 use Rattle.meaning.specs.Claims.Texts.{All}
-use Rattle.meaning.specs.Claims.PolicyFile.{GoodAttribute, marksMask}
+use Rattle.meaning.specs.Claims.PolicyFile.{marksMask}
 use Rattle.meaning.specs.Claims.Requests.{Fits, InField, InTarget, Matched}
 use Rattle.laws.proofs.Bounds.{GoodElement}
 use Rattle.laws.proofs.Types.{Element}

@@ -6,7 +6,7 @@ use mathlib.Core.List.{List, [], _∷_, _++_}
 use lib.Dec.{ltb}
 use lib.ListN.{length}
 use Rattle.meaning.specs.Text.{Bytes, empty, gathered, cut, tab, front, last, newline, line}
-use Rattle.meaning.specs.Model.{Policy, Result, refused, given, _then_, unless, wordText}
+use Rattle.meaning.specs.Model.{Result, refused, given, _then_, unless, wordText}
 use Rattle.meaning.specs.Reading.{Sofar, Line, Tests, lineOf, lowest, wrongFields, lineTests, elementTests, withElement, extended, readLines, nothing, short, finished, readText, read}
 use Rattle.meaning.specs.Report.{report, fitted, reportFile}
 use Rattle.meaning.specs.Writing.{headerTests, readElements, elementFields, writeFile}

@@ -8,7 +8,7 @@ use lib.ListN.{length, getD}
 use Rattle.meaning.specs.Text.{Bytes, bytes, keep, counting, decimal}
 use Rattle.meaning.specs.Model.{nameOf, Policy, decisionText}
 use Rattle.meaning.specs.Deciding.{hits, outcome}
-use Rattle.meaning.specs.Segments.{applyingTo, segments, segmentSize}
+use Rattle.meaning.specs.Segments.{applyingTo, segmentSize}
 use Rattle.meaning.specs.Report.{marked, orDash, segmentFields}
 use Rattle.meaning.specs.Claims.ReportLines.{nameOn, byCommas, segmentRow}
 use Rattle.laws.proofs.Types.{Element}

@@ -9,16 +9,15 @@ use lib.ListN.{length}
 use lib.Dec.{ltb}
 use borrow.Author.Tests.{ltb-true, ltb-false}
 use Rattle.meaning.specs.Text.{Bytes, keep, counting, cut, join, tab, newline}
-use Rattle.meaning.specs.Model.{Policy, space, given}
+use Rattle.meaning.specs.Model.{Policy, given}
 use Rattle.meaning.specs.Reading.{read}
-use Rattle.meaning.specs.Deciding.{outcome}
 use Rattle.meaning.specs.Trimming.{lines, isRuleLine, nameAt, ruleLines, strike, Trimmed, trimmed}
 use Rattle.meaning.specs.Segments.{applyingTo, segments, segmentSize, Conflict, conflicts}
 use Rattle.meaning.specs.Report.{report}
 use Rattle.meaning.specs.Claims.Texts.{Ordered}
 use Rattle.meaning.specs.Claims.Deciding.{Rising}
 use Rattle.meaning.specs.Claims.Segments.{Segmented, Before, ConflictsListed}
-use Rattle.meaning.specs.Claims.Trimming.{FirstChange, TrimsSoundly, Meets}
+use Rattle.meaning.specs.Claims.Trimming.{FirstChange, Meets}
 use Rattle.meaning.specs.Claims.ReportLines.{segmentRow, conflictRow, struckRow, keptRow, fieldLines}
 use Rattle.meaning.specs.Claims.Promises.{Settled}
 use Rattle.laws.proofs.Bools.{Test, passed, failed, test}

@@ -1,21 +1,20 @@
 -- A tree line as the paper says it, and the element that is read of it and written as it.
-use mathlib.Core.Path.{_≡_, refl, sym, ap, _∙_, subst}
-use mathlib.Core.Logic.{_⊎_, inl, inr}
-use Prim.Native.Nat.{ℕ, zero, suc, _+_, _-_, _≤_, _<_}
+use mathlib.Core.Path.{_≡_, refl, sym, ap, _∙_}
+use mathlib.Core.Logic.{inl, inr}
+use Prim.Native.Nat.{ℕ, zero, suc, _+_, _-_, _≤_}
 use native.Mathlib.Omega.{arith}
 use mathlib.Core.Bool.{true, false, not, _&&_}
 use mathlib.Core.List.{List, [], _∷_, _++_, map}
 use lib.ListN.{length, take, drop, replicate}
 use lib.Seq.{length-take-le, take-append-seam, drop-append-seam}
-use lib.Dec.{leb, eqb, ltb}
+use lib.Dec.{leb}
 use borrow.Author.Tests.{leb-true, ne-eqb, le-ltb}
-use Rattle.meaning.specs.Text.{Bytes, bytes, all, isNone, same, between, nameByte, isName, decimal}
-use Rattle.meaning.specs.Model.{Attribute, padded, nameOf, kindText, wordText}
-use Rattle.meaning.specs.Reading.{full, wordOf, nonZero, badName, badMasks}
-use Rattle.meaning.specs.Writing.{targetText, targetTexts, elementFields}
+use Rattle.meaning.specs.Text.{Bytes, bytes, all, isNone, same, between, nameByte, isName}
+use Rattle.meaning.specs.Model.{Attribute, nameOf, kindText, wordText}
+use Rattle.meaning.specs.Reading.{full, wordOf, nonZero, badMasks}
+use Rattle.meaning.specs.Writing.{targetTexts, elementFields}
 use Rattle.meaning.specs.Claims.Texts.{All}
-use Rattle.meaning.specs.Claims.PolicyFile.{GoodAttribute, Target, Targets, Allowed, TreeLine, TreeLines}
-use Rattle.meaning.specs.Claims.Writing.{Shaped}
+use Rattle.meaning.specs.Claims.PolicyFile.{GoodAttribute, Targets, Allowed, TreeLine, TreeLines}
 use Rattle.laws.proofs.Bounds.{GoodElement}
 use Rattle.laws.proofs.Types.{Kind, set, policy, rule, Word, deny-overrides, permit-overrides, first-applicable, only-one-applicable, Element}
 use Rattle.laws.proofs.Bools.{contradiction, and-true}

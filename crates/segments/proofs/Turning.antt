@@ -1,7 +1,7 @@
 -- Words turned round: digit s of the words' numbers exchanged with that of the bits' numbers, for each of six digits.
 use Prim.Native.Nat.{ℕ, zero, suc, _+_, _-_, _*_, _/_, _%_, _^_, _≤_, _<_, zero-le}
 use mathlib.Core.Path.{_≡_, refl, sym, ap, ap₂, _∙_}
-use mathlib.Core.Bool.{Bool, true, false, not, cond, _&&_, _||_, and-true, and-false, or-false}
+use mathlib.Core.Bool.{Bool, true, false, not, _&&_, _||_, and-true, and-false, or-false}
 use mathlib.Core.List.{List}
 use mathlib.Core.Option.{none}
 use native.Mathlib.Omega.{arith}
@@ -13,7 +13,7 @@ use borrow.Author.Count.{below-more}
 use borrow.Author.Tests.{eq-eqb, ne-eqb, eqb-true, eqb-false, leb-true, leb-false, ltb-true}
 use Rattle.meaning.specs.Text.{firstFrom}
 use Rattle.meaning.specs.Deciding.{bit}
-use Rattle.laws.proofs.Bits.{bit-and, bit-or, bit-xor, bit-up, bit-up-low, bit-down, bit-mod}
+use Rattle.laws.proofs.Bits.{bit-and, bit-or, bit-down}
 use Rattle.laws.proofs.Bools.{Test, passed, failed, test, and-true as both-true}
 use Rattle.laws.proofs.Search.{first-none}
 use Rattle.matching.proofs.Moving.{up-high, up-low}

@@ -11,7 +11,6 @@ use Rattle.meaning.specs.Reading.{read}
 use Rattle.meaning.specs.Deciding.{outcome, decideFile}
 use Rattle.meaning.specs.Trimming.{lines, fieldOf, ruleLine, isRuleLine, nameAt, ruleLines, strike, Trimmed}
 use Rattle.meaning.specs.Segments.{segments, conflicts}
-use Rattle.meaning.specs.Claims.PolicyFile.{WellFormed}
 use Rattle.meaning.specs.Claims.ReportLines.{segmentRow, conflictRow, struckRow, keptRow, fieldLines}
 
 -- The lines of a policy file by their fields: a rule's begins with `R`, its name is its third field; to strike a line is to

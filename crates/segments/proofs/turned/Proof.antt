@@ -2,7 +2,6 @@
 use mathlib.Core.Path.{refl}
 use native.Mathlib.Omega.{arith}
 use Rattle.segments.proofs.Turning.{masks, turned-all}
-use borrow.Author.Needs.{needs}
 use Rattle.segments.proofs.turned.Statement.{statement}
 use Rattle.segments.proofs.turned.Tie as tie
 
