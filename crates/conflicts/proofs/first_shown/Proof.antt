@@ -72,6 +72,7 @@ first-shown-spec =
     (λ c. search needs)
     (λ c κs. search needs)
     (λ c. search needs)
+    (λ c. search needs)
     returns
     returns-2
     (λ c. search needs)
