@@ -1,61 +1,30 @@
 -- Demand 3 of the operations, from their contracts alone: what `jogimaduve_trim` and `jogimaduve_report` wrote of a file, and what
 -- `jogimaduve_decide` answers on it.
-use mathlib.Core.Path.{_≡_, refl, sym, ap, _∙_, subst}
+use mathlib.Core.Path.{_≡_, sym, ap, _∙_, subst}
 use mathlib.Core.Logic.{_≢_}
 use Prim.Native.Nat.{ℕ, _≤_, _<_}
 use native.Mathlib.Omega.{arith}
 use mathlib.Core.Bool.{true}
-use mathlib.Core.List.{List, [], _∷_, _++_, map}
-use lib.ListN.{length, take, drop}
-use Rattle.meaning.specs.declared.Answer.{Answer}
+use mathlib.Core.List.{List}
+use lib.ListN.{length, drop}
 use Rattle.meaning.specs.Text.{Bytes, keep}
 use Rattle.meaning.specs.Model.{Policy, sizes, space, given, _then_}
 use Rattle.meaning.specs.Reading.{read}
 use Rattle.meaning.specs.Deciding.{requestOf, decisionNumber, outcome, decideFile}
-use Rattle.meaning.specs.Trimming.{lines, isRuleLine, nameAt, ruleLines, strike, trimmed}
-use Rattle.meaning.specs.Segments.{segments, conflicts}
+use Rattle.meaning.specs.Trimming.{lines, isRuleLine, strike, trimmed}
 use Rattle.meaning.specs.Report.{report}
-use Rattle.meaning.specs.Operations.{answered, decideAnswer, trimAnswer, trimLent, reportAnswer, reportLent}
+use Rattle.meaning.specs.Operations.{answered}
 use Rattle.meaning.specs.Claims.PolicyFile.{WellFormed}
 use Rattle.meaning.specs.Claims.Requests.{requestText}
-use Rattle.meaning.specs.Claims.ReportLines.{segmentRow, conflictRow, struckRow, keptRow, fieldLines}
-use Rattle.meaning.specs.Claims.Trimming.{Trims, FirstChange, stays}
-use Rattle.meaning.specs.Claims.Operations.{Writes}
+use Rattle.meaning.specs.Claims.Trimming.{Trims, FirstChange, stays, Reported}
 use Rattle.laws.proofs.Outcomes.{same-number}
 use Rattle.laws.proofs.Reading.{given-given, step-then}
 use Rattle.laws.proofs.Striking.{strike-read}
 use Rattle.laws.proofs.WellFormed.{well-formed}
 use Rattle.laws.proofs.RequestLines.{decides}
 use Rattle.laws.proofs.Demand3.{trims-soundly}
-use Rattle.laws.proofs.Operations.{operations, gave}
-
--- The operations by what they are passed: their answers, what a buffer holds afterwards, and their contracts
-pub record Operate : Type 0 where
-  pub decide : (file request : Bytes) → Answer
-  pub trim : (file buffer : Bytes) → Answer
-  pub trim-into : (file buffer : Bytes) → Bytes
-  pub report : (file buffer : Bytes) → Answer
-  pub report-into : (file buffer : Bytes) → Bytes
-  pub decide-is : (f r : Bytes) → decide f r ≡ decideAnswer f r
-  pub trim-is : (f b : Bytes) → trim f b ≡ trimAnswer f b
-  pub trim-lends : (f b : Bytes) → trim-into f b ≡ trimLent f b
-  pub report-is : (f b : Bytes) → report f b ≡ reportAnswer f b
-  pub report-lends : (f b : Bytes) → report-into f b ≡ reportLent f b
-
--- what is defined meets them
-pub as-defined : Operate
-as-defined = record {
-  decide = decideAnswer;
-  trim = trimAnswer;
-  trim-into = trimLent;
-  report = reportAnswer;
-  report-into = reportLent;
-  decide-is = λ f r. refl;
-  trim-is = λ f b. refl;
-  trim-lends = λ f b. refl;
-  report-is = λ f b. refl;
-  report-lends = λ f b. refl;
-}
+use Rattle.laws.proofs.Operations.{gave}
+use Rattle.jogimaduve.proofs.Operate.{Operate, written, trims, reports}
 
 -- the line of the request of a number
 abbrev pub lineOf : Policy → ℕ → Bytes
@@ -68,18 +37,13 @@ pub record NeededFirst (o : Operate) (p : Policy) (t : Bytes) (k n : ℕ) : Type
   pub differs : o .decide (strike k t) (lineOf p n) ≢ o .decide t (lineOf p n)
   pub no-earlier : (m : ℕ) → m < n → o .decide (strike k t) (lineOf p m) ≡ o .decide t (lineOf p m)
 
--- The texts that were written
-module _ (o : Operate) (f buffer : Bytes) where
-  abbrev pub trimText : Bytes
-  trimText = take (o .trim f buffer .second) (o .trim-into f buffer)
-
-  abbrev pub reportText : Bytes
-  reportText = take (o .report f buffer .second) (o .report-into f buffer)
-
 -- A file, a buffer for its trimmed text and one for its report
 module _ (o : Operate) (f buffer sheet : Bytes) where
   abbrev left : Bytes
-  left = trimText o f buffer
+  left = written (o .trim) f buffer
+
+  abbrev reportText : Bytes
+  reportText = written (o .report) f sheet
 
   pub record Demand3 : Type 0 where
     -- the file is a policy file, and so is what is left of it
@@ -94,28 +58,18 @@ module _ (o : Operate) (f buffer sheet : Bytes) where
     -- every request line is answered alike
     pub alike : (r : Bytes) → o .decide left r ≡ o .decide f r
     -- the report's lines in order, and no others: the struck rules, and each rule left with the first request that needs it
-    pub needed-by : ℕ → ℕ
-    pub reported : fieldLines (reportText o f sheet) ≡ map (segmentRow policy) (segments policy)
-        ++ (map (conflictRow (policy .elements)) (conflicts policy)
-        ++ (map struckRow struck
-        ++ (map (λ k. keptRow (nameAt left k) (needed-by k)) (ruleLines left) ++ (([] ∷ []) ∷ []))))
-    pub needed : (k : ℕ) → isRuleLine left k ≡ true → NeededFirst o policy left k (needed-by k)
+    pub reported : Reported policy policy-left (record { text = left; struck = struck }) reportText
+    pub needed : (k : ℕ) → isRuleLine left k ≡ true → NeededFirst o policy left k (reported .needed-by k)
     -- trimmed again it stays as it is
-    pub again-fits : (b : Bytes) → length left ≤ length b → o .trim left b .number ≡ 0
-    pub again-same : (b : Bytes) → o .trim left b .number ≡ 0 → trimText o left b ≡ left
+    pub again-fits : (b : Bytes) → length left ≤ length b → o .trim .answer left b .number ≡ 0
+    pub again-same : (b : Bytes) → o .trim .answer left b .number ≡ 0 → written (o .trim) left b ≡ left
     -- the answers tell how long the texts are, and behind them the buffers are as they were
-    pub text-size : o .trim f buffer .second ≡ length left
-    pub report-size : o .report f sheet .second ≡ length (reportText o f sheet)
-    pub behind-text : drop (o .trim f buffer .second) (o .trim-into f buffer) ≡ drop (o .trim f buffer .second) buffer
-    pub behind-report : drop (o .report f sheet .second) (o .report-into f sheet) ≡ drop (o .report f sheet .second) sheet
+    pub text-size : o .trim .answer f buffer .second ≡ length left
+    pub report-size : o .report .answer f sheet .second ≡ length reportText
+    pub behind-text : drop (o .trim .answer f buffer .second) (o .trim .after f buffer) ≡ drop (o .trim .answer f buffer .second) buffer
+    pub behind-report : drop (o .report .answer f sheet .second) (o .report .after f sheet) ≡ drop (o .report .answer f sheet .second) sheet
 
 module _ (o : Operate) where
-  trims : (f b : Bytes) → Writes 11 (read f then λ p. given (trimmed f .text)) (o .trim f b) b (o .trim-into f b)
-  trims f b = rw (o .trim-is f b, o .trim-lends f b) (operations .trims f b)
-
-  reports : (f b : Bytes) → Writes 11 (read f then λ p. given (report f p)) (o .report f b) b (o .report-into f b)
-  reports f b = rw (o .report-is f b, o .report-lends f b) (operations .reports f b)
-
   -- the answer to a request's line, of a file with these attributes
   line-decided : (f : Bytes) (p q : Policy) → read f ≡ given q → q .attributes ≡ p .attributes → (n : ℕ) → n < space (p .attributes) → o .decide f (lineOf p n) ≡ record { number = 0; second = decisionNumber (outcome q n) }
   line-decided f p q h e n l =
@@ -135,18 +89,20 @@ module _ (o : Operate) where
             without-it m low ∙ ap (λ d. record { number = 0; second = decisionNumber d }) (c .no-earlier m l) ∙ sym (with-it m low);
       }
 
-pub demand-3 : (o : Operate) (f buffer sheet : Bytes) → o .trim f buffer .number ≡ 0 → o .report f sheet .number ≡ 0 → Demand3 o f buffer sheet
+pub demand-3 : (o : Operate) (f buffer sheet : Bytes) → o .trim .answer f buffer .number ≡ 0 → o .report .answer f sheet .number ≡ 0 → Demand3 o f buffer sheet
 demand-3 o f buffer sheet trim-done report-done =
-    let x = gave (trims o f buffer) trim-done in
-    let y = gave (reports o f sheet) report-done in
+    let x = gave (trims (o .trim) f buffer) trim-done in
+    let y = gave (reports (o .report) f sheet) report-done in
     let (p, h, is-text) = step-then (read f) (λ p. given (trimmed f .text)) (x .result) (x .is) in
     let (p′, h′, is-report) = step-then (read f) (λ p. given (report f p)) (y .result) (y .is) in
     let same : p′ ≡ p = given-given (sym h′ ∙ h) in
     let t = trimmed f .text in
-    let left-is : trimText o f buffer ≡ t = x .taken ∙ sym (given-given is-text) in
-    let told-is : reportText o f sheet ≡ report f p = y .taken ∙ sym (given-given is-report) ∙ ap (report f) same in
+    let left-is : left o f buffer sheet ≡ t = x .taken ∙ sym (given-given is-text) in
+    let report-is : reportText o f buffer sheet ≡ report f p = y .taken ∙ sym (given-given is-report) ∙ ap (report f) same in
     let s = trims-soundly f p h in
     let attrs = s .alike .same-attributes in
+    let shown : (x : Reported p (s .policy) (record { text = left o f buffer sheet; struck = trimmed f .struck }) (reportText o f buffer sheet)) × ((k : ℕ) → isRuleLine (left o f buffer sheet) k ≡ true → NeededFirst o p (left o f buffer sheet) k (x .needed-by k)) =
+    rw (report-is, left-is) (s .reported, λ k r. let (q, i, c) = s .reported .needed k r in first-needed o p (s .policy) t (s .is-accepted) attrs k (s .reported .needed-by k) r q i c) in
     let again : (read t then λ q. given (trimmed t .text)) ≡ given t = rw (s .is-accepted, s .again) in
     record {
       policy = p;
@@ -157,11 +113,10 @@ demand-3 o f buffer sheet trim-done report-done =
       steps = rw left-is (s .steps);
       own-lines = rw left-is (s .own-lines);
       alike = λ r. rw left-is (o .decide-is t r ∙ ap (answered decisionNumber) (s .decides r) ∙ sym (o .decide-is f r));
-      needed-by = s .needed-by;
-      reported = rw (told-is, left-is) (s .reported);
-      needed = rw left-is (λ k r. let (q, i, c) = s .needed k r in first-needed o p (s .policy) t (s .is-accepted) attrs k (s .needed-by k) r q i c);
-      again-fits = rw left-is (λ b l. ap (λ a. a .number) (trims o t b .written-so t again l .0));
-      again-same = rw left-is (λ b d. let z = gave (trims o t b) d in z .taken ∙ given-given (sym (z .is) ∙ again));
+      reported = shown .0;
+      needed = shown .1;
+      again-fits = rw left-is (λ b l. ap (λ a. a .number) (trims (o .trim) t b .written-so t again l .0));
+      again-same = rw left-is (λ b d. let z = gave (trims (o .trim) t b) d in z .taken ∙ given-given (sym (z .is) ∙ again));
       text-size = x .told ∙ ap length (sym (x .taken));
       report-size = y .told ∙ ap length (sym (y .taken));
       behind-text = x .behind;

@@ -2,5 +2,7 @@
 mod Deciding
 pub mod Shaping
 mod Trimming
+mod Operate
 mod Demand3
+mod SameReports
 mod Reporting

@@ -38,7 +38,7 @@ map-some [] (y ∷ ys) h = never cc
 map-some (x ∷ xs) [] h = never cc
 map-some (x ∷ xs) (y ∷ ys) h = let a : some x ≡ some y = cc in let b : map some xs ≡ map some ys = cc in ap₂ (λ z zs. z ∷ zs) (some-some a) (map-some xs ys b)
 
-map-each : {A B : Type 0} (f g : A → B) (xs : List A) → ((x : A) → List·Memᴰ x xs → f x ≡ g x) → map f xs ≡ map g xs
+pub map-each : {A B : Type 0} (f g : A → B) (xs : List A) → ((x : A) → List·Memᴰ x xs → f x ≡ g x) → map f xs ≡ map g xs
 map-each f g [] h = refl
 map-each f g (x ∷ xs) h = ap₂ (λ y ys. y ∷ ys) (h x (List·Memᴰ·head refl)) (map-each f g xs (λ y m. h y (List·Memᴰ·tail m)))
 

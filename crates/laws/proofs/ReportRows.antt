@@ -37,11 +37,11 @@ by-commas : (ns : List Bytes) → orDash ns ≡ byCommas ns
 by-commas [] = refl
 by-commas (n ∷ ns) = refl
 
-segment-row : (p : Policy) (n : ℕ) → segmentFields p n ≡ segmentRow p n
+segment-row : (p : Policy) (n : ℕ) → segmentFields p n ≡ segmentRow p (segmentSize p) n
 segment-row p n =
     let names = applying-named (applyingTo p n) (p .elements) (each-applies (hits p n) [] (p .elements)) in
     ap (λ t. bytes "G" ∷ decimal n ∷ decimal (segmentSize p n) ∷ decisionText (outcome p n) ∷ t ∷ []) (ap orDash names ∙ by-commas (applyingNames (applyingTo p n) (p .elements)))
 
-pub segment-rows : (p : Policy) (ns : List ℕ) → map (segmentFields p) ns ≡ map (segmentRow p) ns
+pub segment-rows : (p : Policy) (ns : List ℕ) → map (segmentFields p) ns ≡ map (segmentRow p (segmentSize p)) ns
 segment-rows p [] = refl
 segment-rows p (n ∷ ns) = ap₂ (λ r rs. r ∷ rs) (segment-row p n) (segment-rows p ns)

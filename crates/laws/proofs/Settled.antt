@@ -1,29 +1,31 @@
 -- What meets the claims is settled: a tool that does gives the defined segments, conflicts, trimmed text and report.
-use mathlib.Core.Path.{_≡_, refl, sym, ap, _∙_, subst}
+use mathlib.Core.Path.{_≡_, refl, sym, ap, ap₂, _∙_, subst}
 use mathlib.Core.Logic.{_⊎_, inl, inr, _↔_}
 use Prim.Native.Nat.{ℕ, _<_}
 use native.Mathlib.Omega.{arith}
-use mathlib.Core.Bool.{Bool, true}
+use mathlib.Core.Bool.{true}
 use mathlib.Core.List.{List, [], _∷_, _++_, map, List·Memᴰ, List·Memᴰ·head, List·Memᴰ·tail, List·Memᴰ·not-nil, List·Memᴰ·cases-cons, Memᴰ·cast}
 use lib.ListN.{length}
 use lib.Dec.{ltb}
 use borrow.Author.Tests.{ltb-true, ltb-false}
-use Rattle.meaning.specs.Text.{Bytes, keep, counting, cut, join, tab, newline}
+use Rattle.meaning.specs.Text.{Bytes, counting, cut, join, tab, newline}
 use Rattle.meaning.specs.Model.{Policy, given}
 use Rattle.meaning.specs.Reading.{read}
-use Rattle.meaning.specs.Trimming.{lines, isRuleLine, nameAt, ruleLines, strike, Trimmed, trimmed}
+use Rattle.meaning.specs.Trimming.{lines, isRuleLine, nameAt, ruleLines, Trimmed, trimmed}
 use Rattle.meaning.specs.Segments.{applyingTo, segments, segmentSize, Conflict, conflicts}
 use Rattle.meaning.specs.Report.{report}
 use Rattle.meaning.specs.Claims.Texts.{Ordered}
 use Rattle.meaning.specs.Claims.Deciding.{Rising}
 use Rattle.meaning.specs.Claims.Segments.{Segmented, Before, ConflictsListed}
-use Rattle.meaning.specs.Claims.Trimming.{FirstChange, Meets}
+use Rattle.meaning.specs.Claims.Trimming.{Trims, FirstChange, Reported, ReportOf, TrimsSoundly}
 use Rattle.meaning.specs.Claims.ReportLines.{segmentRow, conflictRow, struckRow, keptRow, fieldLines}
 use Rattle.meaning.specs.Claims.Promises.{Settled}
 use Rattle.laws.proofs.Bools.{Test, passed, failed, test}
 use Rattle.laws.proofs.Text.{join-cut}
+use Rattle.laws.proofs.Search.{keep-only}
 use Rattle.laws.proofs.Reading.{given-given}
 use Rattle.laws.proofs.Trimming.{steps-settle}
+use Rattle.laws.proofs.Decided.{map-each}
 use Rattle.laws.proofs.Segments.{segmented}
 use Rattle.laws.proofs.Conflicts.{conflicts-listed}
 use Rattle.laws.proofs.Demand3.{trims-soundly}
@@ -82,18 +84,16 @@ module _ (p : Policy) (firsts others : List ℕ) (size count : ℕ → ℕ) (a :
       let (ms, q, j, k) = b .counted s (first-too s m) in
       sym l ∙ ap length (rising-same ns ms r q (λ n. (λ m. j n .1 (i n .0 m), λ m. i n .1 (j n .0 m)))) ∙ k
 
-segments-settle : (p : Policy) (firsts : List ℕ) (size : ℕ → ℕ) → Segmented firsts size p → (firsts ≡ segments p) × ((s : ℕ) → List·Memᴰ s firsts → size s ≡ segmentSize p s)
-segments-settle p firsts size a =
-    let b = segmented p in (
-      rising-same firsts (segments p) (a .rising) (b .rising) (λ s. (first-too p firsts (segments p) size (segmentSize p) a b s, first-too p (segments p) firsts (segmentSize p) size b a s)),
-      same-size p firsts (segments p) size (segmentSize p) a b,
-    )
+same-segments : (p : Policy) (firsts others : List ℕ) (size count : ℕ → ℕ) → Segmented firsts size p → Segmented others count p → (firsts ≡ others) × ((s : ℕ) → List·Memᴰ s firsts → size s ≡ count s)
+same-segments p firsts others size count a b = (
+  rising-same firsts others (a .rising) (b .rising) (λ s. (first-too p firsts others size count a b s, first-too p others firsts count size b a s)),
+  same-size p firsts others size count a b,
+)
 
 -- Conflicts
-conflicts-settle : (p : Policy) (cs : List Conflict) → ConflictsListed cs p → cs ≡ conflicts p
-conflicts-settle p cs a =
-    let b = conflicts-listed p in
-    ordered-same Before before-one-way cs (conflicts p) (a .in-order) (b .in-order) (λ c. (λ m. b .each-listed c (a .no-other c m), λ m. a .each-listed c (b .no-other c m)))
+same-conflicts : (p : Policy) (cs ds : List Conflict) → ConflictsListed cs p → ConflictsListed ds p → cs ≡ ds
+same-conflicts p cs ds a b =
+    ordered-same Before before-one-way cs ds (a .in-order) (b .in-order) (λ c. (λ m. b .each-listed c (a .no-other c m), λ m. a .each-listed c (b .no-other c m)))
 
 -- A text is settled by its field lines
 fields-joined : (ls : List Bytes) → map (join tab) (map (cut tab) ls) ≡ ls
@@ -106,56 +106,62 @@ text-again t = ap (join newline) (fields-joined (lines t)) ∙ join-cut newline 
 pub fields-settle : (t u : Bytes) → fieldLines t ≡ fieldLines u → t ≡ u
 fields-settle t u e = sym (text-again t) ∙ ap (λ ls. join newline (map (join tab) ls)) e ∙ text-again u
 
--- The trimmed text, and the report
-map-kept : {A : Type 0} (t : ℕ → Bool) (f g : ℕ → A) → ((k : ℕ) → t k ≡ true → f k ≡ g k) → (ks : List ℕ) → map f (keep t ks) ≡ map g (keep t ks)
-map-kept t f g h [] = refl
-map-kept t f g h (k ∷ ks) = go (test (t k)) (map-kept t f g h ks)
-  where
-    go : Test (t k) → map f (keep t ks) ≡ map g (keep t ks) → map f (keep t (k ∷ ks)) ≡ map g (keep t (k ∷ ks))
-    go (passed e) later = rw (e, h k e, later)
-    go (failed e) later = rw e later
-
-change-settle : (p q : Policy) (n m : ℕ) → FirstChange p q n → FirstChange p q m → n ≡ m
-change-settle p q n m a b = go (test (ltb n m)) (test (ltb m n))
+-- The first request that needs a rule
+same-change : (p q : Policy) (n m : ℕ) → FirstChange p q n → FirstChange p q m → n ≡ m
+same-change p q n m a b = go (test (ltb n m)) (test (ltb m n))
   where
     go : Test (ltb n m) → Test (ltb m n) → n ≡ m
     go (passed x) y = absurd (a .differs (b .no-earlier n (ltb-true n m x)))
     go (failed x) (passed y) = absurd (b .differs (a .no-earlier m (ltb-true m n y)))
     go (failed x) (failed y) = omega (arith, ltb-false n m x, ltb-false m n y)
 
-module _ (trim : Bytes → Trimmed) (tell : Bytes → Policy → Bytes) (meets : Meets trim tell) (f : Bytes) (p : Policy) (h : read f ≡ given p) where
-  trimmed-settle : trim f ≡ trimmed f
-  trimmed-settle =
-      let (a, b) = steps-settle (meets f p h .steps) (trims-soundly f p h .steps) in
-      λ i. record { text = b i; struck = a i }
+-- The lines of a report
+module _ {p q : Policy} {t : Trimmed} {r s : Bytes} (a : Reported p q t r) (b : Reported p q t s) where
+  same-segment-rows : map (segmentRow p (a .size)) (a .firsts) ≡ map (segmentRow p (b .size)) (b .firsts)
+  same-segment-rows =
+      let (firsts, sizes) = same-segments p (a .firsts) (b .firsts) (a .size) (b .size) (a .segmented) (b .segmented) in
+      map-each _ _ (a .firsts) (λ n m. ap (λ c. segmentRow p (λ i. c) n) (sizes n m)) ∙ ap (map (segmentRow p (b .size))) firsts
 
-  abbrev allLines : Trimmed → (ℕ → ℕ) → List (List Bytes)
-  allLines t by = map (segmentRow p) (segments p)
-      ++ (map (conflictRow (p .elements)) (conflicts p)
-      ++ (map struckRow (t .struck)
-      ++ (map (λ k. keptRow (nameAt (t .text) k) (by k)) (ruleLines (t .text)) ++ (([] ∷ []) ∷ []))))
+  same-conflict-rows : map (conflictRow (p .elements)) (a .conflicts) ≡ map (conflictRow (p .elements)) (b .conflicts)
+  same-conflict-rows = ap (map (conflictRow (p .elements))) (same-conflicts p (a .conflicts) (b .conflicts) (a .listed) (b .listed))
 
-  -- each kept rule is shown with one request
-  needed-settle : (k : ℕ) → isRuleLine (trimmed f .text) k ≡ true → meets f p h .needed-by k ≡ trims-soundly f p h .needed-by k
-  needed-settle k r =
-      let s = meets f p h in
-      let t = trims-soundly f p h in
-      let e = ap (λ x. x .text) trimmed-settle in
-      let (q, a, b) = s .needed k (subst (λ x. isRuleLine x k ≡ true) (sym e) r) in
-      let (o, c, d) = t .needed k r in
-      let same-left : s .policy ≡ t .policy = given-given (sym (s .is-accepted) ∙ ap read e ∙ t .is-accepted) in
-      let same-without : q ≡ o = given-given (sym a ∙ ap (λ x. read (strike k x)) e ∙ c) in
-      change-settle (t .policy) o (s .needed-by k) (t .needed-by k) (subst (λ x. FirstChange x o (s .needed-by k)) same-left (subst (λ x. FirstChange (s .policy) x (s .needed-by k)) same-without b)) d
+  same-needed : (k : ℕ) → isRuleLine (t .text) k ≡ true → a .needed-by k ≡ b .needed-by k
+  same-needed k rule =
+      let (x, h, c) = a .needed k rule in
+      let (y, i, d) = b .needed k rule in
+      same-change q x (a .needed-by k) (b .needed-by k) c (subst (λ z. FirstChange q z (b .needed-by k)) (given-given (sym i ∙ h)) d)
 
-  report-settle : tell f p ≡ report f p
-  report-settle =
-      let s = meets f p h in
-      let t = trims-soundly f p h in
-      let T = trimmed f in
-      fields-settle (tell f p) (report f p) (s .reported ∙ ap (λ x. allLines x (s .needed-by)) trimmed-settle
-      ∙ ap (λ ls. map (segmentRow p) (segments p) ++ (map (conflictRow (p .elements)) (conflicts p) ++ (map struckRow (T .struck) ++ (ls ++ (([] ∷ []) ∷ [])))))
-      (map-kept (isRuleLine (T .text)) (λ k. keptRow (nameAt (T .text) k) (s .needed-by k)) (λ k. keptRow (nameAt (T .text) k) (t .needed-by k)) (λ k r. ap (keptRow (nameAt (T .text) k)) (needed-settle k r)) (counting 0 (length (lines (T .text)))))
-      ∙ sym (t .reported))
+  same-kept-rows : map (λ k. keptRow (nameAt (t .text) k) (a .needed-by k)) (ruleLines (t .text)) ≡ map (λ k. keptRow (nameAt (t .text) k) (b .needed-by k)) (ruleLines (t .text))
+  same-kept-rows = map-each _ _ (ruleLines (t .text)) (λ k m. ap (keptRow (nameAt (t .text) k)) (same-needed k (keep-only (isRuleLine (t .text)) k (counting 0 (length (lines (t .text)))) m .1)))
+
+  same-text : r ≡ s
+  same-text =
+      fields-settle r s (a .rows
+      ∙ ap₂ (λ gs ls. gs ++ ls) same-segment-rows (ap₂ (λ cs ls. cs ++ ls) same-conflict-rows (ap (λ ks. map struckRow (t .struck) ++ (ks ++ (([] ∷ []) ∷ []))) same-kept-rows))
+      ∙ sym (b .rows))
+
+-- What trimming leaves, and the report
+same-left : {f : Bytes} (t u : Trimmed) → Trims f (t .struck) (t .text) → Trims f (u .struck) (u .text) → t ≡ u
+same-left t u a b = let (names, texts) = steps-settle a b in λ i. record { text = texts i; struck = names i }
+
+same-report : {f : Bytes} {p : Policy} {r s : Bytes} → ReportOf f p r → ReportOf f p s → r ≡ s
+same-report {p = p} {s = s} a b =
+    let left : b .left ≡ a .left = same-left (b .left) (a .left) (b .steps) (a .steps) in
+    let policy : b .policy-left ≡ a .policy-left = given-given (sym (b .left-accepted) ∙ ap (λ t. read (t .text)) left ∙ a .left-accepted) in
+    same-text (a .reported) (subst (λ t. Reported p (a .policy-left) t s) left (subst (λ q. Reported p q (b .left) s) policy (b .reported)))
+
+reported-of : {trim : Bytes → Trimmed} {tell : Bytes → Policy → Bytes} {f : Bytes} {p : Policy} → TrimsSoundly trim tell f p → ReportOf f p (tell f p)
+reported-of {trim = trim} {f = f} s = record { left = trim f; steps = s .steps; policy-left = s .policy; left-accepted = s .is-accepted; reported = s .reported }
+
+pub reporting : (f : Bytes) (p : Policy) → read f ≡ given p → (r : Bytes) → ReportOf f p r ↔ (r ≡ report f p)
+reporting f p h r =
+    let own = reported-of (trims-soundly f p h) in
+    (λ a. same-report a own, λ e. subst (ReportOf f p) (sym e) own)
 
 pub settled : Settled
-settled = record { segmented = segments-settle; listed = conflicts-settle; trimmed-so = trimmed-settle; reported-so = report-settle }
+settled = record {
+  segmented = λ p firsts size a. same-segments p firsts (segments p) size (segmentSize p) a (segmented p);
+  listed = λ p cs a. same-conflicts p cs (conflicts p) a (conflicts-listed p);
+  trimmed-so = λ trim tell meets f p h. same-left (trim f) (trimmed f) (meets f p h .steps) (trims-soundly f p h .steps);
+  reported-so = λ trim tell meets f p h. reporting f p h (tell f p) .0 (reported-of (meets f p h));
+}

@@ -20,8 +20,8 @@ use Rattle.meaning.specs.Claims.WriterRefusals.{RefusesToWrite}
 use Rattle.meaning.specs.Claims.Requests.{Numbered, Matched}
 use Rattle.meaning.specs.Claims.Standard.{standard}
 use Rattle.meaning.specs.Claims.Deciding.{Parented, Standardly, Decides}
-use Rattle.meaning.specs.Claims.Segments.{Segmented, Conflicting, ConflictsListed}
-use Rattle.meaning.specs.Claims.Trimming.{Lines, Needless, Meets}
+use Rattle.meaning.specs.Claims.Segments.{Segmented, Opens, Conflicting, ConflictsListed}
+use Rattle.meaning.specs.Claims.Trimming.{Lines, Needless, ReportOf, Meets}
 use Rattle.meaning.specs.Claims.Operations.{Operations, Prints}
 
 -- Whoever meets these claims gives just what is defined: every wrong tool is shut out
@@ -63,8 +63,12 @@ pub record Promises : Type 0 where
   pub deciding : (f : Bytes) (p : Policy) → read f ≡ given p → Decides decideFile f p
   pub segmenting : (f : Bytes) (p : Policy) → read f ≡ given p → Segmented (segments p) (segmentSize p) p
   pub conflicting : (f : Bytes) (p : Policy) → read f ≡ given p → ConflictsListed (conflicts p) p
+  -- so the request of a conflict stands on a `G` line too
+  pub conflict-opens : (f : Bytes) (p : Policy) → read f ≡ given p → (c : Conflict) → Conflicting p c → Opens p (c .request)
   pub file-lines : (f : Bytes) (p : Policy) (w : WellFormed f p) → Lines f (w .rows)
   pub trimming : Meets trimmed report
+  -- the report has no free field
+  pub reporting : (f : Bytes) (p : Policy) → read f ≡ given p → (r : Bytes) → ReportOf f p r ↔ (r ≡ report f p)
   pub settled : Settled
   pub shut-out : ShutOut
   pub operations : Operations

@@ -7,7 +7,7 @@ use Rattle.meaning.specs.Text.{Bytes, bytes, keep, counting, cut, join, 
 use Rattle.meaning.specs.Model.{Element, nameOf, Policy, decisionText}
 use Rattle.meaning.specs.Deciding.{outcome}
 use Rattle.meaning.specs.Trimming.{lines}
-use Rattle.meaning.specs.Segments.{applyingTo, segmentSize, Conflict}
+use Rattle.meaning.specs.Segments.{applyingTo, Conflict}
 
 -- the name of the element at a place of the file
 abbrev pub nameOn : List Element → ℕ → Bytes
@@ -18,8 +18,8 @@ byCommas [] = bytes "-"
 byCommas (n ∷ ns) = join comma (n ∷ ns)
 
 -- `G`, first request, how many requests, decision, names of the applying elements in file order by commas, or `-`
-abbrev pub segmentRow : Policy → ℕ → List Bytes
-segmentRow p n = bytes "G" ∷ decimal n ∷ decimal (segmentSize p n) ∷ decisionText (outcome p n)
+abbrev pub segmentRow : Policy → (ℕ → ℕ) → ℕ → List Bytes
+segmentRow p size n = bytes "G" ∷ decimal n ∷ decimal (size n) ∷ decisionText (outcome p n)
     ∷ byCommas (map (nameOn (p .elements)) (keep (λ i. getD (applyingTo p n) i false) (counting 0 (length (p .elements))))) ∷ []
 
 -- `C`, parent, earlier child, later child, request

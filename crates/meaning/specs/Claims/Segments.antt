@@ -16,6 +16,10 @@ use Rattle.meaning.specs.Claims.Deciding.{Rising}
 abbrev pub InSegment : Policy → ℕ → ℕ → Type 0
 InSegment p s n = (n < space (p .attributes)) × (applyingTo p n ≡ applyingTo p s)
 
+-- n is the first request of its segment
+abbrev pub Opens : Policy → ℕ → Type 0
+Opens p n = (m : ℕ) → m < n → applyingTo p m ≢ applyingTo p n
+
 abbrev pub total : List ℕ → ℕ
 total [] = 0
 total (n ∷ ns) = n + total ns
@@ -25,7 +29,7 @@ total (n ∷ ns) = n + total ns
 pub record Segmented (firsts : List ℕ) (size : ℕ → ℕ) (p : Policy) : Type 0 where
   pub in-one : (n : ℕ) → n < space (p .attributes) → (s : ℕ) × List·Memᴰ s firsts × (applyingTo p s ≡ applyingTo p n)
   pub in-no-other : (s t : ℕ) → List·Memᴰ s firsts → List·Memᴰ t firsts → applyingTo p s ≡ applyingTo p t → s ≡ t
-  pub by-first : (s : ℕ) → List·Memᴰ s firsts → (s < space (p .attributes)) × ((m : ℕ) → m < s → applyingTo p m ≢ applyingTo p s)
+  pub by-first : (s : ℕ) → List·Memᴰ s firsts → (s < space (p .attributes)) × Opens p s
   pub rising : Rising firsts
   pub counted : (s : ℕ) → List·Memᴰ s firsts → (ns : List ℕ) × Rising ns × ((n : ℕ) → List·Memᴰ n ns ↔ InSegment p s n) × (length ns ≡ size s)
   pub add-up : total (map size firsts) ≡ space (p .attributes)

@@ -1,4 +1,4 @@
--- Trimming: which lines are struck, and what the text that is left has.
+-- Trimming: which lines are struck, and what the text that is left has. What the report of a file is.
 use mathlib.Core.Path.{_≡_}
 use mathlib.Core.Logic.{_≢_, _↔_}
 use Prim.Native.Nat.{ℕ, _<_}
@@ -10,7 +10,8 @@ use Rattle.meaning.specs.Model.{rule, kindText, Element, nameOf, Policy,
 use Rattle.meaning.specs.Reading.{read}
 use Rattle.meaning.specs.Deciding.{outcome, decideFile}
 use Rattle.meaning.specs.Trimming.{lines, fieldOf, ruleLine, isRuleLine, nameAt, ruleLines, strike, Trimmed}
-use Rattle.meaning.specs.Segments.{segments, conflicts}
+use Rattle.meaning.specs.Segments.{Conflict}
+use Rattle.meaning.specs.Claims.Segments.{Segmented, ConflictsListed}
 use Rattle.meaning.specs.Claims.ReportLines.{segmentRow, conflictRow, struckRow, keptRow, fieldLines}
 
 -- The lines of a policy file by their fields: a rule's begins with `R`, its name is its third field; to strike a line is to
@@ -57,6 +58,29 @@ isRule e = same (kindText (e .kind)) (kindText rule)
 abbrev pub ruleNames : List Element → List Bytes
 ruleNames es = map nameOf (keep isRule es)
 
+-- A text r that reports on policy p, of which trimming left t, a text of policy q: the segments, the conflicts, the rules struck,
+-- and each rule left with the first request that needs it. Its lines are these, in this order, and no others
+pub record Reported (p q : Policy) (t : Trimmed) (r : Bytes) : Type 0 where
+  pub firsts : List ℕ
+  pub size : ℕ → ℕ
+  pub segmented : Segmented firsts size p
+  pub conflicts : List Conflict
+  pub listed : ConflictsListed conflicts p
+  pub needed-by : ℕ → ℕ
+  pub needed : (k : ℕ) → isRuleLine (t .text) k ≡ true → (x : Policy) × (read (strike k (t .text)) ≡ given x) × FirstChange q x (needed-by k)
+  pub rows : fieldLines r ≡ map (segmentRow p size) firsts
+      ++ (map (conflictRow (p .elements)) conflicts
+      ++ (map struckRow (t .struck)
+      ++ (map (λ k. keptRow (nameAt (t .text) k) (needed-by k)) (ruleLines (t .text)) ++ (([] ∷ []) ∷ []))))
+
+-- The report of a file f with policy p
+pub record ReportOf (f : Bytes) (p : Policy) (r : Bytes) : Type 0 where
+  pub left : Trimmed
+  pub steps : Trims f (left .struck) (left .text)
+  pub policy-left : Policy
+  pub left-accepted : read (left .text) ≡ given policy-left
+  pub reported : Reported p policy-left left r
+
 -- Demand 3, of a tool that trims and one that reports, on an accepted file f with policy p
 pub record TrimsSoundly (trim : Bytes → Trimmed) (report : Bytes → Policy → Bytes) (f : Bytes) (p : Policy) : Type 0 where
   pub steps : Trims f (trim f .struck) (trim f .text)
@@ -66,15 +90,7 @@ pub record TrimsSoundly (trim : Bytes → Trimmed) (report : Bytes → Policy �
   pub alike : Alike p policy
   pub decides : (r : Bytes) → decideFile (trim f .text) r ≡ decideFile f r
   pub rules : map (nameAt (trim f .text)) (ruleLines (trim f .text)) ≡ ruleNames (policy .elements)
-  -- the request that each kept rule is shown with
-  pub needed-by : ℕ → ℕ
-  -- the report's lines are these, in this order, and no others
-  pub reported : fieldLines (report f p) ≡ map (segmentRow p) (segments p)
-      ++ (map (conflictRow (p .elements)) (conflicts p)
-      ++ (map struckRow (trim f .struck)
-      ++ (map (λ k. keptRow (nameAt (trim f .text) k) (needed-by k)) (ruleLines (trim f .text)) ++ (([] ∷ []) ∷ []))))
-  pub needed : (k : ℕ) → isRuleLine (trim f .text) k ≡ true →
-      (q : Policy) × (read (strike k (trim f .text)) ≡ given q) × FirstChange policy q (needed-by k)
+  pub reported : Reported p policy (trim f) (report f p)
   pub none-needless : (k : ℕ) → Needless (trim f .text) k → ⊥
   pub again : trim (trim f .text) ≡ record { text = trim f .text; struck = [] }
 

@@ -1,0 +1,53 @@
+-- The operations by what they are passed and what they leave, with their contracts alone: what holds of these holds of every
+-- build that keeps them.
+use mathlib.Core.Path.{_≡_, refl}
+use lib.ListN.{take}
+use Rattle.meaning.specs.declared.Answer.{Answer}
+use Rattle.meaning.specs.Text.{Bytes}
+use Rattle.meaning.specs.Model.{given, _then_}
+use Rattle.meaning.specs.Reading.{read}
+use Rattle.meaning.specs.Trimming.{trimmed}
+use Rattle.meaning.specs.Report.{report}
+use Rattle.meaning.specs.Operations.{decideAnswer, trimAnswer, trimLent, reportAnswer, reportLent}
+use Rattle.meaning.specs.Claims.Operations.{Writes}
+use Rattle.laws.proofs.Operations.{operations}
+
+-- An operation that writes a text of a file into a lent buffer: its answer, the buffer afterwards, and the contract on both
+pub record TextOperation (answered : (file buffer : Bytes) → Answer) (lent : (file buffer : Bytes) → Bytes) : Type 0 where
+  pub answer : (file buffer : Bytes) → Answer
+  pub after : (file buffer : Bytes) → Bytes
+  pub answer-is : (f b : Bytes) → answer f b ≡ answered f b
+  pub after-is : (f b : Bytes) → after f b ≡ lent f b
+
+-- the text that was written
+abbrev pub written : {answered : (file buffer : Bytes) → Answer} {lent : (file buffer : Bytes) → Bytes} → TextOperation answered lent → Bytes → Bytes → Bytes
+written o f b = take (o .answer f b .second) (o .after f b)
+
+abbrev pub Trim : Type 0
+Trim = TextOperation trimAnswer trimLent
+
+abbrev pub Report : Type 0
+Report = TextOperation reportAnswer reportLent
+
+-- All three
+pub record Operate : Type 0 where
+  pub decide : (file request : Bytes) → Answer
+  pub decide-is : (f r : Bytes) → decide f r ≡ decideAnswer f r
+  pub trim : Trim
+  pub report : Report
+
+-- what is defined meets them
+pub as-defined : Operate
+as-defined = record {
+  decide = decideAnswer;
+  decide-is = λ f r. refl;
+  trim = record { answer = trimAnswer; after = trimLent; answer-is = λ f b. refl; after-is = λ f b. refl };
+  report = record { answer = reportAnswer; after = reportLent; answer-is = λ f b. refl; after-is = λ f b. refl };
+}
+
+-- what they write
+pub trims : (o : Trim) (f b : Bytes) → Writes 11 (read f then λ p. given (trimmed f .text)) (o .answer f b) b (o .after f b)
+trims o f b = rw (o .answer-is f b, o .after-is f b) (operations .trims f b)
+
+pub reports : (o : Report) (f b : Bytes) → Writes 11 (read f then λ p. given (report f p)) (o .answer f b) b (o .after f b)
+reports o f b = rw (o .answer-is f b, o .after-is f b) (operations .reports f b)
