@@ -2,3 +2,4 @@
 pub mod Cases
 pub mod Rows
 pub mod Capitals
+pub mod Conflicts
