@@ -140,6 +140,23 @@ add("conflict-not-where-grandparent-fails", TWO, "S 0 top first-applicable * *\n
     "P 2 p first-applicable * *\nR 3 r1 permit b *\nR 3 r2 deny b *\n")
 add("conflict-lowest-behind-failing-parent", TWO, "S 0 top first-applicable b *\nP 1 p deny-overrides * d\n"
     "R 2 r1 permit * *\nR 2 r2 deny * *\n")
+# Two words of 64 requests: the lowest request of a conflict is the last of the first word, the last of all, the first of
+# the second word; the pairs are opposed on higher requests too, but for the last of all.
+WORDS = attribute("x", "ab") + attribute("y", LETTERS) + attribute("z", "abcd")
+add("conflict-lowest-ends-a-word", WORDS, "P 0 top deny-overrides * * *\nR 1 r63 permit * p d\nR 1 no deny * * *\n"
+    "R 1 no-b deny b * *\nR 1 r64 permit b * *\n")
+# 64 words: the first, the last and one between of the last word.
+add("conflict-lowest-in-last-word", CUBE, "P 0 top deny-overrides * * *\nR 1 from-4032 permit p m,n,o,p *\n"
+    "R 1 no deny * * *\nR 1 r4095 deny p p p\nR 1 r4049 deny p n,o b,d\n")
+# 65 requests: the second word has one.
+add("conflict-lowest-in-word-of-one", attribute("x", "abcde") + attribute("y", LETTERS[:13]),
+    "P 0 top deny-overrides * *\nR 1 e permit e *\nR 1 r64 deny * m\nR 1 r63 deny * l,m\n")
+# Opposed from request 11 on; where the parent's own target matches, from 75 on; where it applies, from 111 on.
+add("conflict-lowest-opposed-before-parent", WORDS, "S 0 top first-applicable * l,m,n,o,p *\nP 1 p deny-overrides b * *\n"
+    "R 2 r1 permit * * d\nR 2 r2 deny * c,l,p *\n")
+add("conflict-lowest-of-sets-opposed-before-parent", WORDS, "S 0 top deny-overrides * * *\nS 1 s deny-overrides b * d\n"
+    "S 2 yes first-applicable * * *\nP 3 p first-applicable * c,l *\nR 4 r1 permit * * *\n"
+    "P 2 no permit-overrides * * *\nR 3 r2 deny * * *\nR 3 r3 permit a a,b *\n")
 add("conflict-not-with-indeterminate", AB, "S 0 top first-applicable *\n", BOTH.format(1, 2, 3),
     "P 1 yes first-applicable a\nR 2 r1 permit *\nP 1 no first-applicable b\nR 2 r2 deny *\n")
 add("conflict-order-of-pairs", AB, "S 0 top deny-overrides *\nP 1 p deny-overrides *\nR 2 r1 permit *\nR 2 r2 deny a\n"

@@ -1,5 +1,5 @@
-/* The paper's cases "On each side of an edge" and those of change C-11, worked out by hand, run through the reference.
- * Spaces stand for tabs, as in the paper. */
+/* The paper's cases "On each side of an edge" and those of changes C-11 and C-12, worked out by hand, run through the
+ * reference. Spaces stand for tabs, as in the paper. */
 #include "reference.h"
 
 #include <stdio.h>
@@ -215,6 +215,24 @@ static void lists(void)
     writes("{ell", "r", 3, 2, "");
 }
 
+/* C-12: a conflict is shown with the lowest request to which the parent applies and on which its children differ. */
+static void lowest_requests(void)
+{
+    gives_text("opposed on 1 and 3", ref_report,
+               "A x a b c d\nP 0 top first-applicable *\nR 1 r1 permit b,c,d\nR 1 r2 deny b,d\n",
+               "G 0 1 not-applicable top\nG 1 2 permit top,r1,r2\nG 2 1 permit top,r1\nC top r1 r2 1\nX r2\nK r1 1\n");
+    gives_text("opposed on all, the parent applies to 4 and 5", ref_report,
+               "A x a b\nA y c d e\nS 0 top first-applicable b *\nP 1 p deny-overrides * d,e\nR 2 r1 permit * *\n"
+               "R 2 r2 deny * *\n",
+               "G 0 3 not-applicable -\nG 3 1 not-applicable top\nG 4 2 deny top,p,r1,r2\nC p r1 r2 4\nX r1\nK r2 4\n");
+    gives_text("opposed on 63 and 127, on 127, from 64 on", ref_report,
+               "A x a b\nA y" SIXTEEN "A z a b c d\nP 0 top deny-overrides * * *\nR 1 r63 permit * p d\n"
+               "R 1 no deny * * *\nR 1 no-b deny b * *\nR 1 r64 permit b * *\n",
+               "G 0 63 deny top,no\nG 63 1 deny top,r63,no\nG 64 63 deny top,no,no-b,r64\n"
+               "G 127 1 deny top,r63,no,no-b,r64\nC top r63 no 63\nC top r63 no-b 127\nC top no r64 64\n"
+               "C top no-b r64 64\nX r64\nX no-b\nX r63\nK no 0\n");
+}
+
 int main(void)
 {
     gives_text("1", ref_report, WORKED "R 1 r3 deny * teach\nR 1 r4 permit tech jog\n",
@@ -250,6 +268,7 @@ int main(void)
     long_names();
     long_lines();
     lists();
+    lowest_requests();
     puts(bad == 0 ? "all cases hold" : "cases fail");
     return bad != 0;
 }
