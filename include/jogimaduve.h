@@ -66,8 +66,8 @@ jogimaduve_answer jogimaduve_decide(const uint8_t *file, size_t file_length,
 jogimaduve_answer jogimaduve_trim(const uint8_t *file, size_t file_length, uint8_t *buffer, size_t buffer_length);
 
 /* Reports on a file: its segments (G), conflicts (C), the rules that trimming strikes (X) and those that it keeps (K), as
- * lines of fields parted by tabs. The text goes into the buffer and `second` is its length, which can be some millions
- * of bytes. Bytes behind the text stay as they were. */
+ * lines of fields parted by tabs. Every build gives the same bytes for the same file. The text goes into the buffer and
+ * `second` is its length, which can be some millions of bytes. Bytes behind the text stay as they were. */
 jogimaduve_answer jogimaduve_report(const uint8_t *file, size_t file_length, uint8_t *buffer, size_t buffer_length);
 
 #ifdef __cplusplus
