@@ -11,7 +11,7 @@ use Rattle.meaning.specs.Text.{Bytes, keep}
 use Rattle.meaning.specs.Model.{Policy, sizes, space, given, _then_}
 use Rattle.meaning.specs.Reading.{read}
 use Rattle.meaning.specs.Deciding.{requestOf, decisionNumber, outcome, decideFile}
-use Rattle.meaning.specs.Trimming.{lines, isRuleLine, strike, trimmed}
+use Rattle.meaning.specs.Trimming.{lines, isRuleLine, strike, Trimmed, trimmed}
 use Rattle.meaning.specs.Report.{report}
 use Rattle.meaning.specs.Operations.{answered}
 use Rattle.meaning.specs.Claims.PolicyFile.{WellFormed}
@@ -37,6 +37,11 @@ pub record NeededFirst (o : Operate) (p : Policy) (t : Bytes) (k n : ℕ) : Type
   pub differs : o .decide (strike k t) (lineOf p n) ≢ o .decide t (lineOf p n)
   pub no-earlier : (m : ℕ) → m < n → o .decide (strike k t) (lineOf p m) ≡ o .decide t (lineOf p m)
 
+-- A report r on policy p, of which t of policy q is left, and each rule left is shown with the first request that needs it
+pub record Shown (o : Operate) (p q : Policy) (t : Trimmed) (r : Bytes) : Type 0 where
+  pub reported : Reported p q t r
+  pub needed : (k : ℕ) → isRuleLine (t .text) k ≡ true → NeededFirst o p (t .text) k (reported .needed-by k)
+
 -- A file, a buffer for its trimmed text and one for its report
 module _ (o : Operate) (f buffer sheet : Bytes) where
   abbrev left : Bytes
@@ -58,8 +63,7 @@ module _ (o : Operate) (f buffer sheet : Bytes) where
     -- every request line is answered alike
     pub alike : (r : Bytes) → o .decide left r ≡ o .decide f r
     -- the report's lines in order, and no others: the struck rules, and each rule left with the first request that needs it
-    pub reported : Reported policy policy-left (record { text = left; struck = struck }) reportText
-    pub needed : (k : ℕ) → isRuleLine left k ≡ true → NeededFirst o policy left k (reported .needed-by k)
+    pub shown : Shown o policy policy-left (record { text = left; struck = struck }) reportText
     -- trimmed again it stays as it is
     pub again-fits : (b : Bytes) → length left ≤ length b → o .trim .answer left b .number ≡ 0
     pub again-same : (b : Bytes) → o .trim .answer left b .number ≡ 0 → written (o .trim) left b ≡ left
@@ -101,8 +105,6 @@ demand-3 o f buffer sheet trim-done report-done =
     let report-is : reportText o f buffer sheet ≡ report f p = y .taken ∙ sym (given-given is-report) ∙ ap (report f) same in
     let s = trims-soundly f p h in
     let attrs = s .alike .same-attributes in
-    let shown : (x : Reported p (s .policy) (record { text = left o f buffer sheet; struck = trimmed f .struck }) (reportText o f buffer sheet)) × ((k : ℕ) → isRuleLine (left o f buffer sheet) k ≡ true → NeededFirst o p (left o f buffer sheet) k (x .needed-by k)) =
-    rw (report-is, left-is) (s .reported, λ k r. let (q, i, c) = s .reported .needed k r in first-needed o p (s .policy) t (s .is-accepted) attrs k (s .reported .needed-by k) r q i c) in
     let again : (read t then λ q. given (trimmed t .text)) ≡ given t = rw (s .is-accepted, s .again) in
     record {
       policy = p;
@@ -113,8 +115,7 @@ demand-3 o f buffer sheet trim-done report-done =
       steps = rw left-is (s .steps);
       own-lines = rw left-is (s .own-lines);
       alike = λ r. rw left-is (o .decide-is t r ∙ ap (answered decisionNumber) (s .decides r) ∙ sym (o .decide-is f r));
-      reported = shown .0;
-      needed = shown .1;
+      shown = rw (report-is, left-is) (record { reported = s .reported; needed = λ k r. let (q, i, c) = s .reported .needed k r in first-needed o p (s .policy) t (s .is-accepted) attrs k (s .reported .needed-by k) r q i c });
       again-fits = rw left-is (λ b l. ap (λ a. a .number) (trims (o .trim) t b .written-so t again l .0));
       again-same = rw left-is (λ b d. let z = gave (trims (o .trim) t b) d in z .taken ∙ given-given (sym (z .is) ∙ again));
       text-size = x .told ∙ ap length (sym (x .taken));

@@ -6,13 +6,11 @@ use native.Mathlib.Omega.{arith}
 use mathlib.Core.Bool.{true}
 use mathlib.Core.List.{List, [], _∷_, _++_, map, List·Memᴰ, List·Memᴰ·head, List·Memᴰ·tail, List·Memᴰ·not-nil, List·Memᴰ·cases-cons, Memᴰ·cast}
 use lib.ListN.{length}
-use lib.Dec.{ltb}
-use borrow.Author.Tests.{ltb-true, ltb-false}
 use Rattle.meaning.specs.Text.{Bytes, counting, cut, join, tab, newline}
 use Rattle.meaning.specs.Model.{Policy, given}
 use Rattle.meaning.specs.Reading.{read}
 use Rattle.meaning.specs.Trimming.{lines, isRuleLine, nameAt, ruleLines, Trimmed, trimmed}
-use Rattle.meaning.specs.Segments.{applyingTo, segments, segmentSize, Conflict, conflicts}
+use Rattle.meaning.specs.Segments.{segments, segmentSize, Conflict, conflicts}
 use Rattle.meaning.specs.Report.{report}
 use Rattle.meaning.specs.Claims.Texts.{Ordered}
 use Rattle.meaning.specs.Claims.Deciding.{Rising}
@@ -20,9 +18,8 @@ use Rattle.meaning.specs.Claims.Segments.{Segmented, Before, ConflictsListed}
 use Rattle.meaning.specs.Claims.Trimming.{Trims, FirstChange, Reported, ReportOf, TrimsSoundly}
 use Rattle.meaning.specs.Claims.ReportLines.{segmentRow, conflictRow, struckRow, keptRow, fieldLines}
 use Rattle.meaning.specs.Claims.Promises.{Settled}
-use Rattle.laws.proofs.Bools.{Test, passed, failed, test}
 use Rattle.laws.proofs.Text.{join-cut}
-use Rattle.laws.proofs.Search.{keep-only}
+use Rattle.laws.proofs.Search.{neither-lower, keep-only}
 use Rattle.laws.proofs.Reading.{given-given}
 use Rattle.laws.proofs.Trimming.{steps-settle}
 use Rattle.laws.proofs.Decided.{map-each}
@@ -71,12 +68,7 @@ module _ (p : Policy) (firsts others : List ℕ) (size count : ℕ → ℕ) (a :
   first-too : (s : ℕ) → List·Memᴰ s firsts → List·Memᴰ s others
   first-too s m =
       let (t, n, e) = b .in-one s (a .by-first s m .0) in
-      Memᴰ·cast (go t n e (test (ltb t s)) (test (ltb s t))) n
-    where
-      go : (t : ℕ) → List·Memᴰ t others → applyingTo p t ≡ applyingTo p s → Test (ltb t s) → Test (ltb s t) → s ≡ t
-      go t n e (passed x) y = absurd (a .by-first s m .1 t (ltb-true t s x) e)
-      go t n e (failed x) (passed y) = absurd (b .by-first t n .1 s (ltb-true s t y) (sym e))
-      go t n e (failed x) (failed y) = omega (arith, ltb-false t s x, ltb-false s t y)
+      Memᴰ·cast (neither-lower s t (λ l. b .by-first t n .1 s l (sym e)) (λ l. a .by-first s m .1 t l e)) n
 
   same-size : (s : ℕ) → List·Memᴰ s firsts → size s ≡ count s
   same-size s m =
@@ -108,12 +100,7 @@ fields-settle t u e = sym (text-again t) ∙ ap (λ ls. join newline (map (join 
 
 -- The first request that needs a rule
 same-change : (p q : Policy) (n m : ℕ) → FirstChange p q n → FirstChange p q m → n ≡ m
-same-change p q n m a b = go (test (ltb n m)) (test (ltb m n))
-  where
-    go : Test (ltb n m) → Test (ltb m n) → n ≡ m
-    go (passed x) y = absurd (a .differs (b .no-earlier n (ltb-true n m x)))
-    go (failed x) (passed y) = absurd (b .differs (a .no-earlier m (ltb-true m n y)))
-    go (failed x) (failed y) = omega (arith, ltb-false n m x, ltb-false m n y)
+same-change p q n m a b = neither-lower n m (λ l. a .differs (b .no-earlier n l)) (λ l. b .differs (a .no-earlier m l))
 
 -- The lines of a report
 module _ {p q : Policy} {t : Trimmed} {r s : Bytes} (a : Reported p q t r) (b : Reported p q t s) where
