@@ -14,7 +14,7 @@
 #include <stddef.h>
 #include <stdint.h>
 
-#define JOGIMADUVE_VERSION "1.1.0"
+#define JOGIMADUVE_VERSION "1.2.0"
 
 #ifdef __cplusplus
 extern "C" {
@@ -32,12 +32,12 @@ enum {
     JOGIMADUVE_BAD_LINE = 2,     /* line: empty line or field, other byte, no last newline, wrong first field or field count */
     JOGIMADUVE_BAD_NAME = 3,     /* line: a name not of 1 to 16 of a-z, A-Z, 0-9 and hyphen, or with a hyphen first */
     JOGIMADUVE_NAME_USED = 4,    /* line: name used before, letter case aside */
-    JOGIMADUVE_TOO_MANY = 5,     /* line: attribute 7, value 17, space over 4,096, element 65 */
+    JOGIMADUVE_TOO_MANY = 5,     /* line: attribute 7, value 17 (of an M line: 13), space over 4,096, element 65 */
     JOGIMADUVE_BAD_PLACE = 6,    /* line: attribute behind a tree line, tree line before any, bad depth, place or parent */
     JOGIMADUVE_BAD_WORD = 7,     /* line: word not allowed for its kind */
     JOGIMADUVE_BAD_TARGET = 8,   /* line: bad target; its values are spelled as on the attribute line */
     JOGIMADUVE_NO_ELEMENT = 9,   /* 0: no tree line */
-    JOGIMADUVE_BAD_REQUEST = 10, /* place of the first request field that is no value; 0 if the field count is wrong */
+    JOGIMADUVE_BAD_REQUEST = 10, /* place of the first request field that is no value, or no set of values; 0 if the field count is wrong */
     JOGIMADUVE_SHORT_BUFFER = 11 /* bytes: so many are needed */
 };
 
@@ -48,15 +48,16 @@ enum { JOGIMADUVE_PERMIT = 0, JOGIMADUVE_DENY = 1, JOGIMADUVE_NOT_APPLICABLE = 2
  * the report of most files; and the stack that an operation may use, to be added to what a thread needs besides. */
 enum {
     JOGIMADUVE_LONGEST_FILE = 16384,
-    JOGIMADUVE_LONGEST_REQUEST = 101,
+    JOGIMADUVE_LONGEST_REQUEST = 288,
     JOGIMADUVE_REPORT_BUFFER = 65536,
     JOGIMADUVE_DECIDE_STACK = 16384,
     JOGIMADUVE_TRIM_STACK = 65536,
     JOGIMADUVE_REPORT_STACK = 262144
 };
 
-/* Decides a request: one value name for each attribute of the file, in order and in any letter case, parted by tabs, no
- * newline. */
+/* Decides a request: one field for each attribute of the file, in order, parted by tabs, no newline. For an attribute of an
+ * A line it is a value's name; for one of an M line the names of one or more values, each once and in the order of that
+ * line, parted by commas: a target matches if it has one of them. Names may be in any letter case. */
 jogimaduve_answer jogimaduve_decide(const uint8_t *file, size_t file_length,
                                     const uint8_t *request, size_t request_length);
 

@@ -11,13 +11,20 @@ static uint8_t long_file[JOGIMADUVE_LONGEST_FILE + 1];
 #define REFUSED(file, number, second) answers(jogimaduve_trim(TEXT(file), buffer, sizeof buffer), number, second, file, __LINE__)
 #define DECIDED(file, request, decision) answers(jogimaduve_decide(TEXT(file), TEXT(request)), JOGIMADUVE_DONE, decision, request, __LINE__)
 
-/* The longest request that can be good: six names of 16 bytes, and a byte more. */
+/* The longest request that can be good: 17 names of 16 bytes, twelve of them a set's, and a byte more. */
 static void longest_request(void) {
-    static char file[512], request[JOGIMADUVE_LONGEST_REQUEST + 2];
-    size_t size = 0, length = 0;
-    for (int i = 0; i < 6; i++) size += (size_t)sprintf(file + size, "A\t%c\t0123456789abcdef\n", 'a' + i);
+    static char file[512], request[512];
+    size_t size = (size_t)sprintf(file, "M\ta"), length = 0;
+    for (int i = 0; i < 12; i++) {
+        size += (size_t)sprintf(file + size, "\t0123456789abcde%c", 'a' + i);
+        length += (size_t)sprintf(request + length, "%s0123456789abcde%c", i == 0 ? "" : ",", 'a' + i);
+    }
+    size += (size_t)sprintf(file + size, "\n");
+    for (int i = 1; i < 6; i++) {
+        size += (size_t)sprintf(file + size, "A\t%c\t0123456789abcdef\n", 'a' + i);
+        length += (size_t)sprintf(request + length, "\t0123456789abcdef");
+    }
     size += (size_t)sprintf(file + size, "P\t0\ttop\tdeny-overrides\t*\t*\t*\t*\t*\t*\n");
-    for (int i = 0; i < 6; i++) length += (size_t)sprintf(request + length, "%s0123456789abcdef", i == 0 ? "" : "\t");
     check(length == JOGIMADUVE_LONGEST_REQUEST, "the longest request", __LINE__);
     answers(jogimaduve_decide((const uint8_t *)file, size, (const uint8_t *)request, length), JOGIMADUVE_DONE, JOGIMADUVE_NOT_APPLICABLE, "the longest request", __LINE__);
     request[length] = 'x';

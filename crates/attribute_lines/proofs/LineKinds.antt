@@ -8,8 +8,8 @@ use mathlib.Core.Option.{none}
 use lib.Dec.{ltb}
 use lib.ListN.{length, getD}
 use borrow.Author.Tests.{ltb-true, ltb-false}
-use Rattle.meaning.specs.Text.{Bytes, bytes, all, same, cut, tab, isField}
-use Rattle.meaning.specs.Reading.{Line, otherLine, kindOf, lineOf, Sofar, Tests, wrongFields, lineTests}
+use Rattle.meaning.specs.Text.{Bytes, all, cut, tab, isField}
+use Rattle.meaning.specs.Reading.{Line, otherLine, kindOf, attributeLetter, lineOf, Sofar, Tests, wrongFields, lineTests}
 use Rattle.laws.proofs.Bools.{Test, passed, failed, test, or-true}
 use Rattle.syntax.specs.declared.LineKind.{LineKind}
 use Rattle.syntax.specs.Fields.{lineKind}
@@ -34,7 +34,7 @@ refused-2 f t p st end h = stopped (sym (wrong-refused lineTests (readSofar f t 
 
 -- A line by its kind; any other is wrong by test 2, whatever was read so far
 abbrev pub ShapeIs : List Bytes → LineKind → ℕ → Type 0
-ShapeIs fs LineKind.Attribute n = AttributeLine fs n
+ShapeIs fs (LineKind.Attribute several) n = AttributeLine several fs n
 ShapeIs fs (LineKind.Tree k) n = TreeLine fs k n
 ShapeIs fs LineKind.Other n = (s : Sofar) → wrongFields s fs (lineOf fs) ≡ true
 
@@ -45,7 +45,7 @@ few-other (f ∷ []) l = refl
 few-other (f ∷ g ∷ []) l = refl
 few-other (f ∷ g ∷ h ∷ more) l = absurd (omega arith)
 
-letter-other : (fs : List Bytes) → same (getD fs 0 []) (bytes "A") ≡ false → kindOf (getD fs 0 []) ≡ none → lineOf fs ≡ otherLine
+letter-other : (fs : List Bytes) → attributeLetter (getD fs 0 []) ≡ false → kindOf (getD fs 0 []) ≡ none → lineOf fs ≡ otherLine
 letter-other [] a t = refl
 letter-other (f ∷ []) a t = refl
 letter-other (f ∷ g ∷ []) a t = refl
@@ -73,7 +73,7 @@ module _ (fs : List Bytes) (n : ℕ) (counted : n ≡ cond (all isField fs) (len
   by-kind l k letter = go k (good-fields l) (subst (ByLetter (getD fs 0 [])) (sym letter) (by-letter (getD fs 0 [])))
     where
       go : (k : LineKind) → (all isField fs ≡ true) × (n ≡ length fs) → ByLetter (getD fs 0 []) k → ShapeIs fs k n
-      go LineKind.Attribute (g, m) a = record { fields = g; count = m; three = l; letter = a }
+      go (LineKind.Attribute several) (g, m) a = record { fields = g; count = m; three = l; letter = a }
       go (LineKind.Tree kind) (g, m) (a, t) = record { fields = g; count = m; three = l; no-attribute = a; letter = t }
       go LineKind.Other g (a, t) = λ s. rw (letter-other fs a t) (or-true (not (all isField fs)) true refl)
 

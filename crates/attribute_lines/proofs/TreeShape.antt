@@ -10,9 +10,9 @@ use lib.ListN.{length, drop, getD}
 use borrow.Author.Tests.{eq-eqb, ne-eqb}
 use Rattle.meaning.specs.declared.Kind.{Kind}
 use Rattle.meaning.specs.declared.Kind.the-variants.{Set, Policy, Rule}
-use Rattle.meaning.specs.Text.{Bytes, bytes, all, same, isField}
+use Rattle.meaning.specs.Text.{Bytes, all, isField}
 use Rattle.meaning.specs.Model.{kindText}
-use Rattle.meaning.specs.Reading.{Line, treeLine, kindOf, lineOf, Sofar, Tests, lowest, wrongFields}
+use Rattle.meaning.specs.Reading.{Line, treeLine, kindOf, attributeLetter, lineOf, Sofar, Tests, lowest, wrongFields}
 use Rattle.laws.proofs.Bools.{or-true}
 use Rattle.laws.proofs.Lines.{spelled-some}
 use Rattle.attribute_lines.specs.Sofar.{refusalBy, TreeLine}
@@ -22,7 +22,7 @@ pub record TreeFields (fs : List Bytes) (k : Kind) : Type 0 where
   pub are : fs ≡ kindText k ∷ getD fs 1 [] ∷ getD fs 2 [] ∷ getD fs 3 [] ∷ drop 4 fs
   pub is-tree : lineOf fs ≡ treeLine k (getD fs 1 []) (getD fs 2 []) (getD fs 3 []) (drop 4 fs)
 
-pub tree-fields : (fs : List Bytes) (k : Kind) → same (getD fs 0 []) (bytes "A") ≡ false → kindOf (getD fs 0 []) ≡ some k → 4 ≤ length fs → TreeFields fs k
+pub tree-fields : (fs : List Bytes) (k : Kind) → attributeLetter (getD fs 0 []) ≡ false → kindOf (getD fs 0 []) ≡ some k → 4 ≤ length fs → TreeFields fs k
 tree-fields [] k a e l = absurd (omega arith)
 tree-fields (f ∷ []) k a e l = absurd (omega arith)
 tree-fields (f ∷ g ∷ []) k a e l = absurd (omega arith)
@@ -36,7 +36,7 @@ module _ (s : Sofar) (fs : List Bytes) (k : Kind) (n : ℕ) (line : TreeLine fs 
   pub wrong-count : (n ≡ 4 + length (s .attributes) → ⊥) → wrongFields s fs (lineOf fs) ≡ true
   wrong-count h = go fs (line .no-attribute) (line .letter) (line .count)
     where
-      go : (fs : List Bytes) → same (getD fs 0 []) (bytes "A") ≡ false → kindOf (getD fs 0 []) ≡ some k → n ≡ length fs → wrongFields s fs (lineOf fs) ≡ true
+      go : (fs : List Bytes) → attributeLetter (getD fs 0 []) ≡ false → kindOf (getD fs 0 []) ≡ some k → n ≡ length fs → wrongFields s fs (lineOf fs) ≡ true
       go [] a e m = absurd (omega (arith, line .three))
       go (f ∷ []) a e m = absurd (omega (arith, line .three))
       go (f ∷ g ∷ []) a e m = absurd (omega (arith, line .three))

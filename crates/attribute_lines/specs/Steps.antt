@@ -1,6 +1,6 @@
 -- What a state of reading stands for, and what reading one line does.
 use Prim.Native.Nat.{ℕ, _+_, _-_, _*_, _≤_, _<_}
-use mathlib.Core.Bool.{cond}
+use mathlib.Core.Bool.{Bool, cond}
 use mathlib.Core.List.{List, []}
 use mathlib.Core.Path.{_≡_}
 use lib.Dec.{eqb}
@@ -10,7 +10,7 @@ use Rattle.meaning.specs.Model.{space}
 use Rattle.meaning.specs.Reading.{lineOf, Sofar}
 use Rattle.table.specs.Rows.{Rows}
 use Rattle.layout.specs.declared.Attributes.{Attributes}
-use Rattle.layout.specs.Places.{part, attributesOf, AllStanding, noAttributes, added, elementsTo, Named, lineStart, placed, Lined}
+use Rattle.layout.specs.Places.{part, attributesOf, AllStanding, sizeOf, noAttributes, added, elementsTo, Named, lineStart, placed, Lined}
 use Rattle.layout.specs.Nearest.{Stands}
 use Rattle.attribute_lines.specs.declared.State.{State}
 use Rattle.attribute_lines.specs.declared.Step.{Step}
@@ -56,20 +56,20 @@ abbrev pub beginning : State
 beginning = record { at = 0; line = 1; attributes = noAttributes; space = 1; tree = record { len = 0; depth = 0; kinds = replicate 8 0 } }
 
 -- the state behind an attribute line of these fields, so many
-abbrev pub behindAttribute : State → ℕ → List Bytes → ℕ → State
-behindAttribute st end fs fields =
+abbrev pub behindAttribute : State → ℕ → (several : Bool) → List Bytes → ℕ → State
+behindAttribute st end several fs fields =
     record {
       at = end + 1;
       line = st .line + 1;
-      attributes = added (st .attributes) (st .at + 2) (st .at + 3 + length (getD fs 1 [])) end (fields - 2);
-      space = st .space * (fields - 2);
+      attributes = added (st .attributes) several (st .at + 2) (st .at + 3 + length (getD fs 1 [])) end (fields - 2);
+      space = st .space * sizeOf several (fields - 2);
       tree = st .tree;
     }
 
 -- an attribute line: its refusal and the same state, or the state behind it
-pub record AttributeStep (f : Bytes) (st : State) (end fields : ℕ) (r : Step) : Type 0 where
-  pub refusal : AttributeRefusal f (st .attributes) (st .space) (st .tree .len) (cut tab (part f (st .at) end)) fields (r .refusal)
-  pub state : r .state ≡ cond (eqb (r .refusal) 0) (behindAttribute st end (cut tab (part f (st .at) end)) fields) st
+pub record AttributeStep (f : Bytes) (st : State) (end : ℕ) (several : Bool) (fields : ℕ) (r : Step) : Type 0 where
+  pub refusal : AttributeRefusal f (st .attributes) (st .space) (st .tree .len) several (cut tab (part f (st .at) end)) fields (r .refusal)
+  pub state : r .state ≡ cond (eqb (r .refusal) 0) (behindAttribute st end several (cut tab (part f (st .at) end)) fields) st
 
 -- What was read before a state's line, and laid down
 abbrev pub readSofar : Bytes → List ℕ → List ℕ → State → Sofar

@@ -4,6 +4,7 @@ use layout::Tree;
 use syntax::LineKind;
 ghost use mathlib.Core.Path.{_≡_};
 ghost use Rattle.meaning.specs.Text.{cut, tab};
+ghost use Rattle.meaning.specs.Model.{Attribute, mostValues};
 ghost use Rattle.layout.specs.Places.{part};
 ghost use Rattle.attribute_lines.specs.Sofar.{Tested, AttributeRefusal, AttributeLine, CountIs, shapeOf};
 ghost use Rattle.attribute_lines.specs.Steps.{InFile, EndedLine, beginning, AttributeStep};
@@ -48,17 +49,25 @@ pub fn start() -> State
     }
 }
 
+// The most values that an attribute may have.
+fn most_values(several: bool) -> usize
+    ensures { λ r. ⌜ ((a : Attribute) → a .several ≡ several → r ≡ mostValues a) ⌝ }
+{
+    if several { 12 } else { 16 }
+}
+
 // The lowest of 3 to 6 that refuses an attribute line of so many fields, or 0.
 fn attribute_refusal(
     file: &[u8],
     a: Attributes,
     space: usize,
     elements: usize,
+    several: bool,
     line: &[u8],
     fields: usize,
 ) -> usize
     requires { ⌜ Tested (now file) a space (cut tab (now line)) fields ⌝ }
-    ensures { λ r. ⌜ AttributeRefusal (now (file .entry)) a space elements (cut tab (now (line .entry))) fields r ⌝ }
+    ensures { λ r. ⌜ AttributeRefusal (now (file .entry)) a space elements several (cut tab (now (line .entry))) fields r ⌝ }
 {
     if !names::all_names(text::from_field(line, 1)) {
         return 3;
@@ -73,10 +82,10 @@ fn attribute_refusal(
         return 5;
     }
     let values = fields - 2;
-    if 16 < values {
+    if most_values(several) < values {
         return 5;
     }
-    if 4096 < space * values {
+    if 4096 < space * layout::choices(several, values) {
         return 5;
     }
     if elements != 0 {
@@ -86,28 +95,28 @@ fn attribute_refusal(
 }
 
 // An attribute line of so many fields.
-pub fn attribute_line(file: &[u8], st: State, end: usize, fields: usize) -> Step
-    requires { ⌜ InFile (now file) st × EndedLine (now file) st end × AttributeLine (cut tab (part (now file) (st .at) end)) fields ⌝ }
-    ensures { λ r. ⌜ AttributeStep (now (file .entry)) st end fields r ⌝ }
+pub fn attribute_line(file: &[u8], st: State, end: usize, several: bool, fields: usize) -> Step
+    requires { ⌜ InFile (now file) st × EndedLine (now file) st end × AttributeLine several (cut tab (part (now file) (st .at) end)) fields ⌝ }
+    ensures { λ r. ⌜ AttributeStep (now (file .entry)) st end several fields r ⌝ }
 {
     let at = st.at;
     let a = st.attributes;
     let space = st.space;
     let tree = st.tree;
     let line = &file[at..end];
-    let refusal = attribute_refusal(file, a, space, tree.len, line, fields);
+    let refusal = attribute_refusal(file, a, space, tree.len, several, line, fields);
     if refusal != 0 {
         return Step { refusal, state: st };
     }
     let name = fields::field(line, 1);
     let first = at + 3 + name.len();
     let values = fields - 2;
-    let attributes = layout::with_attribute(a, at + 2, first, end, values);
+    let attributes = layout::with_attribute(a, several, at + 2, first, end, values);
     let state = State {
         at: end + 1,
         line: st.line + 1,
         attributes,
-        space: space * values,
+        space: space * layout::choices(several, values),
         tree,
     };
     Step { refusal, state }

@@ -2,7 +2,7 @@
 use Prim.Native.Nat.{ℕ, zero, suc, _+_, _≤_, _<_, zero-le}
 use mathlib.Core.Path.{_≡_, refl, sym, ap, _∙_, subst⁻¹}
 use mathlib.Core.Logic.{⊎-elim}
-use mathlib.Core.Bool.{not}
+use mathlib.Core.Bool.{false, not}
 use mathlib.Core.List.{List, [], _∷_, map}
 use native.Mathlib.Nat.{eq-or-lt-of-le, add-zero, add-suc}
 use native.Mathlib.Numerals.{add-one}
@@ -87,7 +87,7 @@ end-told s r whole e number line = subst⁻¹ (CheckedAs r) e (record { number =
 
 -- Some attributes of any value counts
 abbrev pub standIns : List ℕ → List Attribute
-standIns ns = map (λ n. record { name = []; values = replicate n [] }) ns
+standIns ns = map (λ n. record { several = false; name = []; values = replicate n [] }) ns
 
 pub stand-in-counts : (ns : List ℕ) → ns ≡ valueCounts (standIns ns)
 stand-in-counts [] = refl

@@ -2,7 +2,7 @@
 use Prim.Native.Nat.{ℕ, _+_, _≤_}
 use mathlib.Core.Path.{_≡_, refl, sym, ap, _∙_}
 use native.Mathlib.Omega.{arith}
-use mathlib.Core.Bool.{true, false}
+use mathlib.Core.Bool.{Bool, true, false}
 use mathlib.Core.List.{List, [], _∷_}
 use lib.Dec.{lit≤}
 use lib.ListN.{length, getD}
@@ -25,7 +25,7 @@ use Rattle.attribute_lines.proofs.TreeShape.{wrong-count, by-tests}
 use Rattle.header.specs.Among.{blank, sofarAt, Among, Past}
 
 -- The writer's tests of an attribute line are those of a file
-attribute-alike : (s : Sofar) (fs : List Bytes) {n : ℕ} → AttributeLine fs n → refusalBy headerTests s fs ≡ refusalOf s fs
+attribute-alike : {several : Bool} (s : Sofar) (fs : List Bytes) {n : ℕ} → AttributeLine several fs n → refusalBy headerTests s fs ≡ refusalOf s fs
 unfolding refusalBy
 attribute-alike s fs l = rw (line-is fs l)
 
@@ -45,7 +45,7 @@ module _ (h : Bytes) (st : State) (end : ℕ) where
   abbrev fields : List Bytes
   fields = cut tab (part h (st .at) end)
 
-  pub past-attribute : {n : ℕ} (r : Step) → AttributeLine fields n → StepIs h blank blank blank blank st end r → Past h st end r
+  pub past-attribute : {several : Bool} {n : ℕ} (r : Step) → AttributeLine several fields n → StepIs h blank blank blank blank st end r → Past h st end r
   past-attribute r line step = record { refusal = step .refusal ∙ sym (attribute-alike (sofarAt h st) fields line); next = step .next; stays = λ some. step .stays some .state }
 
   pub past-tree : (a refusal : ℕ) → a ≡ st .attributes .len → ((s : Sofar) → length (s .attributes) ≡ a → refusal ≡ refusalBy headerTests s fields) × (1 ≤ refusal) → Past h st end (record { refusal = refusal; state = st })

@@ -48,7 +48,9 @@ fn header_line(header: &[u8], st: State, end: usize) -> Step
     let kind = shape.kind;
     let fields = shape.fields;
     match kind {
-        LineKind::Attribute => attribute_lines::attribute_line(header, st, end, fields),
+        LineKind::Attribute(several) => {
+            attribute_lines::attribute_line(header, st, end, several, fields)
+        }
         LineKind::Tree(_) => {
             let attributes = st.attributes;
             let refusal = tree_refusal(line, attributes.len, fields);

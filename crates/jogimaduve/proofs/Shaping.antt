@@ -1,12 +1,12 @@
 -- What a file that was read gives to trimming: the shape of its policy, and where its lines start.
-use mathlib.Core.Path.{_≡_, sym, ap, _∙_, subst}
+use mathlib.Core.Path.{_≡_, refl, sym, ap, ap₂, _∙_, subst}
 use Prim.Native.Nat.{ℕ, zero, suc, _+_, _-_, _≤_, _<_}
 use native.Mathlib.Nat.{le-trans}
 use native.Mathlib.Omega.{arith}
 use mathlib.Core.List.{List}
-use lib.ListN.{length, getD, replicate, getD-replicate}
+use lib.ListN.{length, getD, replicate, getD-replicate, length-set}
 use Rattle.meaning.specs.Text.{Bytes}
-use Rattle.meaning.specs.Model.{Policy, sizes, product, given, space}
+use Rattle.meaning.specs.Model.{Policy, sizes, severals, product, given, space}
 use Rattle.meaning.specs.Reading.{read}
 use Rattle.meaning.specs.Deciding.{requestOf, matches, hits}
 use Rattle.laws.proofs.Bounds.{bounded}
@@ -14,18 +14,18 @@ use Rattle.laws.proofs.Requests.{product-pos}
 use Rattle.laws.proofs.Answers.{positive}
 use Rattle.table.specs.Tree.{Leaves}
 use Rattle.table.specs.declared.Shape.{Shape}
-use Rattle.table.specs.Shape.{countsOf, hitOf}
+use Rattle.table.specs.Shape.{countsOf, lettersOf, hitOf}
 use Rattle.table.proofs.Children.{none-struck}
 use Rattle.outcomes.specs.PolicyTable.{PolicyTable}
-use Rattle.layout.specs.Places.{lineStart}
+use Rattle.layout.specs.Places.{lineStart, placed}
 use Rattle.layout.proofs.Laws.{attributes-length}
-use Rattle.layout.proofs.Counts.{sizes-are}
+use Rattle.layout.proofs.Counts.{sizes-are, severals-are, sets-counted}
 use Rattle.reader.specs.declared.Reading.{Reading}
 use Rattle.reader.specs.Told.{ReadPolicy}
 use Rattle.reader.proofs.FileRead.{elements-are, few}
 use Rattle.trimmed_text.specs.Copied.{Copies}
 use Rattle.trimmed_text.proofs.Tabled.{root-word, leaves as rules-are-leaves}
-use Rattle.jogimaduve.specs.Told.{shapeOf}
+use Rattle.jogimaduve.specs.Told.{Sizable, shapeOf}
 
 -- Lines start one behind the other
 start-rises : (f : Bytes) (k : ℕ) → lineStart f k ≤ lineStart f (suc k)
@@ -38,6 +38,12 @@ start-below f k (suc d) =
     let later : k + suc d ≡ suc (k + d) = omega arith in
     rw later (le-trans (start-below f k d) (start-rises f (k + d)))
 
+-- the attributes of some lines have six places
+letter-places : (f : Bytes) (n : ℕ) → length (placed f n .several) ≡ 6
+unfolding placed
+letter-places f zero = refl
+letter-places f (suc n) = length-set (placed f n .several) (placed f n .len) _ ∙ letter-places f n
+
 module _ (f table places : List ℕ) (r : Reading) (p : Policy) (h : read f ≡ given p) (holds : ReadPolicy f table places r p) where
   pub attributes-are : length (p .attributes) ≡ r .attributes .len
   attributes-are = ap length (holds .attributes) ∙ attributes-length f (r .attributes)
@@ -45,10 +51,18 @@ module _ (f table places : List ℕ) (r : Reading) (p : Policy) (h : read f ≡ 
   counts-are : countsOf (shapeOf r) ≡ sizes (p .attributes)
   counts-are = sizes-are f (r .attributes) (holds .spaced .standing) ∙ ap sizes (sym (holds .attributes))
 
+  pub letters-are : lettersOf (shapeOf r) ≡ severals (p .attributes)
+  letters-are =
+      let room : length (r .attributes .several) ≡ 6 = ap (λ a. length (a .several)) (holds .places-are) ∙ letter-places f (r .attributes .len) in
+      sym (severals-are f (r .attributes) (omega (arith, holds .spaced .standing .few))) ∙ ap severals (sym (holds .attributes))
+
+  pub sizable : Sizable r
+  sizable = record { few = holds .spaced .standing .few; few-values = holds .spaced .few-values }
+
   -- its requests are those of the policy, and so many
   pub hits-are : (m : ℕ) → hitOf (shapeOf r) m ≡ hits p m
   unfolding hitOf
-  hits-are m = ap (λ c. matches (requestOf c m)) counts-are
+  hits-are m = ap₂ (λ bs c. matches bs (requestOf c m)) letters-are counts-are
 
   pub space-is : r .space ≡ space (p .attributes)
   space-is = holds .space-is ∙ ap space (sym (holds .attributes))
@@ -67,7 +81,7 @@ module _ (f table places : List ℕ) (r : Reading) (p : Policy) (h : read f ≡ 
         stays = ap (λ flags. getD flags 0 0) none;
         leaves = leaves;
         rules = none-struck table struck (r .elements) (λ k l. ap (λ flags. getD flags k 0) none ∙ getD-replicate 64 k 0 0 (omega (arith, few f table places r p h holds)));
-        counted = record { attributes = holds .spaced .standing .few; all = ap product counts-are ∙ sym space-is };
+        counted = record { attributes = holds .spaced .standing .few; sets = λ i l several. (getD (r .attributes .counts) i 0, sets-counted (r .attributes) i l several); all = ap product counts-are ∙ sym space-is };
         positive = subst (λ m. 0 < m) (sym space-is) (product-pos (sizes (p .attributes)) (positive (p .attributes) (bounded f p h .attributes-good)));
         small = rw (holds .space-is) (holds .spaced .small);
       })

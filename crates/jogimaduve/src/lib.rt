@@ -4,16 +4,19 @@ use reader::Reading;
 use table::Shape;
 ghost use mathlib.Core.Path.{_≡_};
 ghost use Rattle.meaning.specs.Operations.{decideAnswer, trimAnswer, trimLent, reportAnswer, reportLent};
-ghost use Rattle.jogimaduve.specs.Told.{shapeOf};
+ghost use Rattle.jogimaduve.specs.Told.{Sizable, shapeOf};
 
 // The shape of the policy that was read.
-fn shape_of(reading: Reading) -> Shape
+pub fn shape_of(reading: Reading) -> Shape
+    requires { ⌜ Sizable reading ⌝ }
     ensures { λ r. ⌜ r ≡ shapeOf reading ⌝ }
 {
     let attributes = reading.attributes;
+    let several = attributes.several;
     let counts = layout::sizes(attributes);
     Shape {
         n: reading.elements,
+        several,
         counts,
         len: attributes.len,
         space: reading.space,

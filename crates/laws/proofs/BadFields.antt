@@ -9,17 +9,16 @@ use mathlib.Core.Option.{Option, none, some}
 use lib.ListN.{length, getD}
 use lib.Dec.{eqb, lit≤, lit<}
 use borrow.Author.Tests.{eqb-true, eqb-false, not-true, not-false}
-use Rattle.meaning.specs.Text.{Bytes, bytes, all, same, isField}
-use Rattle.meaning.specs.Model.{Attribute, kindText}
-use Rattle.meaning.specs.Reading.{Line, attributeLine, treeLine, otherLine, kindOf, lineOf, Sofar, Tests, lowest, wrongFields}
+use Rattle.meaning.specs.Text.{Bytes, all, same, isField}
+use Rattle.meaning.specs.Model.{Attribute, letterText, kindText}
+use Rattle.meaning.specs.Reading.{Line, attributeLine, treeLine, otherLine, kindOf, attributeLetter, lineOf, Sofar, Tests, lowest, wrongFields}
 use Rattle.meaning.specs.Claims.PolicyFile.{attributeFields}
 use Rattle.meaning.specs.Claims.Refusals.{BadFields, Lowest}
 use Rattle.laws.proofs.Types.{Kind, set, policy, rule}
 use Rattle.laws.proofs.Bools.{Test, passed, failed, test, contradiction, or-false, never}
 use Rattle.laws.proofs.Search.{none-some}
-use Rattle.laws.proofs.Text.{same-true}
 use Rattle.laws.proofs.Reading.{Numbered}
-use Rattle.laws.proofs.Lines.{spelled-some, attribute-fields, tree-fields, kind-not-attribute}
+use Rattle.laws.proofs.Lines.{spelled-some, letter-is, letter-attribute, letter-several, attribute-fields, tree-fields, kind-not-attribute}
 use Rattle.laws.proofs.Reflects.{Reflects, reflects, Matches, lowest-row, row-lowest, NumberedRows, row-number}
 use Rattle.laws.proofs.FirstBad.{allTests, Fails, unended, tested}
 
@@ -32,8 +31,14 @@ kind-again rule = refl
 pub kind-same : (j k : Kind) → kindText j ≡ kindText k → j ≡ k
 kind-same j k e = let s : some j ≡ some k = sym (kind-again j) ∙ ap kindOf e ∙ kind-again k in cc
 
-pub not-letter : (k : Kind) → bytes "A" ≢ kindText k
-not-letter k e = contradiction (ap (λ t. same t (bytes "A")) (sym e)) (kind-not-attribute k)
+pub not-letter : (several : Bool) (k : Kind) → letterText several ≢ kindText k
+not-letter several k e = contradiction (ap attributeLetter (sym e) ∙ letter-attribute several) (kind-not-attribute k)
+
+pub letter-same : (b c : Bool) → letterText b ≡ letterText c → b ≡ c
+letter-same b c e = sym (letter-several b) ∙ ap (λ t. same t (letterText true)) e ∙ letter-several c
+
+no-attribute : (f : Bytes) → attributeLetter f ≡ false → (several : Bool) → f ≢ letterText several
+no-attribute f e several i = contradiction (ap attributeLetter i ∙ letter-attribute several) e
 
 -- Row 2
 no-letter : (f : Bytes) → kindOf f ≡ none → (k : Kind) → f ≢ kindText k
@@ -41,15 +46,15 @@ no-letter f e k i = none-some (sym e ∙ ap kindOf i ∙ kind-again k)
 
 -- fewer than three fields
 few-fields : (attrs : List Attribute) (f : Bytes) (fs : List Bytes) → length (f ∷ fs) < 3 → BadFields attrs (f ∷ fs)
-few-fields attrs f fs l = go (test (same f (bytes "A"))) (kindOf f) refl
+few-fields attrs f fs l = go (test (attributeLetter f)) (kindOf f) refl
   where
-    go : Test (same f (bytes "A")) → (o : Option Kind) → kindOf f ≡ o → BadFields attrs (f ∷ fs)
-    go (passed e) o i = inr (inr (inl (same-true f (bytes "A") e, l)))
-    go (failed e) none i = inr (inl (λ x. contradiction (rw x refl) e, no-letter f i))
+    go : Test (attributeLetter f) → (o : Option Kind) → kindOf f ≡ o → BadFields attrs (f ∷ fs)
+    go (passed e) o i = inr (inr (inl (same f (letterText true), letter-is f e, l)))
+    go (failed e) none i = inr (inl (no-attribute f e, no-letter f i))
     go (failed e) (some k) i = inr (inr (inr (k, sym (spelled-some kindText f (set ∷ policy ∷ rule ∷ []) k i), omega (arith, l))))
 
 other-bad : (attrs : List Attribute) (fs : List Bytes) → lineOf fs ≡ otherLine → BadFields attrs fs
-other-bad attrs [] h = inr (inl (λ e. never cc, nothing-kind))
+other-bad attrs [] h = inr (inl (no-attribute [] refl, nothing-kind))
   where
     nothing-kind : (k : Kind) → [] ≢ kindText k
     nothing-kind set e = never cc
@@ -57,11 +62,11 @@ other-bad attrs [] h = inr (inl (λ e. never cc, nothing-kind))
     nothing-kind rule e = never cc
 other-bad attrs (f ∷ []) h = few-fields attrs f [] (lit< tt)
 other-bad attrs (f ∷ g ∷ []) h = few-fields attrs f (g ∷ []) (lit< tt)
-other-bad attrs (f ∷ g ∷ x ∷ xs) h = go (test (same f (bytes "A"))) (kindOf f) refl xs refl
+other-bad attrs (f ∷ g ∷ x ∷ xs) h = go (test (attributeLetter f)) (kindOf f) refl xs refl
   where
-    go : Test (same f (bytes "A")) → (o : Option Kind) → kindOf f ≡ o → (ys : List Bytes) → xs ≡ ys → BadFields attrs (f ∷ g ∷ x ∷ xs)
-    go (passed e) o i ys j = let z : attributeLine (record { name = g; values = x ∷ xs }) ≡ otherLine = rw e at h in never cc
-    go (failed e) none i ys j = inr (inl (λ y. contradiction (rw y refl) e, no-letter f i))
+    go : Test (attributeLetter f) → (o : Option Kind) → kindOf f ≡ o → (ys : List Bytes) → xs ≡ ys → BadFields attrs (f ∷ g ∷ x ∷ xs)
+    go (passed e) o i ys j = let z : attributeLine (record { several = same f (letterText true); name = g; values = x ∷ xs }) ≡ otherLine = rw e at h in never cc
+    go (failed e) none i ys j = inr (inl (no-attribute f e, no-letter f i))
     go (failed e) (some k) i [] j = inr (inr (inr (k, sym (spelled-some kindText f (set ∷ policy ∷ rule ∷ []) k i), λ c. omega (arith, c, ap length j))))
     go (failed e) (some k) i (w ∷ ts) j = let z : treeLine k g x w ts ≡ otherLine = rw (e, i, j) at h in never cc
 
@@ -91,9 +96,9 @@ module _ (s : Sofar) where
 
       go : BadFields (s .attributes) fs → ⊥
       go (inl e) = contradiction (not-false (all isField fs) (or-false (not (all isField fs)) false h .0)) e
-      go (inr (inl (n, k))) = n (ap (λ x. getD x 0 []) are)
-      go (inr (inr (inl (e, c)))) = omega (arith, c, ap length are, attribute-fields fs a i .some-value)
-      go (inr (inr (inr (k, e, c)))) = not-letter k (sym (ap (λ x. getD x 0 []) are) ∙ e)
+      go (inr (inl (n, k))) = n (a .several) (ap (λ x. getD x 0 []) are)
+      go (inr (inr (inl (b, e, c)))) = omega (arith, c, ap length are, attribute-fields fs a i .some-value)
+      go (inr (inr (inr (k, e, c)))) = not-letter (a .several) k (sym (ap (λ x. getD x 0 []) are) ∙ e)
   right-good fs (treeLine k d n w ts) i h b = go b
     where
       are : fs ≡ kindText k ∷ d ∷ n ∷ w ∷ ts
@@ -105,7 +110,7 @@ module _ (s : Sofar) where
       go : BadFields (s .attributes) fs → ⊥
       go (inl e) = contradiction (not-false (all isField fs) (or-false (not (all isField fs)) (not (eqb (length ts) (length (s .attributes)))) h .0)) e
       go (inr (inl (m, j))) = j k (ap (λ x. getD x 0 []) are)
-      go (inr (inr (inl (e, c)))) = omega (arith, c, ap length are)
+      go (inr (inr (inl (b, e, c)))) = omega (arith, c, ap length are)
       go (inr (inr (inr (j, e, c)))) = c (omega (arith, ap length are, counted))
   right-good fs otherLine i h b = contradiction refl (or-false (not (all isField fs)) true h .1)
 

@@ -2,21 +2,22 @@
 use mathlib.Core.Path.{_≡_, refl, sym, ap, _∙_}
 use Prim.Native.Nat.{ℕ, zero, suc, _+_, _*_, _/_, _%_, _≤_}
 use native.Mathlib.Omega.{arith}
-use mathlib.Core.Bool.{Bool, true, false}
-use mathlib.Core.List.{List, [], _∷_, List·Memᴰ, List·Memᴰ·head, List·Memᴰ·tail}
+use mathlib.Core.Bool.{Bool, true, false, cond}
+use mathlib.Core.List.{List, [], _∷_, List·Memᴰ, List·Memᴰ·head, List·Memᴰ·tail, List·Memᴰ·eq-of-singleton}
 use lib.ListN.{length, getD}
 use lib.Pow.{pow-pos}
 use borrow.Author.Tests.{eq-eqb, ne-eqb}
 use Rattle.meaning.specs.Text.{Bytes}
-use Rattle.meaning.specs.Model.{Attribute, Policy, sizes, given}
-use Rattle.meaning.specs.Reading.{full, badMasks, read}
-use Rattle.meaning.specs.Deciding.{Request, requestOf, bit, within}
+use Rattle.meaning.specs.Model.{Attribute, Policy, severals, sizes, given, full}
+use Rattle.meaning.specs.Reading.{badMasks, read}
+use Rattle.meaning.specs.Deciding.{Request, requestOf, bit, members, inField, within}
 use Rattle.meaning.specs.Claims.Texts.{All}
 use Rattle.meaning.specs.Claims.PolicyFile.{marksMask}
-use Rattle.meaning.specs.Claims.Requests.{Fits, InField, InTarget, Matched}
+use Rattle.meaning.specs.Claims.Requests.{Fits, InField, Shares, InTarget, Matched}
 use Rattle.laws.proofs.Bounds.{GoodElement}
 use Rattle.laws.proofs.Types.{Element}
 use Rattle.laws.proofs.Bools.{contradiction, and-true}
+use Rattle.laws.proofs.Search.{any-has, any-only}
 use Rattle.laws.proofs.Bounds.{masks-good, bounded}
 use Rattle.laws.proofs.Bits.{bit-zero, bit-down}
 use Rattle.laws.proofs.Marks.{marksOf, marks-mask}
@@ -44,20 +45,36 @@ in-field vs mask v l h =
     let e = marks-mask vs mask (omega (arith, pow-pos (length vs))) in
     (marksOf vs mask, e, sym (mark-bit (marksOf vs mask) v) ∙ ap (λ m. bit m v) (sym e) ∙ h)
 
-target-in : (ms : List ℕ) (q : Request) → InTarget ms q → within ms q ≡ true
-target-in ms [] t = refl
-target-in [] (v ∷ vs) t = absurd t
-target-in (m ∷ ms) (v ∷ vs) t = rw (field-in m v (t .0)) (target-in ms vs (t .1))
+-- a value of a request in a field, by the attribute's letter
+shares-in : (a : Attribute) (mask v : ℕ) → Shares a mask v → inField (a .several) mask v ≡ true
+shares-in a mask v (w, m, f) = go (a .several) m
+  where
+    go : (b : Bool) → List·Memᴰ w (cond b (members v) (v ∷ [])) → inField b mask v ≡ true
+    go true m = any-has (bit mask) w m (field-in mask w f)
+    go false m = ap (bit mask) (sym (List·Memᴰ·eq-of-singleton m)) ∙ field-in mask w f
 
-in-target : (attrs : List Attribute) (ms : List ℕ) (q : Request) → Fits (sizes attrs) q → badMasks attrs ms ≡ false → within ms q ≡ true → InTarget ms q
+in-shares : (a : Attribute) (mask v : ℕ) → mask ≤ full (a .values) → inField (a .several) mask v ≡ true → Shares a mask v
+in-shares a mask v l h = let (w, m, f) = go (a .several) h in (w, m, in-field (a .values) mask w l f)
+  where
+    go : (b : Bool) → inField b mask v ≡ true → (w : ℕ) × List·Memᴰ w (cond b (members v) (v ∷ [])) × (bit mask w ≡ true)
+    go true e = any-only (bit mask) (members v) e
+    go false e = (v, List·Memᴰ·head refl, e)
+
+target-in : (attrs : List Attribute) (ms : List ℕ) (q : Request) → InTarget attrs ms q → within (severals attrs) ms q ≡ true
+target-in attrs ms [] t = refl
+target-in [] ms (v ∷ vs) t = absurd t
+target-in (a ∷ attrs) [] (v ∷ vs) t = absurd t
+target-in (a ∷ attrs) (m ∷ ms) (v ∷ vs) t = rw (shares-in a m v (t .0)) (target-in attrs ms vs (t .1))
+
+in-target : (attrs : List Attribute) (ms : List ℕ) (q : Request) → Fits (sizes attrs) q → badMasks attrs ms ≡ false → within (severals attrs) ms q ≡ true → InTarget attrs ms q
 in-target [] ms [] f b h = tt
 in-target [] ms (v ∷ vs) f b h = absurd f
 in-target (a ∷ attrs) ms [] f b h = absurd f
 in-target (a ∷ attrs) [] (v ∷ vs) f b h = contradiction refl b
 in-target (a ∷ attrs) (m ∷ ms) (v ∷ vs) f b h =
     let g = masks-good a attrs m ms b in
-    let (own, others) = and-true (bit m v) (within ms vs) h in
-    (in-field (a .values) m v (g .no-high-bit) own, in-target attrs ms vs (f .1) (g .others) others)
+    let (own, others) = and-true (inField (a .several) m v) (within (severals attrs) ms vs) h in
+    (in-shares a m v (g .no-high-bit) own, in-target attrs ms vs (f .1) (g .others) others)
 
 one-good : (attrs : List Attribute) (e : Element) {es : List Element} → List·Memᴰ e es → All (GoodElement attrs) es → badMasks attrs (e .masks) ≡ false
 one-good attrs e (List·Memᴰ·head {x = x} {xs = xs} i) g = ap (λ y. badMasks attrs (y .masks)) i ∙ g .0 .masked
@@ -67,4 +84,4 @@ pub matched : (f : Bytes) (p : Policy) → read f ≡ given p → Matched p
 matched f p h =
     let b = bounded f p h in
     let numbers = numbered (p .attributes) (b .some-attribute) (b .attributes-good) in
-    λ n l e m. (λ t. in-target (p .attributes) (e .masks) (requestOf (sizes (p .attributes)) n) (numbers .number-again n l .0) (one-good (p .attributes) e m (b .elements-good)) t, target-in (e .masks) (requestOf (sizes (p .attributes)) n))
+    λ n l e m. (λ t. in-target (p .attributes) (e .masks) (requestOf (sizes (p .attributes)) n) (numbers .number-again n l .0) (one-good (p .attributes) e m (b .elements-good)) t, target-in (p .attributes) (e .masks) (requestOf (sizes (p .attributes)) n))

@@ -2,33 +2,27 @@
 use mathlib.Core.Path.{_≡_, refl, sym, ap, _∙_, subst}
 use Prim.Native.Nat.{ℕ, zero, suc, _+_, _≤_, _<_, suc-le-suc, zero-le}
 use native.Mathlib.Omega.{arith}
-use mathlib.Core.Bool.{true, false, not}
-use mathlib.Core.List.{List, [], _∷_, List·Memᴰ, List·Memᴰ·head, List·Memᴰ·tail}
+use mathlib.Core.List.{List, [], _∷_}
 use mathlib.Core.Option.{Option, none, some}
-use lib.ListN.{length, getD}
+use lib.ListN.{length}
 use lib.Dec.{eqb}
 use borrow.Author.Tests.{eqb-true, eq-eqb, ne-eqb}
-use Rattle.meaning.specs.Text.{Bytes, all, isNone, isName, sameName, amongNames, repeated, cut, join, tab}
+use Rattle.meaning.specs.Text.{Bytes, cut, join, tab}
 use Rattle.meaning.specs.Model.{Attribute, Policy, sizes, Result, refused, given}
 use Rattle.meaning.specs.Reading.{read}
-use Rattle.meaning.specs.Deciding.{Request, requestOf, valueOf, valuesOf, requestLine, decideFile}
-use Rattle.meaning.specs.Claims.Texts.{All, Paired, EqualNames, Among}
+use Rattle.meaning.specs.Deciding.{Request, requestOf, chosen, valuesOf, requestLine, decideFile}
+use Rattle.meaning.specs.Claims.Texts.{All, Paired, EqualNames}
 use Rattle.meaning.specs.Claims.PolicyFile.{GoodAttribute}
 use Rattle.meaning.specs.Claims.Requests.{requestFields, requestText, NamesRequest, ValueAt, Numbered}
 use Rattle.meaning.specs.Claims.Deciding.{Decides}
-use Rattle.laws.proofs.Bools.{Test, passed, failed, test, contradiction, or-false, and-true}
-use Rattle.laws.proofs.Search.{any-has, some-some, none-some}
-use Rattle.laws.proofs.Text.{Frees, cut-join, name-free}
-use Rattle.laws.proofs.Names.{name-refl, name-alike, equal-names, among, new-name, among-placed, names-distinct}
+use Rattle.laws.proofs.Bools.{Test, passed, failed, test}
+use Rattle.laws.proofs.Text.{Frees, cut-join}
+use Rattle.laws.proofs.Names.{name-refl, equal-names}
 use Rattle.laws.proofs.Reading.{refused-given, given-given}
 use Rattle.laws.proofs.Requests.{Fits, number-request, request-number, next-request, earlier-lower}
 use Rattle.laws.proofs.Bounds.{bounded}
+use Rattle.laws.proofs.Chosen.{field-free, named-chosen, chosen-named, value-chosen, none-chosen}
 use Rattle.laws.proofs.Answers.{positive, line-fits}
-
-getD-in : (vs : List Bytes) (v : ℕ) → v < length vs → List·Memᴰ (getD vs v []) vs
-getD-in [] v l = absurd (omega arith)
-getD-in (x ∷ xs) zero l = List·Memᴰ·head refl
-getD-in (x ∷ xs) (suc v) l = List·Memᴰ·tail (getD-in xs v (omega arith))
 
 paired-length : {A B : Type 0} (R : A → B → Type 0) (xs : List A) (ys : List B) → Paired R xs ys → length xs ≡ length ys
 paired-length R [] [] p = refl
@@ -40,43 +34,6 @@ paired-refl : (fs : List Bytes) → Paired EqualNames fs fs
 paired-refl [] = tt
 paired-refl (f ∷ fs) = (equal-names f f .holds (name-refl f), paired-refl fs)
 
--- A name equal to a value's is found at that value's number
-value-found : (i v : ℕ) (f : Bytes) (vs : List Bytes) → repeated vs ≡ false → v < length vs → sameName f (getD vs v []) ≡ true → valueOf i f vs ≡ some (i + v)
-value-found i v f [] d l s = absurd (omega arith)
-value-found i zero f (x ∷ xs) d l s = let e : i ≡ i + 0 = omega arith in rw s (ap some e)
-value-found i (suc v) f (x ∷ xs) d l s =
-    let (a, b) = or-false (amongNames x xs) (repeated xs) d in
-    let e : suc i + v ≡ i + suc v = omega arith in
-    rw (other a (test (sameName f x))) (value-found (suc i) v f xs b (omega arith) s ∙ ap some e)
-  where
-    other : amongNames x xs ≡ false → Test (sameName f x) → sameName f x ≡ false
-    other a (passed e) = contradiction (any-has (sameName x) (getD xs v []) (getD-in xs v (omega arith)) (sym (name-alike f x (getD xs v []) e) ∙ s)) a
-    other a (failed e) = e
-
--- what is found is the value of an equal name
-found-value : (i : ℕ) (f : Bytes) (vs : List Bytes) (w : ℕ) → valueOf i f vs ≡ some w → (v : ℕ) × (w ≡ i + v) × (sameName f (getD vs v []) ≡ true)
-found-value i f [] w h = none-some h
-found-value i f (x ∷ xs) w h = go (test (sameName f x)) (found-value (suc i) f xs w)
-  where
-    go : Test (sameName f x) → (valueOf (suc i) f xs ≡ some w → (v : ℕ) × (w ≡ suc i + v) × (sameName f (getD xs v []) ≡ true)) → (v : ℕ) × (w ≡ i + v) × (sameName f (getD (x ∷ xs) v []) ≡ true)
-    go (passed e) ih = let s : some i ≡ some w = rw e at h in let z : i ≡ w = some-some s in (0, omega arith, e)
-    go (failed e) ih = let (v, a, b) = ih (rw e at h) in (suc v, omega arith, b)
-
--- what is among the values has a number, what is not has none
-value-is : (f : Bytes) (vs : List Bytes) → Among f vs → (w : ℕ) × (valueOf 0 f vs ≡ some w)
-value-is f vs a = go (valueOf 0 f vs) refl
-  where
-    go : (o : Option ℕ) → valueOf 0 f vs ≡ o → (w : ℕ) × (valueOf 0 f vs ≡ some w)
-    go none e = contradiction (among f vs .tests a) (among-placed 0 f vs ∙ ap (λ o. not (isNone o)) e)
-    go (some w) e = (w, e)
-
-value-none : (f : Bytes) (vs : List Bytes) → (Among f vs → ⊥) → valueOf 0 f vs ≡ none
-value-none f vs n = go (valueOf 0 f vs) refl
-  where
-    go : (o : Option ℕ) → valueOf 0 f vs ≡ o → valueOf 0 f vs ≡ none
-    go none e = e
-    go (some w) e = contradiction (among-placed 0 f vs ∙ ap (λ o. not (isNone o)) e) (new-name f vs n)
-
 -- The fields that name a request, and back
 values-read : (i : ℕ) (attrs : List Attribute) (fs : List Bytes) (q : Request) → All GoodAttribute attrs → Fits (sizes attrs) q → Paired EqualNames fs (requestFields attrs q) → valuesOf i attrs fs ≡ given q
 values-read i [] fs [] g f p = refl
@@ -84,8 +41,7 @@ values-read i [] fs (v ∷ vs) g f p = absurd f
 values-read i (a ∷ attrs) fs [] g f p = absurd f
 values-read i (a ∷ attrs) [] (v ∷ vs) g f p = absurd p
 values-read i (a ∷ attrs) (x ∷ fs) (v ∷ vs) g f p =
-    let e : 0 + v ≡ v = omega arith in
-    rw (value-found 0 v x (a .values) (names-distinct (a .values) (g .0 .distinct)) (f .0) (equal-names x (getD (a .values) v []) .tests (p .0)), values-read (suc i) attrs fs vs (g .1) (f .1) (p .1), e)
+    rw (named-chosen a x v (g .0) (f .0) (p .0), values-read (suc i) attrs fs vs (g .1) (f .1) (p .1))
 
 fields-count : (attrs : List Attribute) (q : Request) → Fits (sizes attrs) q → length (requestFields attrs q) ≡ length attrs
 fields-count [] [] f = refl
@@ -93,43 +49,35 @@ fields-count [] (v ∷ vs) f = absurd f
 fields-count (a ∷ attrs) [] f = absurd f
 fields-count (a ∷ attrs) (v ∷ vs) f = ap suc (fields-count attrs vs (f .1))
 
-read-fields : (i : ℕ) (attrs : List Attribute) (fs : List Bytes) (q : Request) → length fs ≡ length attrs → valuesOf i attrs fs ≡ given q → Paired EqualNames fs (requestFields attrs q)
-read-fields i [] [] q e h = tt
-read-fields i [] (f ∷ fs) q e h = absurd (omega (arith, e))
-read-fields i (a ∷ attrs) [] q e h = absurd (omega (arith, e))
-read-fields i (a ∷ attrs) (f ∷ fs) q e h = go (valueOf 0 f (a .values)) refl (valuesOf (suc i) attrs fs) refl (λ r. read-fields (suc i) attrs fs r (omega (arith, e)))
+read-fields : (i : ℕ) (attrs : List Attribute) (fs : List Bytes) (q : Request) → All GoodAttribute attrs → length fs ≡ length attrs → valuesOf i attrs fs ≡ given q → Paired EqualNames fs (requestFields attrs q)
+read-fields i [] [] q g e h = tt
+read-fields i [] (f ∷ fs) q g e h = absurd (omega (arith, e))
+read-fields i (a ∷ attrs) [] q g e h = absurd (omega (arith, e))
+read-fields i (a ∷ attrs) (f ∷ fs) q g e h = go (chosen a f) refl (valuesOf (suc i) attrs fs) refl (λ r. read-fields (suc i) attrs fs r (g .1) (omega (arith, e)))
   where
-    go : (o : Option ℕ) → valueOf 0 f (a .values) ≡ o → (w : Result Request) → valuesOf (suc i) attrs fs ≡ w → ((r : Request) → valuesOf (suc i) attrs fs ≡ given r → Paired EqualNames fs (requestFields attrs r)) → Paired EqualNames (f ∷ fs) (requestFields (a ∷ attrs) q)
+    go : (o : Option ℕ) → chosen a f ≡ o → (w : Result Request) → valuesOf (suc i) attrs fs ≡ w → ((r : Request) → valuesOf (suc i) attrs fs ≡ given r → Paired EqualNames fs (requestFields attrs r)) → Paired EqualNames (f ∷ fs) (requestFields (a ∷ attrs) q)
     go none x w y ih = let s : refused 10 i ≡ given q = rw x at h in refused-given s
     go (some v) x (refused n m) y ih = let s : refused n m ≡ given q = rw (x, y) at h in refused-given s
     go (some v) x (given r) y ih =
         let s : given (v ∷ r) ≡ given q = rw (x, y) at h in
         let z : v ∷ r ≡ q = given-given s in
-        let (u, c, d) = found-value 0 f (a .values) v x in
-        let same-place : u ≡ v = omega arith in
-        let named : EqualNames f (getD (a .values) v []) = equal-names f (getD (a .values) v []) .holds (subst (λ k. sameName f (getD (a .values) k []) ≡ true) same-place d) in
-        subst (λ q. Paired EqualNames (f ∷ fs) (requestFields (a ∷ attrs) q)) z (named, ih r y)
+        subst (λ q. Paired EqualNames (f ∷ fs) (requestFields (a ∷ attrs) q)) z (chosen-named a f v (g .0) x, ih r y)
 
 -- The first field that is no value
-first-bad : (k i place : ℕ) (attrs : List Attribute) (fs : List Bytes) → place ≡ k + i → length fs ≡ length attrs → i < length attrs → ((j : ℕ) → j < i → ValueAt attrs fs j) → (ValueAt attrs fs i → ⊥) → valuesOf k attrs fs ≡ refused 10 place
-first-bad k i place [] fs p e l before bad = absurd (omega arith)
-first-bad k i place (a ∷ attrs) [] p e l before bad = absurd (omega (arith, e))
-first-bad k zero place (a ∷ attrs) (f ∷ fs) p e l before bad = let z : k ≡ place = omega arith in rw (value-none f (a .values) bad, z)
-first-bad k (suc i) place (a ∷ attrs) (f ∷ fs) p e l before bad =
-    let (w, x) = value-is f (a .values) (before 0 (suc-le-suc zero-le)) in
-    rw (x, first-bad (suc k) i place attrs fs (omega arith) (omega (arith, e)) (omega arith) (λ j u. before (suc j) (omega arith)) bad)
+first-bad : (k i place : ℕ) (attrs : List Attribute) (fs : List Bytes) → All GoodAttribute attrs → place ≡ k + i → length fs ≡ length attrs → i < length attrs → ((j : ℕ) → j < i → ValueAt attrs fs j) → (ValueAt attrs fs i → ⊥) → valuesOf k attrs fs ≡ refused 10 place
+first-bad k i place [] fs g p e l before bad = absurd (omega arith)
+first-bad k i place (a ∷ attrs) [] g p e l before bad = absurd (omega (arith, e))
+first-bad k zero place (a ∷ attrs) (f ∷ fs) g p e l before bad = let z : k ≡ place = omega arith in rw (none-chosen a f (g .0) bad, z)
+first-bad k (suc i) place (a ∷ attrs) (f ∷ fs) g p e l before bad =
+    let (w, x) = value-chosen a f (g .0) (before 0 (suc-le-suc zero-le)) in
+    rw (x, first-bad (suc k) i place attrs fs (g .1) (omega arith) (omega (arith, e)) (omega arith) (λ j u. before (suc j) (omega arith)) bad)
 
--- names hold no tab
+-- its fields hold no tab
 fields-free : (attrs : List Attribute) (q : Request) → All GoodAttribute attrs → Fits (sizes attrs) q → Frees tab (requestFields attrs q)
 fields-free [] [] g f = tt
 fields-free [] (v ∷ vs) g f = absurd f
 fields-free (a ∷ attrs) [] g f = absurd f
-fields-free (a ∷ attrs) (v ∷ vs) g f = (name-free tab (getD (a .values) v []) refl (named (a .values) v (g .0 .values-named) (f .0)), fields-free attrs vs (g .1) (f .1))
-  where
-    named : (ns : List Bytes) (v : ℕ) → all isName ns ≡ true → v < length ns → isName (getD ns v []) ≡ true
-    named [] v h l = absurd (omega arith)
-    named (n ∷ ns) zero h l = and-true (isName n) (all isName ns) h .0
-    named (n ∷ ns) (suc v) h l = named ns v (and-true (isName n) (all isName ns) h .1) (omega arith)
+fields-free (a ∷ attrs) (v ∷ vs) g f = (field-free a v (g .0) (f .0), fields-free attrs vs (g .1) (f .1))
 
 module _ (attrs : List Attribute) (some-attribute : 1 ≤ length attrs) (good : All GoodAttribute attrs) where
   text-fields : (q : Request) → Fits (sizes attrs) q → cut tab (requestText attrs q) ≡ requestFields attrs q
@@ -147,7 +95,7 @@ module _ (attrs : List Attribute) (some-attribute : 1 ≤ length attrs) (good : 
   to-names r q h = go (test (eqb (length (cut tab r)) (length attrs)))
     where
       go : Test (eqb (length (cut tab r)) (length attrs)) → NamesRequest attrs r q
-      go (passed e) = read-fields 1 attrs (cut tab r) q (eqb-true (length (cut tab r)) (length attrs) e) (rw e at h)
+      go (passed e) = read-fields 1 attrs (cut tab r) q good (eqb-true (length (cut tab r)) (length attrs) e) (rw e at h)
       go (failed e) = let s : refused 10 0 ≡ given q = rw e at h in refused-given s
 
   own-names : (q : Request) → Fits (sizes attrs) q → NamesRequest attrs (requestText attrs q) q
@@ -165,7 +113,7 @@ module _ (attrs : List Attribute) (some-attribute : 1 ≤ length attrs) (good : 
         to-line = λ q f. from-names (requestText attrs q) q f (own-names q f);
         by-line = λ r q. (λ e. (line-fits attrs r q e, to-names r q e), λ (f, p). from-names r q f p);
         wrong-count = λ r e. rw (ne-eqb (length (cut tab r)) (length attrs) e);
-        no-value = λ r i e l before bad. rw (eq-eqb (length (cut tab r)) (length attrs) e) (first-bad 1 i (suc i) attrs (cut tab r) (omega arith) e l before bad);
+        no-value = λ r i e l before bad. rw (eq-eqb (length (cut tab r)) (length attrs) e) (first-bad 1 i (suc i) attrs (cut tab r) good (omega arith) e l before bad);
       }
 
 pub decides : (f : Bytes) (p : Policy) → read f ≡ given p → Decides decideFile f p

@@ -19,7 +19,7 @@ use Rattle.meaning.specs.Claims.Writing.{attributeLine as isAttribute, attribut
 use Rattle.laws.proofs.Bools.{Test, passed, failed, test, contradiction, or-false, and-true}
 use Rattle.laws.proofs.Text.{join-cut, Frees, cut-frees}
 use Rattle.laws.proofs.Reading.{given-given, step-unless, passes-lowest, line-numbered, PassesLine, read-step, read-step⁻, read-text, short-text, finished-some, Accepted, accepted}
-use Rattle.laws.proofs.Lines.{spelled-some, attribute-fields, tree-fields, kind-not-attribute, unlines, text-unlines, cut-unlines, frees-front}
+use Rattle.laws.proofs.Lines.{spelled-some, letter-attribute, attribute-fields, tree-fields, kind-not-attribute, unlines, text-unlines, cut-unlines, frees-front}
 use Rattle.laws.proofs.Targets.{field-read}
 use Rattle.laws.proofs.Fields.{digit}
 use Rattle.laws.proofs.Bounds.{placed-depth, masks-good, padded-name, header-numbered}
@@ -149,7 +149,7 @@ whole-again n attrs (l ∷ ls) z h =
         → ((a : Attribute) → readLines lineTests [] (suc n) (only (attrs ++ (a ∷ []))) ls ≡ given z → Whole (suc n) (attrs ++ (a ∷ [])) ls z) → Whole n attrs (l ∷ ls) z
     go (attributeLine a) e p r later =
         let w = later a r in
-        let letter : isAttribute l ≡ true = rw (attribute-fields (cut tab l) a e .are) in
+        let letter : isAttribute l ≡ true = rw (attribute-fields (cut tab l) a e .are) (letter-attribute (a .several)) in
         let own = keep isAttribute ls in
         record {
           fields-same = rw (letter, w .fields-same);

@@ -12,8 +12,7 @@ use Rattle.meaning.specs.Reading.{read}
 use Rattle.meaning.specs.Trimming.{lines, isRuleLine, nameAt, ruleLines, Trimmed, trimmed}
 use Rattle.meaning.specs.Segments.{segments, segmentSize, Conflict, conflicts}
 use Rattle.meaning.specs.Report.{report}
-use Rattle.meaning.specs.Claims.Texts.{Ordered}
-use Rattle.meaning.specs.Claims.Deciding.{Rising}
+use Rattle.meaning.specs.Claims.Texts.{Ordered, Rising}
 use Rattle.meaning.specs.Claims.Segments.{Segmented, Before, ConflictsListed}
 use Rattle.meaning.specs.Claims.Trimming.{Trims, FirstChange, Reported, ReportOf, TrimsSoundly}
 use Rattle.meaning.specs.Claims.ReportLines.{segmentRow, conflictRow, struckRow, keptRow, fieldLines}

@@ -11,7 +11,7 @@ use lib.Seq.{drop-append-seam}
 use lib.Dec.{eqb}
 use borrow.Author.Tests.{eqb-true, not-true, not-false}
 use Rattle.meaning.specs.Text.{Bytes, empty, all, isNone, amongNames, isField, isName}
-use Rattle.meaning.specs.Model.{Attribute, padded, nameOf, space, kindText}
+use Rattle.meaning.specs.Model.{Attribute, padded, nameOf, mostValues, space, kindText}
 use Rattle.meaning.specs.Reading.{Line, attributeLine, treeLine, otherLine, lineOf, depthOf, wordOf, orPermit, targetOf, masksOf, elementOf, Sofar, wellPlaced, Tests, lowest, wrongFields, nonZero, badName, badMasks, attributeTests, elementTests, lineTests}
 use Rattle.meaning.specs.Claims.Texts.{All, Among}
 use Rattle.meaning.specs.Claims.PolicyFile.{GoodAttribute, attributeFields, attributeNames, Targets, PlacedAt}
@@ -29,7 +29,7 @@ use Rattle.laws.proofs.TreeLines.{word-allowed, allowed-word, zeros, na
 use Rattle.laws.proofs.Placed.{placed-well, well-placed}
 use Rattle.laws.proofs.Names.{among, some-twice, names-distinct}
 use Rattle.laws.proofs.Reflects.{Reflects, reflects, either, either-of-three, opposite, never-holds, at-least, more-than, not-nothing, is-nothing, Matches}
-use Rattle.laws.proofs.BadFields.{kind-same, not-letter, Beside}
+use Rattle.laws.proofs.BadFields.{kind-same, not-letter, letter-same, Beside}
 
 -- the masks of some targets
 masks-of : (attrs : List Attribute) (ts : List Bytes) (ms : List ℕ) → All GoodAttribute attrs → Targets attrs ts ms → masksOf attrs ts ≡ ms
@@ -46,17 +46,17 @@ masks-of (a ∷ attrs) (t ∷ ts) (m ∷ ms) g x =
 -- A row on an attribute line and on a tree line
 module _ (A : Attribute → Type 0) (T : Kind → Bytes → Bytes → Bytes → List Bytes → Type 0) (b : Bool) where
   on-attribute : (a : Attribute) → Reflects b (A a) → Reflects b (On A T (attributeFields a))
-  on-attribute a r = record { holds = λ e. inl (refl, r .holds e); tests = go }
+  on-attribute a r = record { holds = λ e. inl (a .several, refl, r .holds e); tests = go }
     where
       go : On A T (attributeFields a) → b ≡ true
-      go (inl (e, x)) = r .tests x
-      go (inr (k, e, x)) = absurd (not-letter k e)
+      go (inl (c, e, x)) = r .tests (subst (λ several. A (record { several = several; name = a .name; values = a .values })) (sym (letter-same (a .several) c e)) x)
+      go (inr (k, e, x)) = absurd (not-letter (a .several) k e)
 
   pub on-tree : (k : Kind) (d n w : Bytes) (ts : List Bytes) → Reflects b (T k d n w ts) → Reflects b (On A T (kindText k ∷ d ∷ n ∷ w ∷ ts))
   on-tree k d n w ts r = record { holds = λ e. inr (k, refl, r .holds e); tests = go }
     where
       go : On A T (kindText k ∷ d ∷ n ∷ w ∷ ts) → b ≡ true
-      go (inl (e, x)) = absurd (not-letter k (sym e))
+      go (inl (c, e, x)) = absurd (not-letter c k (sym e))
       go (inr (j, e, x)) = r .tests (subst (λ i. T i d n w ts) (sym (kind-same k j e)) x)
 
 -- Rows 3 to 6 of an attribute line
@@ -82,7 +82,7 @@ module _ (s : Sofar) where
       on-attribute (Used attrs) (λ k d n w ts. Among n (map nameOf before)) _ a (either _ _ _ _ (among (a .name) (attributeNames attrs)) (some-twice (a .values))),
       (
         refl,
-        on-attribute (TooMany attrs) (λ k d n w ts. 64 ≤ length before) _ a (either-of-three _ _ _ _ _ _ (at-least 6 (length attrs)) (more-than 16 (length (a .values))) (more-than 4096 (space (attrs ++ (a ∷ []))))),
+        on-attribute (TooMany attrs) (λ k d n w ts. 64 ≤ length before) _ a (either-of-three _ _ _ _ _ _ (at-least 6 (length attrs)) (more-than (mostValues a) (length (a .values))) (more-than 4096 (space (attrs ++ (a ∷ []))))),
         (
           refl,
           on-attribute (λ a. 1 ≤ length before) (λ k d n w ts. BadPlace attrs before k d) _ a (not-nothing before),

@@ -12,7 +12,8 @@ use lib.Dec.{eqb}
 use lib.Pow.{pow-pos, pow-lt}
 use borrow.Author.Tests.{eq-eqb, ne-eqb, eqb-true, eqb-false}
 use Rattle.meaning.specs.Text.{Bytes, bytes, all, same, sameName, amongNames, repeated, cut, join, comma, isName}
-use Rattle.meaning.specs.Reading.{twice, maskOf, full, notFull, targetOf}
+use Rattle.meaning.specs.Model.{full}
+use Rattle.meaning.specs.Reading.{twice, maskOf, notFull, targetOf}
 use Rattle.meaning.specs.Writing.{valueNames, targetText}
 use Rattle.laws.proofs.Bools.{Test, passed, failed, test, or-false, or-true, and-true, never}
 use Rattle.laws.proofs.Text.{Some, one-or-more, cut-some, join-cut, cut-join, same-true, same-refl, other-byte, NonEmptyName, name-bytes, name-of, names-free}
@@ -31,7 +32,7 @@ names-zero (v ∷ vs) = names-zero vs
 abbrev MaskNames : List Bytes → List Bytes → ℕ → Type 0
 MaskNames vs ns m = (valueNames vs m ≡ ns) × (m < 2 ^ length vs)
 
-mask-names : (vs ns : List Bytes) (m : ℕ) → maskOf vs ns ≡ some m → MaskNames vs ns m
+pub mask-names : (vs ns : List Bytes) (m : ℕ) → maskOf vs ns ≡ some m → MaskNames vs ns m
 mask-names [] [] m h = let e : 0 ≡ m = cc in (refl, omega arith)
 mask-names [] (n ∷ ns) m h = never cc
 mask-names (v ∷ vs) [] m h = let e : 0 ≡ m = cc in (rw (← e) (names-zero (v ∷ vs)), rw (← e) (pow-pos (suc (length vs))))
@@ -63,7 +64,7 @@ not-full vs (some k) m h = go (test (eqb k (full vs)))
         (i, λ x. n (j ∙ x))
 
 -- A mask that names something is not empty
-some-names : (vs : List Bytes) (m : ℕ) → Some (valueNames vs m) → 0 < m
+pub some-names : (vs : List Bytes) (m : ℕ) → Some (valueNames vs m) → 0 < m
 some-names vs zero s = none-named (valueNames vs 0) s (names-zero vs)
   where
     none-named : (ns : List Bytes) → Some ns → ns ≡ [] → 0 < 0
@@ -113,7 +114,7 @@ names-among (v ∷ vs) m n ns h = go (test (eqb (m % 2) 1)) (names-among vs (m /
         rw (j, name-refl n)
     go (failed e) later = or-true (sameName n v) (amongNames n vs) (later (rw e at h))
 
-mask-again : (vs : List Bytes) (m : ℕ) → repeated vs ≡ false → m < 2 ^ length vs → maskOf vs (valueNames vs m) ≡ some m
+pub mask-again : (vs : List Bytes) (m : ℕ) → repeated vs ≡ false → m < 2 ^ length vs → maskOf vs (valueNames vs m) ≡ some m
 mask-again [] m r l = ap some (omega arith)
 mask-again (v ∷ vs) m r l =
     let (once, others) = or-false (amongNames v vs) (repeated vs) r in
@@ -134,7 +135,7 @@ mask-again (v ∷ vs) m r l =
         let h' : maskOf vs (n ∷ ns) ≡ some (m / 2) = rw i at h in
         rw (e, i, not-same v n vs once (names-among vs (m / 2) n ns i), h') (ap some (omega arith))
 
-names-named : (vs : List Bytes) (m : ℕ) → all isName vs ≡ true → all isName (valueNames vs m) ≡ true
+pub names-named : (vs : List Bytes) (m : ℕ) → all isName vs ≡ true → all isName (valueNames vs m) ≡ true
 names-named [] m h = refl
 names-named (v ∷ vs) m h =
     let (own, others) = and-true (isName v) (all isName vs) h in

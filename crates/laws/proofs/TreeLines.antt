@@ -10,8 +10,8 @@ use lib.Seq.{length-take-le, take-append-seam, drop-append-seam}
 use lib.Dec.{leb}
 use borrow.Author.Tests.{leb-true, ne-eqb, le-ltb}
 use Rattle.meaning.specs.Text.{Bytes, bytes, all, isNone, same, between, nameByte, isName}
-use Rattle.meaning.specs.Model.{Attribute, nameOf, kindText, wordText}
-use Rattle.meaning.specs.Reading.{full, wordOf, nonZero, badMasks}
+use Rattle.meaning.specs.Model.{Attribute, nameOf, kindText, wordText, full}
+use Rattle.meaning.specs.Reading.{wordOf, nonZero, badMasks}
 use Rattle.meaning.specs.Writing.{targetTexts, elementFields}
 use Rattle.meaning.specs.Claims.Texts.{All}
 use Rattle.meaning.specs.Claims.PolicyFile.{GoodAttribute, Targets, Allowed, TreeLine, TreeLines}

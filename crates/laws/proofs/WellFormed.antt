@@ -4,13 +4,13 @@ use mathlib.Core.Logic.{_↔_}
 use Prim.Native.Nat.{ℕ, suc, _+_, _≤_, _<_, zero-le, suc-le-suc}
 use native.Mathlib.Omega.{arith}
 use native.Mathlib.Nat.{mul-le-mul-left}
-use mathlib.Core.Bool.{true, false}
+use mathlib.Core.Bool.{Bool, true, false}
 use mathlib.Core.List.{List, [], _∷_, _++_, map, reverse, reverseAux, reverse-reverse, map-append, append-assoc, append-nil}
 use lib.ListN.{length, length-append, length-map, length-reverse}
 use lib.Seq.{append-snoc}
 use borrow.Author.Tests.{lt-leb, le-ltb}
-use Rattle.meaning.specs.Text.{Bytes, bytes, empty, all, cut, join, newline, tab, isField, isName}
-use Rattle.meaning.specs.Model.{Attribute, nameOf, Policy, sizes, space, given, wordText}
+use Rattle.meaning.specs.Text.{Bytes, empty, all, cut, join, newline, tab, isField, isName}
+use Rattle.meaning.specs.Model.{Attribute, nameOf, Policy, choices, mostValues, sizes, space, given, letterText, wordText}
 use Rattle.meaning.specs.Reading.{Line, attributeLine, lineOf, Sofar, Tests, attributeTests, elementTests, lineTests, withElement, extended, readLines, nothing, read}
 use Rattle.meaning.specs.Writing.{headerTests, readElements, elementFields}
 use Rattle.meaning.specs.Claims.Texts.{All, Each, DistinctNames}
@@ -49,22 +49,27 @@ names-fields [] h = refl
 names-fields (n ∷ ns) h = let (a, b) = and-true (isName n) (all isName ns) h in rw (name-field n a, names-fields ns b)
 
 module _ (a : Attribute) (g : GoodAttribute a) where
+  letter-field : (several : Bool) → isField (letterText several) ≡ true
+  letter-field true = refl
+  letter-field false = refl
+
   fields-good : all isField (attributeFields a) ≡ true
-  fields-good = rw (name-field (a .name) (g .named), names-fields (a .values) (g .values-named))
+  fields-good = rw (letter-field (a .several), name-field (a .name) (g .named), names-fields (a .values) (g .values-named))
 
   pub text-cut : cut tab (attributeText a) ≡ attributeFields a
-  text-cut = cut-join tab (bytes "A") (a .name ∷ a .values) (fields-free tab (attributeFields a) refl fields-good)
+  text-cut = cut-join tab (letterText (a .several)) (a .name ∷ a .values) (fields-free tab (attributeFields a) refl fields-good)
 
   is-attribute : lineOf (attributeFields a) ≡ attributeLine a
-  is-attribute = go (a .name) (a .values) (g .some-value)
+  is-attribute = go (a .several) (a .name) (a .values) (g .some-value)
     where
-      go : (n : Bytes) (vs : List Bytes) → 1 ≤ length vs → lineOf (bytes "A" ∷ n ∷ vs) ≡ attributeLine (record { name = n; values = vs })
-      go n [] l = absurd (omega arith)
-      go n (v ∷ vs) l = refl
+      go : (several : Bool) (n : Bytes) (vs : List Bytes) → 1 ≤ length vs → lineOf (letterText several ∷ n ∷ vs) ≡ attributeLine (record { several = several; name = n; values = vs })
+      go several n [] l = absurd (omega arith)
+      go true n (v ∷ vs) l = refl
+      go false n (v ∷ vs) l = refl
 
 space-grows : (xs ys : List Attribute) → All GoodAttribute ys → space xs ≤ space (xs ++ ys)
 space-grows [] ys g = product-pos (sizes ys) (positive ys g)
-space-grows (x ∷ xs) ys g = mul-le-mul-left (length (x .values)) (space-grows xs ys g)
+space-grows (x ∷ xs) ys g = mul-le-mul-left (choices x) (space-grows xs ys g)
 
 -- by the reader and, alone, by the writer
 module _ (tests : Sofar → Line → Tests) (numbered : (s : Sofar) (l : Line) → Numbered (tests s l)) (alike : (s : Sofar) (a : Attribute) → tests s (attributeLine a) ≡ attributeTests s a) where
@@ -77,7 +82,7 @@ module _ (tests : Sofar → Line → Tests) (numbered : (s : Sofar) (l : Line) �
       let few : length attrs < 6 = omega (arith, l, length-append attrs (a ∷ bs)) in
       let small : space (attrs ++ (a ∷ [])) ≤ 4096 = omega (arith, s, ap space split, space-grows (attrs ++ (a ∷ [])) bs (g .1)) in
       let own : Passes (attributeTests (only attrs) a) =
-      (rw (g .0 .named, g .0 .values-named), (rw (new, names-distinct (a .values) (g .0 .distinct)), (rw (lt-leb 6 (length attrs) few, le-ltb 16 (length (a .values)) (g .0 .few-values), le-ltb 4096 (space (attrs ++ (a ∷ []))) small), (refl, tt)))) in
+      (rw (g .0 .named, g .0 .values-named), (rw (new, names-distinct (a .values) (g .0 .distinct)), (rw (lt-leb 6 (length attrs) few, le-ltb (mostValues a) (length (a .values)) (g .0 .few-values), le-ltb 4096 (space (attrs ++ (a ∷ []))) small), (refl, tt)))) in
       let passes : PassesLine tests numbered (only attrs) (attributeFields a) (attributeLine a) = (rw (fields-good a (g .0)), subst Passes (sym (alike (only attrs) a)) own) in
       let later = attributes-read rest bs (attrs ++ (a ∷ [])) (suc n) m more (omega arith) (g .1) (subst (λ x. DistinctNames (attributeNames x)) (sym split) d) (subst (λ x. length x ≤ 6) (sym split) l) (subst (λ x. space x ≤ 4096) (sym split) s) in
       read-step⁻ tests numbered rest n (only attrs) (attributeText a) (map attributeText bs ++ more) (subst (λ x. PassesLine tests numbered (only attrs) x (lineOf x)) (sym (text-cut a (g .0))) (subst (PassesLine tests numbered (only attrs) (attributeFields a)) (sym (is-attribute a (g .0))) passes))

@@ -10,8 +10,8 @@ use lib.Pow.{pow-pos}
 use lib.Dec.{eqb, ltb}
 use borrow.Author.Tests.{ltb-true, ltb-false, not-true, not-false}
 use Rattle.meaning.specs.Text.{Bytes, all, isNone, isName, isField}
-use Rattle.meaning.specs.Model.{Attribute, nameOf, kindText, wordText}
-use Rattle.meaning.specs.Reading.{Line, attributeLine, treeLine, otherLine, lineOf, full, wordOf, Sofar, wellPlaced, Tests, lowest, wrongFields, nonZero, badName, badMasks, attributeTests, elementTests}
+use Rattle.meaning.specs.Model.{Attribute, nameOf, kindText, wordText, full}
+use Rattle.meaning.specs.Reading.{Line, attributeLine, treeLine, otherLine, lineOf, wordOf, Sofar, wellPlaced, Tests, lowest, wrongFields, nonZero, badName, badMasks, attributeTests, elementTests}
 use Rattle.meaning.specs.Writing.{headerTests}
 use Rattle.meaning.specs.Claims.Texts.{Among}
 use Rattle.meaning.specs.Claims.PolicyFile.{attributeFields, Allowed, Placed}
@@ -37,7 +37,7 @@ module _ (attrs : List Attribute) where
   attribute-matches : (a : Attribute) → Matches (attributeTests (only attrs) a) (laterHeaderRows attrs (attributeFields a))
   attribute-matches a =
       let (n3, r3, (n4, r4, (n5, r5, rest))) = attribute-rows (only attrs) a in
-      (n3, r3, (n4, r4, (n5, r5, (refl, reflects false _ (λ e. contradiction e refl) (λ e x. not-letter (x .0) (x .1)), tt))))
+      (n3, r3, (n4, r4, (n5, r5, (refl, reflects false _ (λ e. contradiction e refl) (λ e x. not-letter (a .several) (x .0) (x .1)), tt))))
 
   -- a tree line, which is 6, by tests that are as many as the rows
   abbrev treeTests : Bytes → Tests

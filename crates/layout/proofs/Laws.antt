@@ -2,6 +2,7 @@
 use Prim.Native.Nat.{ℕ, zero, suc, _+_, _-_, _*_, _≤_, _<_}
 use mathlib.Core.Path.{_≡_, refl, sym, ap, _∙_}
 use mathlib.Core.Logic.{⊎-elim}
+use mathlib.Core.Bool.{Bool}
 use mathlib.Core.List.{List, [], _∷_, _++_, map, reverse, reverse-cons, map-append}
 use native.Mathlib.Nat.{eq-or-lt-of-le}
 use native.Mathlib.Numerals.{add-one}
@@ -10,7 +11,7 @@ use lib.ListN.{length, getD, set, length-set, replicate, getD-replicate}
 use lib.Seq.{sets, getD-set-same, getD-set-other, take-append-seam, length-sets}
 use borrow.Author.Tests.{eq-eqb}
 use Rattle.meaning.specs.Text.{Bytes}
-use Rattle.meaning.specs.Model.{padded, nameOf, Policy}
+use Rattle.meaning.specs.Model.{padded, nameOf, Policy, severals}
 use Rattle.meaning.specs.Deciding.{matches, childReplies, firstDecision, decide}
 use Rattle.meaning.specs.Claims.Texts.{All}
 use Rattle.laws.proofs.Types.{rule, Element}
@@ -136,12 +137,12 @@ empty-stands = record { room = refl; count = refl; last = refl; kinds = λ d l. 
 abbrev pub bare : Element → Element
 bare e = record { kind = rule; depth = e .depth; name = replicate 16 0; len = 0; word = e .word; masks = e .masks }
 
-module _ (q : List ℕ) where
-  replies-bare : (d : ℕ) (es : List Element) → childReplies (matches q) d (map bare es) ≡ childReplies (matches q) d es
+module _ (bs : List Bool) (q : List ℕ) where
+  replies-bare : (d : ℕ) (es : List Element) → childReplies (matches bs q) d (map bare es) ≡ childReplies (matches bs q) d es
   replies-bare d [] = refl
   replies-bare d (e ∷ es) = rw (replies-bare d es, replies-bare (suc d) es)
 
-  pub decision-bare : (es : List Element) → firstDecision (matches q) (map bare es) ≡ firstDecision (matches q) es
+  pub decision-bare : (es : List Element) → firstDecision (matches bs q) (map bare es) ≡ firstDecision (matches bs q) es
   decision-bare [] = refl
   decision-bare (e ∷ es) = rw (replies-bare (suc (e .depth)) es)
 
@@ -173,8 +174,8 @@ module _ (table struck : List ℕ) where
 
 -- The decision on the table is that of the policy of its elements
 pub decided : (f : Bytes) (table places struck : List ℕ) (n : ℕ) (p : Policy) (q : List ℕ) → p .elements ≡ reverse (elementsTo f table places n) → ((k : ℕ) → k < n → getD struck k 0 ≡ 0)
-    → firstDecision (matches q) (left table struck 0 n) ≡ decide p q
+    → firstDecision (matches (severals (p .attributes)) q) (left table struck 0 n) ≡ decide p q
 decided f table places struck n p q is live =
-    ap (firstDecision (matches q)) (all-left table struck n live ∙ ap reverse (sym (elements-bare f table places n)) ∙ sym (map-reverse bare (elementsTo f table places n)))
-    ∙ decision-bare q (reverse (elementsTo f table places n))
-    ∙ ap (firstDecision (matches q)) (sym is)
+    ap (firstDecision (matches (severals (p .attributes)) q)) (all-left table struck n live ∙ ap reverse (sym (elements-bare f table places n)) ∙ sym (map-reverse bare (elementsTo f table places n)))
+    ∙ decision-bare (severals (p .attributes)) q (reverse (elementsTo f table places n))
+    ∙ ap (firstDecision (matches (severals (p .attributes)) q)) (sym is)

@@ -1,6 +1,6 @@
 -- Where attributes and elements stand in a file, and what the definitions make of the places.
-use Prim.Native.Nat.{ℕ, zero, suc, _+_, _-_, _*_, _≤_, _<_}
-use mathlib.Core.Bool.{cond}
+use Prim.Native.Nat.{ℕ, zero, suc, _+_, _-_, _*_, _^_, _≤_, _<_}
+use mathlib.Core.Bool.{Bool, true, false, cond}
 use mathlib.Core.List.{List, [], _∷_, map}
 use mathlib.Core.Path.{_≡_}
 use lib.Dec.{eqb}
@@ -8,8 +8,8 @@ use lib.ListN.{length, take, drop, getD, set, replicate}
 use Rattle.meaning.specs.declared.Kind.{Kind}
 use Rattle.meaning.specs.declared.Kind.the-variants.{Set, Policy, Rule}
 use Rattle.meaning.specs.declared.Element.{Element}
-use Rattle.meaning.specs.Text.{Bytes, cut, tab, newline}
-use Rattle.meaning.specs.Model.{Attribute, padded}
+use Rattle.meaning.specs.Text.{Bytes, same, cut, tab, newline}
+use Rattle.meaning.specs.Model.{Attribute, padded, letterText}
 use Rattle.table.specs.Rows.{elementAt}
 use Rattle.layout.specs.declared.Attributes.{Attributes}
 
@@ -17,10 +17,11 @@ use Rattle.layout.specs.declared.Attributes.{Attributes}
 abbrev pub part : Bytes → ℕ → ℕ → Bytes
 part f a b = take (b - a) (drop a f)
 
--- Attribute i: its name, which a tab ends, and its values up to the line's end
+-- Attribute i: whether it has several values in a request, its name, which a tab ends, and its values up to the line's end
 abbrev pub attributeAt : Bytes → Attributes → ℕ → Attribute
 attributeAt f a i =
     record {
+      several = getD (a .several) i false;
       name = part f (getD (a .names) i 0) (getD (a .values) i 0 - 1);
       values = cut tab (part f (getD (a .values) i 0) (getD (a .ends) i 0));
     }
@@ -44,20 +45,30 @@ pub record AllStanding (f : Bytes) (a : Attributes) : Type 0 where
   pub few : a .len ≤ 6
   pub each : (i : ℕ) → i < a .len → Standing f a i
 
--- how many values each attribute has; and how many choices each has in the space, by its places: today as many
+-- how many values each attribute has
 abbrev pub valueCounts : List Attribute → List ℕ
 valueCounts attrs = map (λ a. length (a .values)) attrs
 
+-- how many choices an attribute of n values has in the space: the values, or their non-empty sets; those of n attributes from
+-- i on; and all, with zeros behind them
+abbrev pub sizeOf : (several : Bool) → ℕ → ℕ
+sizeOf several n = cond several (2 ^ n - 1) n
+
+unfoldable pub sizesFrom : List Bool → List ℕ → ℕ → ℕ → List ℕ
+sizesFrom several counts i zero = []
+sizesFrom several counts i (suc n) = sizeOf (getD several i false) (getD counts i 0) ∷ sizesFrom several counts (i + 1) n
+
 unfoldable pub sizesOf : Attributes → List ℕ
-sizesOf a = a .counts
+sizesOf a = padded 6 (sizesFrom (a .several) (a .counts) 0 (a .len))
 
 -- no attribute; and one more behind those that are there
 abbrev pub noAttributes : Attributes
-noAttributes = record { names = replicate 6 0; values = replicate 6 0; ends = replicate 6 0; counts = replicate 6 0; len = 0 }
+noAttributes = record { several = replicate 6 false; names = replicate 6 0; values = replicate 6 0; ends = replicate 6 0; counts = replicate 6 0; len = 0 }
 
-abbrev pub added : Attributes → (name value end count : ℕ) → Attributes
-added a name value end count =
+abbrev pub added : Attributes → (several : Bool) (name value end count : ℕ) → Attributes
+added a several name value end count =
     record {
+      several = set (a .several) (a .len) several;
       names = set (a .names) (a .len) name;
       values = set (a .values) (a .len) value;
       ends = set (a .ends) (a .len) end;
@@ -128,7 +139,7 @@ placed f (suc n) =
     let at = lineStart f n in
     let end = lineStart f (suc n) - 1 in
     let fields = cut tab (part f at end) in
-    added before (at + 2) (at + 3 + length (getD fields 1 [])) end (length fields - 2)
+    added before (same (getD fields 0 []) (letterText true)) (at + 2) (at + 3 + length (getD fields 1 [])) end (length fields - 2)
 
 -- So many attributes have a line each and n elements behind them too; the next line starts at `at`
 pub record Lined (start : ℕ → ℕ) (places : List ℕ) (attributes n at : ℕ) : Type 0 where

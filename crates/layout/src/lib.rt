@@ -3,18 +3,20 @@ use meaning::Kind;
 use table::Row;
 ghost use mathlib.Core.Path.{_≡_};
 ghost use mathlib.Core.List.{List, [], _∷_, map};
-ghost use Prim.Native.Nat.{_+_, _*_, _≤_, _<_};
-ghost use lib.ListN.{length};
+ghost use Prim.Native.Nat.{ℕ, _+_, _*_, _≤_, _<_};
+ghost use lib.ListN.{length, getD};
 ghost use lib.Seq.{sets};
 ghost use Rattle.meaning.specs.declared.Element.{Element};
 ghost use Rattle.meaning.specs.Text.{amongNames};
 ghost use Rattle.meaning.specs.Reading.{wellPlaced};
 ghost use Rattle.table.specs.Rows.{Rows, withRow};
-ghost use Rattle.layout.specs.Places.{attributesOf, AllStanding, sizesOf, noAttributes, added, namesTo, Named};
+ghost use Rattle.layout.specs.Places.{attributesOf, AllStanding, sizeOf, sizesOf, noAttributes, added, namesTo, Named};
 ghost use Rattle.layout.specs.Nearest.{kindNumber, parentNumber, grown, Stands};
 
-// Where each attribute stands: the start of its name, of its first value, the end of its line; and its value count.
+// Whether each attribute has several values in a request, and where it stands: the start of its name, of its first value, the
+// end of its line; and its value count.
 pub struct Attributes {
+    pub several: [bool; 6],
     pub names: [usize; 6],
     pub values: [usize; 6],
     pub ends: [usize; 6],
@@ -34,6 +36,7 @@ pub fn no_attributes() -> Attributes
     ensures { λ r. ⌜ r ≡ noAttributes ⌝ }
 {
     Attributes {
+        several: [false; 6],
         names: [0; 6],
         values: [0; 6],
         ends: [0; 6],
@@ -42,11 +45,32 @@ pub fn no_attributes() -> Attributes
     }
 }
 
-// How many choices each attribute has in the space.
+// How many choices an attribute of so many values has in the space: its values, or their non-empty sets.
+pub fn choices(several: bool, values: usize) -> usize
+    requires { ⌜ values ≤ 16 ⌝ }
+    ensures { λ r. ⌜ r ≡ sizeOf several values ⌝ }
+{
+    if several {
+        return (1usize << values) - 1;
+    }
+    values
+}
+
+// How many choices each attribute has in the space; zeros behind the last.
 pub fn sizes(a: Attributes) -> [usize; 6]
+    requires { ⌜ (a .len ≤ 6) × ((i : ℕ) → i < a .len → getD (a .counts) i 0 ≤ 16) ⌝ }
     ensures { λ r. ⌜ r ≡ sizesOf a ⌝ }
 {
-    a.counts
+    let several = a.several;
+    let counts = a.counts;
+    let len = a.len;
+    let mut sizes: [usize; 6] = [0; 6];
+    let mut i = 0;
+    while i < len {
+        sizes[i] = choices(several[i], counts[i]);
+        i += 1;
+    }
+    sizes
 }
 
 // Whether an attribute has this name.
@@ -72,24 +96,28 @@ pub fn known_attribute(file: &[u8], a: Attributes, name: &[u8]) -> bool
 // The attributes with one more behind them.
 pub fn with_attribute(
     a: Attributes,
+    several: bool,
     name: usize,
     value: usize,
     end: usize,
     count: usize,
 ) -> Attributes
     requires { ⌜ a .len < 6 ⌝ }
-    ensures { λ r. ⌜ r ≡ added a name value end count ⌝ }
+    ensures { λ r. ⌜ r ≡ added a several name value end count ⌝ }
 {
     let len = a.len;
+    let mut severals = a.several;
     let mut names = a.names;
     let mut values = a.values;
     let mut ends = a.ends;
     let mut counts = a.counts;
+    severals[len] = several;
     names[len] = name;
     values[len] = value;
     ends[len] = end;
     counts[len] = count;
     Attributes {
+        several: severals,
         names,
         values,
         ends,

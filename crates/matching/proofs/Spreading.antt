@@ -15,18 +15,18 @@ use Rattle.laws.proofs.Bools.{Test, passed, failed, test}
 use Rattle.matching.specs.Planes.{laid, Clear, Plane}
 use Rattle.matching.proofs.Laying.{over}
 
--- request m's value is in the mask, and the later values pass
-abbrev pub spreads : List ℕ → ℕ → ℕ → ℕ → Bool
-spreads plane size mask m = bit mask (m / size) && laid plane (m % size)
+-- what request m has at the attribute passes a test, and what it has at the later ones passes theirs
+abbrev pub spreads : (ℕ → Bool) → List ℕ → ℕ → ℕ → Bool
+spreads passes plane size m = passes (m / size) && laid plane (m % size)
 
 -- v values are looked at, which are `at` requests
 pub record Spreads (plane : List ℕ) (size mask : ℕ) (to : List ℕ) (rest at v : ℕ) : Type 0 where
   pub words : length to ≡ 64
   pub place : at ≡ v * size
   pub left : rest ≡ mask / 2 ^ v
-  pub plane-so-far : Plane to at (spreads plane size mask)
+  pub plane-so-far : Plane to at (spreads (bit mask) plane size)
 
-clear-zeros : (m : ℕ) → m < 4096 → laid (replicate 64 0) m ≡ false
+pub clear-zeros : (m : ℕ) → m < 4096 → laid (replicate 64 0) m ≡ false
 clear-zeros m l = rw (getD-replicate {A = ℕ} 64 (m / 64) 0 0 (omega arith)) (bit-zero (m % 64))
 
 module _ (plane : List ℕ) (size mask : ℕ) where
@@ -72,7 +72,7 @@ module _ (plane : List ℕ) (size mask : ℕ) where
           plane-so-far = record { bits = λ m l. go m l (test (ltb m at)); clear = clear };
         }
       where
-        go : (m : ℕ) → m < at + size → Test (ltb m at) → laid new m ≡ spreads plane size mask m
+        go : (m : ℕ) → m < at + size → Test (ltb m at) → laid new m ≡ spreads (bit mask) plane size m
         go m l (passed t) = let h = ltb-true m at t in before m h ∙ so-far .plane-so-far .bits m h
         go m l (failed t) = let h = ltb-false m at t in here m h l ∙ sym (rw (value m h l, others m h l))
 
@@ -99,5 +99,5 @@ module _ (plane : List ℕ) (size mask : ℕ) where
     pub value-out : (rest % 2 ≡ 1 → ⊥) → bit mask v ≡ false
     value-out e = ne-eqb (mask / 2 ^ v % 2) 1 (λ one. e (ap (λ x. x % 2) (so-far .left) ∙ one))
 
-  pub spreads-all : {to : List ℕ} {rest at v count : ℕ} → Spreads plane size mask to rest at v → v ≡ count → Plane to (count * size) (spreads plane size mask)
+  pub spreads-all : {to : List ℕ} {rest at v count : ℕ} → Spreads plane size mask to rest at v → v ≡ count → Plane to (count * size) (spreads (bit mask) plane size)
   spreads-all {to} all end = let place = all .place ∙ ap (λ x. x * size) end in rw place at (all .plane-so-far)

@@ -10,14 +10,15 @@ use lib.ListN.{length, take, drop, getD, set, replicate, getD-replicate}
 use lib.Seq.{getD-set-other, drop-cons}
 use borrow.Author.Tests.{eqb-true, eqb-false}
 use Rattle.meaning.specs.Model.{product}
-use Rattle.meaning.specs.Deciding.{bit, within, requestOf}
+use Rattle.meaning.specs.Deciding.{bit, inField, within, requestOf}
 use Rattle.laws.proofs.Bits.{bit-zero, bit-above}
 use Rattle.laws.proofs.Bools.{Test, passed, failed, test}
 use Rattle.laws.proofs.Requests.{Positive, product-pos}
-use Rattle.requests.proofs.Laws.{rest-cons, rest-none, counts-positive}
+use Rattle.requests.proofs.Laws.{rest-cons, rest-none, counts-positive, positive-at}
+use Rattle.requests.proofs.Targets.{letters-cons}
 use Rattle.table.specs.Rows.{elementAt, masksAt}
 use Rattle.table.specs.declared.Shape.{Shape}
-use Rattle.table.specs.Shape.{countsOf, hitOf}
+use Rattle.table.specs.Shape.{countsOf, lettersOf, hitOf}
 use Rattle.matching.specs.Hits.{Hits}
 use Rattle.matching.specs.Planes.{laid, Clear, Plane}
 use Rattle.matching.proofs.Copying.{PlaneCopied}
@@ -44,10 +45,10 @@ one-clear m a b = go (test (eqb (m / 64) 0))
         rw (getD-set-other {A = ℕ} (replicate 64 0) 0 (m / 64) 1 0 (eqb-false (m / 64) 0 t), getD-replicate {A = ℕ} 64 (m / 64) 0 0 (omega arith))
         (bit-zero (m % 64))
 
-module _ (masks counts : List ℕ) (len : ℕ) where
+module _ (bs : List Bool) (masks counts : List ℕ) (len : ℕ) where
   -- request m of the attributes from place a on matches their masks
   abbrev pub passes : ℕ → ℕ → Bool
-  passes a m = within (drop a masks) (requestOf (drop a (take len counts)) m)
+  passes a m = within (drop a (take len bs)) (drop a masks) (requestOf (drop a (take len counts)) m)
 
   -- the attributes from place a on are looked at
   pub record Looks (plane : List ℕ) (size a : ℕ) : Type 0 where
@@ -55,7 +56,7 @@ module _ (masks counts : List ℕ) (len : ℕ) where
     pub all : size ≡ product (drop a (take len counts))
     pub bits : Plane plane size (passes a)
 
-  module _ (room : length masks ≡ 6) (short : len ≤ 6) (six : length counts ≡ 6) where
+  module _ (letters : length bs ≡ 6) (room : length masks ≡ 6) (short : len ≤ 6) (six : length counts ≡ 6) where
     pub looks-none : Looks one 1 len
     looks-none =
         let none = rest-none len len counts (omega arith) refl in
@@ -77,6 +78,9 @@ module _ (masks counts : List ℕ) (len : ℕ) where
       counts-at : drop (a - 1) (take len counts) ≡ getD counts (a - 1) 0 ∷ drop a (take len counts)
       counts-at = rw back at (rest-cons len (a - 1) counts (omega (arith, so-far .few)) (omega arith))
 
+      letters-at : drop (a - 1) (take len bs) ≡ getD bs (a - 1) false ∷ drop a (take len bs)
+      letters-at = rw back at (letters-cons len (a - 1) bs (omega (arith, so-far .few)) (omega arith))
+
       masks-at : drop (a - 1) masks ≡ getD masks (a - 1) 0 ∷ drop a masks
       masks-at = let next : suc (a - 1) ≡ a = omega arith in rw next at (drop-cons masks (a - 1) 0 (omega (arith, so-far .few)))
 
@@ -86,10 +90,13 @@ module _ (masks counts : List ℕ) (len : ℕ) where
       pub size-some : 0 < size
       size-some = rw (so-far .all) (later a (take len counts) (counts-positive (take len counts) some) .0)
 
+      pub count-some : 0 < getD counts (a - 1) 0
+      count-some = positive-at len (a - 1) counts (omega (arith, so-far .few)) (omega arith) (counts-positive (take len counts) some)
+
       pub next-small : getD counts (a - 1) 0 * size ≤ 4096
       next-small = rw next-size (le-trans (later (a - 1) (take len counts) (counts-positive (take len counts) some) .1) small)
 
-      pub looks-next : (new : List ℕ) → Plane new (getD counts (a - 1) 0 * size) (spreads plane size (getD masks (a - 1) 0)) → Looks new (getD counts (a - 1) 0 * size) (a - 1)
+      pub looks-next : (new : List ℕ) → Plane new (getD counts (a - 1) 0 * size) (spreads (inField (getD bs (a - 1) false) (getD masks (a - 1) 0)) plane size) → Looks new (getD counts (a - 1) 0 * size) (a - 1)
       looks-next new spread =
           record {
             few = omega (arith, so-far .few);
@@ -97,23 +104,23 @@ module _ (masks counts : List ℕ) (len : ℕ) where
             bits = record { bits = λ m l. spread .bits m l ∙ one-more m; clear = spread .clear };
           }
         where
-          one-more : (m : ℕ) → spreads plane size (getD masks (a - 1) 0) m ≡ passes (a - 1) m
+          one-more : (m : ℕ) → spreads (inField (getD bs (a - 1) false) (getD masks (a - 1) 0)) plane size m ≡ passes (a - 1) m
           one-more m =
-              ap (λ b. bit (getD masks (a - 1) 0) (m / size) && b) (so-far .bits .bits (m % size) (mod-lt m size-some))
-              ∙ rw (counts-at, masks-at, so-far .all)
+              ap (λ b. inField (getD bs (a - 1) false) (getD masks (a - 1) 0) (m / size) && b) (so-far .bits .bits (m % size) (mod-lt m size-some))
+              ∙ rw (letters-at, counts-at, masks-at, so-far .all)
 
 module _ (t : List ℕ) (s : Shape) where
   pub hits-none : (hits : List ℕ) → Hits t 0 (hitOf s) (s .space) hits
   hits-none hits i m l k = absurd (omega arith)
 
   pub hits-next : {i words : ℕ} {masks plane old new : List ℕ} → words ≤ 64 → s .space ≤ 64 * words → Hits t i (hitOf s) (s .space) old → masks ≡ masksAt t i
-      → ((m : ℕ) → m < s .space → laid plane m ≡ within masks (requestOf (countsOf s) m))
+      → ((m : ℕ) → m < s .space → laid plane m ≡ within (lettersOf s) masks (requestOf (countsOf s) m))
       → PlaneCopied plane words (64 * i) old new → Hits t (i + 1) (hitOf s) (s .space) new
   unfolding elementAt hitOf
   hits-next {i} {words} {masks} {plane} {old} {new} few enough so-far own here copied j m l k = go (test (eqb j i))
     where
       go : Test (eqb j i) → bit (getD new (64 * j + m / 64) 0) (m % 64) ≡ hitOf s m (elementAt t j)
-      go (passed e) = rw (eqb-true j i e) (ap (λ x. bit x (m % 64)) (copied .here (m / 64) (omega arith)) ∙ here m k ∙ ap (λ ms. within ms (requestOf (countsOf s) m)) own)
+      go (passed e) = rw (eqb-true j i e) (ap (λ x. bit x (m % 64)) (copied .here (m / 64) (omega arith)) ∙ here m k ∙ ap (λ ms. within (lettersOf s) ms (requestOf (countsOf s) m)) own)
       go (failed e) =
           let other = eqb-false j i e in
           ap (λ x. bit x (m % 64)) (copied .others (64 * j + m / 64) (λ a. omega (arith, other))) ∙ so-far j m (omega (arith, other)) k

@@ -3,3 +3,4 @@ pub mod Cases
 pub mod Rows
 pub mod Capitals
 pub mod Conflicts
+pub mod Sets

@@ -5,6 +5,7 @@ pub mod PolicyFile
 pub mod Refusals
 pub mod Writing
 pub mod WriterRefusals
+pub mod Sets
 pub mod Requests
 pub mod Standard
 pub mod Deciding

@@ -1,5 +1,6 @@
 -- The policy: attributes and elements. What an operation gives, and the words of the file.
-use Prim.Native.Nat.{ℕ, zero, suc, _*_, _-_}
+use Prim.Native.Nat.{ℕ, zero, suc, _*_, _-_, _^_}
+use mathlib.Core.Bool.{Bool, true, false, cond}
 use mathlib.Core.List.{List, [], _∷_, _++_, map}
 use lib.ListN.{length, take, replicate}
 pub use Rattle.meaning.specs.declared.Kind.{Kind}
@@ -11,7 +12,9 @@ pub use Rattle.meaning.specs.declared.Decision.the-variants.{NotApplicab
 pub use Rattle.meaning.specs.declared.Element.{Element}
 use Rattle.meaning.specs.Text.{Bytes, bytes}
 
+-- In a request, an attribute of an `A` line has one value, one of an `M` line a set of several
 pub record Attribute : Type 0 where
+  pub several : Bool
   pub name : Bytes
   pub values : List Bytes
 
@@ -26,13 +29,22 @@ pub record Policy : Type 0 where
   pub attributes : List Attribute
   pub elements : List Element
 
--- The space: the product of the value counts. What an attribute counts in it has a name of its own, for later kinds of
--- attributes
+-- all values: a bit for each
+abbrev pub full : List Bytes → ℕ
+full vs = (2 ^ length vs) - 1
+
+-- The space: the product of the counts. An `A` counts its values, at most 16; an `M` of n values, at most 12, counts 2^n - 1
 abbrev pub choices : Attribute → ℕ
-choices a = length (a .values)
+choices a = cond (a .several) (full (a .values)) (length (a .values))
+
+abbrev pub mostValues : Attribute → ℕ
+mostValues a = cond (a .several) 12 16
 
 abbrev pub sizes : List Attribute → List ℕ
 sizes attrs = map choices attrs
+
+abbrev pub severals : List Attribute → List Bool
+severals attrs = map (λ a. a .several) attrs
 
 abbrev pub product : List ℕ → ℕ
 product [] = 1
@@ -57,6 +69,10 @@ unless zero n r = r
 unless (suc k) n r = refused (suc k) n
 
 -- The letters and words of the file
+abbrev pub letterText : (several : Bool) → Bytes
+letterText false = bytes "A"
+letterText true = bytes "M"
+
 abbrev pub kindText : Kind → Bytes
 kindText set = bytes "S"
 kindText policy = bytes "P"

@@ -5,8 +5,8 @@ use mathlib.Core.List.{List, [], _∷_, _++_}
 use lib.ListN.{length}
 use lib.Dec.{ltb, eqb}
 use Rattle.meaning.specs.Text.{Bytes, bytes, gathered, join, comma, line, decimal, isName}
-use Rattle.meaning.specs.Model.{Attribute, Element, nameOf, Result, refused, given, _then_, unless, kindText, wordText}
-use Rattle.meaning.specs.Reading.{Line, attributeLine, treeLine, otherLine, full, Sofar, Tests, lowest, attributeTests, elementTests, withElement, readText, short, finished, read}
+use Rattle.meaning.specs.Model.{Attribute, Element, nameOf, full, Result, refused, given, _then_, unless, kindText, wordText}
+use Rattle.meaning.specs.Reading.{Line, attributeLine, treeLine, otherLine, Sofar, Tests, lowest, attributeTests, elementTests, withElement, readText, short, finished, read}
 use Rattle.meaning.specs.Report.{fitted}
 
 -- The operation: the elements of a file, for a list of so many places; 12 if it is too short

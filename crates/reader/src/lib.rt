@@ -52,7 +52,9 @@ fn read_line(
     let kind = shape.kind;
     let fields = shape.fields;
     match kind {
-        LineKind::Attribute => attribute_lines::attribute_line(file, st, end, fields),
+        LineKind::Attribute(several) => {
+            attribute_lines::attribute_line(file, st, end, several, fields)
+        }
         LineKind::Tree(k) => element_lines::tree_line(file, st, end, k, fields, table, places),
         LineKind::Other => Step {
             refusal: 2,

@@ -8,7 +8,7 @@ use lib.Dec.{eqb}
 use lib.ListN.{getD}
 use Rattle.meaning.specs.declared.Element.{Element}
 use Rattle.meaning.specs.Text.{Bytes, all, counting}
-use Rattle.meaning.specs.Model.{Policy, sizes}
+use Rattle.meaning.specs.Model.{Policy, sizes, severals}
 use Rattle.meaning.specs.Deciding.{requestOf, matches, above, applies, hits}
 use Rattle.meaning.specs.Segments.{applying, applyingTo}
 use Rattle.laws.proofs.Bools.{Test, passed, failed, test}
@@ -31,28 +31,28 @@ applying-more hit front (x ∷ es) e =
     ap (λ bs. applies hit front x ∷ bs) (applying-more hit (x ∷ front) es e ∙ ap (λ l. applying hit (x ∷ front) es ++ (applies hit l e ∷ [])) (sym nearer))
 
 -- it looks at neither kinds nor names
-module _ (q : List ℕ) where
-  all-bare : (d : ℕ) (es : List Element) → all (matches q) (above d (map bare es)) ≡ all (matches q) (above d es)
+module _ (bs : List Bool) (q : List ℕ) where
+  all-bare : (d : ℕ) (es : List Element) → all (matches bs q) (above d (map bare es)) ≡ all (matches bs q) (above d es)
   all-bare d [] = refl
   all-bare zero (e ∷ es) = refl
   all-bare (suc d) (e ∷ es) = go (test (eqb (e .depth) d)) (all-bare d es) (all-bare (suc d) es)
     where
-      go : Test (eqb (e .depth) d) → all (matches q) (above d (map bare es)) ≡ all (matches q) (above d es) → all (matches q) (above (suc d) (map bare es)) ≡ all (matches q) (above (suc d) es)
-          → all (matches q) (above (suc d) (map bare (e ∷ es))) ≡ all (matches q) (above (suc d) (e ∷ es))
+      go : Test (eqb (e .depth) d) → all (matches bs q) (above d (map bare es)) ≡ all (matches bs q) (above d es) → all (matches bs q) (above (suc d) (map bare es)) ≡ all (matches bs q) (above (suc d) es)
+          → all (matches bs q) (above (suc d) (map bare (e ∷ es))) ≡ all (matches bs q) (above (suc d) (e ∷ es))
       go (passed t) parent farther = rw (t, parent)
       go (failed t) parent farther = rw (t, farther)
 
-  applies-bare : (es : List Element) (e : Element) → applies (matches q) (map bare es) (bare e) ≡ applies (matches q) es e
-  applies-bare es e = ap (λ b. matches q e && b) (all-bare (e .depth) es)
+  applies-bare : (es : List Element) (e : Element) → applies (matches bs q) (map bare es) (bare e) ≡ applies (matches bs q) es e
+  applies-bare es e = ap (λ b. matches bs q e && b) (all-bare (e .depth) es)
 
 -- an element of the table
-module _ (f : Bytes) (table places : List ℕ) (q : List ℕ) where
-  applies-is : (n : ℕ) → applies (matches q) (elementsTo f table places n) (elementIn f table places n) ≡ appliesAt table (matches q) n
+module _ (f : Bytes) (table places : List ℕ) (bs : List Bool) (q : List ℕ) where
+  applies-is : (n : ℕ) → applies (matches bs q) (elementsTo f table places n) (elementIn f table places n) ≡ appliesAt table (matches bs q) n
   unfolding appliesAt elementIn elementAt
-  applies-is n = sym (applies-bare q (elementsTo f table places n) (elementIn f table places n)) ∙ ap (λ es. applies (matches q) es (elementAt table n)) (elements-bare f table places n)
+  applies-is n = sym (applies-bare bs q (elementsTo f table places n) (elementIn f table places n)) ∙ ap (λ es. applies (matches bs q) es (elementAt table n)) (elements-bare f table places n)
 
   -- all of them
-  all-applying : (n : ℕ) → applying (matches q) [] (reverse (elementsTo f table places n)) ≡ map (appliesAt table (matches q)) (counting 0 n)
+  all-applying : (n : ℕ) → applying (matches bs q) [] (reverse (elementsTo f table places n)) ≡ map (appliesAt table (matches bs q)) (counting 0 n)
   unfolding elementsTo
   all-applying zero = refl
   all-applying (suc n) =
@@ -61,16 +61,16 @@ module _ (f : Bytes) (table places : List ℕ) (q : List ℕ) where
       let front : reverse (reverse es) ++ [] ≡ es = append-nil (reverse (reverse es)) ∙ reverse-reverse es in
       let here : 0 + n ≡ n = omega arith in
       let more : counting 0 (suc n) ≡ counting 0 n ++ (n ∷ []) = counting-more 0 n ∙ rw here in
-      ap (applying (matches q) []) (reverse-cons e es)
-      ∙ applying-more (matches q) [] (reverse es) e
+      ap (applying (matches bs q) []) (reverse-cons e es)
+      ∙ applying-more (matches bs q) [] (reverse es) e
       ∙ rw (front, applies-is n, all-applying n)
-      (sym (map-append (appliesAt table (matches q)) (counting 0 n) (n ∷ [])) ∙ ap (map (appliesAt table (matches q))) (sym more))
+      (sym (map-append (appliesAt table (matches bs q)) (counting 0 n) (n ∷ [])) ∙ ap (map (appliesAt table (matches bs q))) (sym more))
 
 module _ (f : Bytes) (table places : List ℕ) (n : ℕ) (p : Policy) (is : p .elements ≡ reverse (elementsTo f table places n)) (hit : ℕ → Element → Bool) (hits-are : (m : ℕ) → hit m ≡ hits p m) where
   pub applying-is : (m : ℕ) → applyingTo p m ≡ map (appliesAt table (hit m)) (counting 0 n)
   applying-is m =
       ap (applying (hits p m) []) is
-      ∙ all-applying f table places (requestOf (sizes (p .attributes)) m) n
+      ∙ all-applying f table places (severals (p .attributes)) (requestOf (sizes (p .attributes)) m) n
       ∙ ap (λ test. map (appliesAt table test) (counting 0 n)) (sym (hits-are m))
 
   -- one of them

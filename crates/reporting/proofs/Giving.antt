@@ -9,7 +9,7 @@ use borrow.Author.Tests.{eq-eqb}
 use mathlib.Core.Bool.{Bool}
 use Rattle.meaning.specs.declared.Decision.{Decision}
 use Rattle.meaning.specs.Text.{Bytes}
-use Rattle.meaning.specs.Model.{Policy, sizes}
+use Rattle.meaning.specs.Model.{Policy, sizes, severals}
 use Rattle.meaning.specs.Deciding.{requestOf, matches, is as isOf, firstDecision, hits}
 use Rattle.meaning.specs.Segments.{decisionAt}
 use Rattle.meaning.specs.declared.Element.{Element}
@@ -55,8 +55,9 @@ module _ (f : Bytes) (table places : List ℕ) (n : ℕ) (p : Policy) (is : p .e
   pub gives-is : (d : Decision) (m j : ℕ) → j < n → givesAt d table struck n (hit m) j ≡ isOf d (decisionAt p m j)
   unfolding givesAt
   gives-is d m j l =
+      let bs = severals (p .attributes) in
       let q = requestOf (sizes (p .attributes)) m in
       ap (λ test. givesAt d table struck n test j) (hits-are m)
-      ∙ ap (isOf d) (sym (first-left (matches q) table struck n j l (clear j))
-      ∙ ap (firstDecision (matches q)) (left-from j)
-      ∙ decision-bare q (drop j (p .elements)))
+      ∙ ap (isOf d) (sym (first-left (matches bs q) table struck n j l (clear j))
+      ∙ ap (firstDecision (matches bs q)) (left-from j)
+      ∙ decision-bare bs q (drop j (p .elements)))

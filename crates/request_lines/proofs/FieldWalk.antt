@@ -3,7 +3,7 @@ use Prim.Native.Nat.{ℕ, suc, _+_, _-_, _≤_, _<_, zero-le}
 use mathlib.Core.Path.{_≡_, refl, sym, ap, _∙_, subst}
 use mathlib.Core.Logic.{_≢_, ⊎-elim}
 use mathlib.Core.Bool.{true}
-use mathlib.Core.List.{List, [], _∷_, _++_, append-assoc, append-nil}
+use mathlib.Core.List.{List, [], _∷_, _++_, map, append-assoc, append-nil}
 use mathlib.Core.Option.{Option, none, some}
 use native.Mathlib.Nat.{sub-zero, eq-or-lt-of-le}
 use native.Mathlib.Numerals.{add-one}
@@ -11,10 +11,12 @@ use native.Mathlib.Omega.{arith}
 use lib.ListN.{length, take, drop, getD, set, length-set, replicate}
 use lib.Seq.{length-take-le, take-suc-set, drop-set-lt}
 use borrow.Author.Tests.{eq-eqb, ne-eqb}
-use Rattle.meaning.specs.Text.{Bytes, cut, tab}
+use Rattle.meaning.specs.Text.{Bytes, lower, cut, tab, comma}
 use Rattle.meaning.specs.Model.{Attribute, Result, refused, given, _then_}
-use Rattle.meaning.specs.Deciding.{Request, valueOf, valuesOf, requestLine}
+use Rattle.meaning.specs.Reading.{maskOf, orEmpty}
+use Rattle.meaning.specs.Deciding.{Request, setOf, chosen, valuesOf, requestLine}
 use Rattle.laws.proofs.Bools.{never}
+use Rattle.laws.proofs.Chosen.{some-named-bit}
 use Rattle.laws.proofs.Text.{Some, one-or-more, cut-some}
 use Rattle.names.specs.declared.Found.{Found}
 use Rattle.names.specs.declared.Found.the-variants.{At, Nothing}
@@ -25,7 +27,7 @@ use Rattle.layout.specs.declared.Attributes.{Attributes}
 use Rattle.layout.specs.Places.{attributeAt, attributesFrom, attributesOf}
 use Rattle.layout.proofs.Laws.{attributes-walk, attributes-length}
 use Rattle.request_lines.specs.declared.Asked.{Asked}
-use Rattle.request_lines.specs.Asked.{AskedAs}
+use Rattle.request_lines.specs.Asked.{Refused, AskedAs}
 
 -- A place that was found, or not
 found-at : (o : Option ℕ) {r : Found} {v : ℕ} → r ≡ foundOf o → r ≡ At v → o ≡ some v
@@ -35,6 +37,22 @@ found-at (some w) h k = cc
 found-nothing : (o : Option ℕ) {r : Found} → r ≡ foundOf o → r ≡ Nothing → o ≡ none
 found-nothing none h k = refl
 found-nothing (some w) h k = never (cc)
+
+-- a set's mask, whose names are found in order, and its number
+module _ (vs : List Bytes) (f : Bytes) {mask : ℕ} (is-mask : mask ≡ orEmpty (maskOf (map lower vs) (map lower (cut comma f)))) where
+  pub no-set : mask ≡ 0 → Nothing ≡ foundOf (setOf vs f)
+  no-set z = go (maskOf (map lower vs) (map lower (cut comma f))) refl
+    where
+      go : (o : Option ℕ) → maskOf (map lower vs) (map lower (cut comma f)) ≡ o → Nothing ≡ foundOf (setOf vs f)
+      go none e = rw e
+      go (some m) e = absurd (omega (arith, some-named-bit vs f m e, ap orEmpty e, is-mask, z))
+
+  pub some-set : mask ≢ 0 → At (mask - 1) ≡ foundOf (setOf vs f)
+  some-set n = go (maskOf (map lower vs) (map lower (cut comma f))) refl
+    where
+      go : (o : Option ℕ) → maskOf (map lower vs) (map lower (cut comma f)) ≡ o → At (mask - 1) ≡ foundOf (setOf vs f)
+      go none e = absurd (n (is-mask ∙ ap orEmpty e))
+      go (some m) e = let same-mask : mask ≡ m = is-mask ∙ ap orEmpty e in rw (e, same-mask)
 
 -- values that were read, put before those that are given
 abbrev after : Request → Result Request → Result Request
@@ -46,7 +64,7 @@ after-none (given ws) = refl
 
 -- the first field: its value, or its place
 module _ (place : ℕ) (x : Attribute) (attrs : List Attribute) (field : Bytes) (fields : List Bytes) (vs : Request) where
-  first-value : (v : ℕ) → valueOf 0 field (x .values) ≡ some v
+  first-value : (v : ℕ) → chosen x field ≡ some v
       → after vs (valuesOf place (x ∷ attrs) (field ∷ fields)) ≡ after (vs ++ (v ∷ [])) (valuesOf (suc place) attrs fields)
   first-value v is-value = rw is-value (regrouped (valuesOf (suc place) attrs fields))
     where
@@ -54,7 +72,7 @@ module _ (place : ℕ) (x : Attribute) (attrs : List Attribute) (field : Bytes) 
       regrouped (refused n m) = refl
       regrouped (given ws) = rw (append-assoc vs (v ∷ []) ws)
 
-  first-refused : valueOf 0 field (x .values) ≡ none → after vs (valuesOf place (x ∷ attrs) (field ∷ fields)) ≡ refused 10 place
+  first-refused : chosen x field ≡ none → after vs (valuesOf place (x ∷ attrs) (field ∷ fields)) ≡ refused 10 place
   first-refused no-value = rw no-value
 
 -- The attributes from i on
@@ -89,7 +107,7 @@ walk-starts {f} {a} {line} count few =
 -- the field that starts at `at` ends at e, and this was found for it
 module _ {f : Bytes} {a : Attributes} {line : Bytes} {values : List ℕ} {at i e : ℕ} {r : Found} (w : Walked f a line values at i)
     (p : e ≡ at + length (getD (cut tab (drop at line)) 0 [])) (q : e ≤ length line)
-    (found : r ≡ foundOf (valueOf 0 (take (e - at) (drop at line)) (attributeAt f a i .values))) where
+    (found : r ≡ foundOf (chosen (attributeAt f a i) (take (e - at) (drop at line)))) where
   abbrev piece : Bytes
   piece = take (e - at) (drop at line)
 
@@ -111,12 +129,12 @@ module _ {f : Bytes} {a : Attributes} {line : Bytes} {values : List ℕ} {at i e
       (eq-or-lt-of-le q)
 
   -- a field that is no value
-  pub walk-refused : {answer : Asked} → r ≡ Nothing → AskedAs answer (refused 10 (i + 1)) → AskedAs answer (valuesOf 1 (attributesOf f a) (cut tab line))
+  pub walk-refused : {answer : Asked} → r ≡ Nothing → Refused answer 10 (i + 1) → AskedAs a answer (valuesOf 1 (attributesOf f a) (cut tab line))
   walk-refused {answer} nothing refuses =
-      let no-value = found-nothing (valueOf 0 piece (attributeAt f a i .values)) found nothing in
+      let no-value = found-nothing (chosen (attributeAt f a i) piece) found nothing in
       let here-refused : after (take i values) (valuesOf (suc i) (rest f a i) (cut tab (drop at line))) ≡ refused 10 (suc i) =
       rw (this-attribute, this-field) (first-refused (suc i) (attributeAt f a i) (rest f a (i + 1)) piece (behind tab line e) (take i values) no-value) in
-      subst (AskedAs answer) (sym here-refused ∙ w .so-far) (rw add-one at refuses)
+      subst (AskedAs a answer) (sym here-refused ∙ w .so-far) (rw add-one at refuses)
 
   -- a field that is value v
   module _ {v : ℕ} (is-at : r ≡ At v) where
@@ -124,7 +142,7 @@ module _ {f : Bytes} {a : Attributes} {line : Bytes} {values : List ℕ} {at i e
     one-more : (later : List Bytes) → cut tab (drop at line) ≡ piece ∷ later
         → after (take (i + 1) (set values i v)) (valuesOf (suc (i + 1)) (rest f a (i + 1)) later) ≡ valuesOf 1 (attributesOf f a) (cut tab line)
     one-more later fields-here =
-        let is-value = found-at (valueOf 0 piece (attributeAt f a i .values)) found is-at in
+        let is-value = found-at (chosen (attributeAt f a i) piece) found is-at in
         let one-found : after (take i values) (valuesOf (suc i) (rest f a i) (cut tab (drop at line))) ≡ after (take i values ++ (v ∷ [])) (valuesOf (suc (suc i)) (rest f a (i + 1)) later) =
         rw (this-attribute, fields-here) (first-value (suc i) (attributeAt f a i) (rest f a (i + 1)) piece later (take i values) v is-value) in
         let one-laid : take (i + 1) (set values i v) ≡ take i values ++ (v ∷ []) = rw (add-one i) (take-suc-set values i v (omega (arith, w .here, w .few, w .room))) in
@@ -149,15 +167,14 @@ module _ {f : Bytes} {a : Attributes} {line : Bytes} {values : List ℕ} {at i e
         }
 
     pub walk-ends : i + 1 ≡ a .len
-        → AskedAs (record { good = true; place = 0; request = record { values = set values i v; len = a .len } }) (valuesOf 1 (attributesOf f a) (cut tab line))
+        → AskedAs a (record { good = true; place = 0; request = record { several = a .several; values = set values i v; len = a .len } }) (valuesOf 1 (attributesOf f a) (cut tab line))
     walk-ends l =
         let last-found = rw (none-after l, append-nil) at (one-more (behind tab line e) this-field) in
         let all-found : given (take (a .len) (set values i v)) ≡ valuesOf 1 (attributesOf f a) (cut tab line) =
         ap (λ n. given (take n (set values i v))) (sym l) ∙ last-found in
         let enough : a .len ≤ length (set values i v) = omega (arith, length-set values i v, w .room, w .few) in
-        let whole = laid (a .len) (set values i v) (take (a .len) (set values i v)) enough refl clear-still in
-        let few : length (take (a .len) (set values i v)) ≤ 6 = omega (arith, length-take-le (a .len) (set values i v) enough, w .few) in
-        subst (AskedAs _) all-found (record { is = λ k. record { good = true; place = 0; request = whole k }; few = few })
+        let whole = laid (a .several) (a .len) (set values i v) (take (a .len) (set values i v)) enough refl clear-still in
+        subst (AskedAs a _) all-found (record { is = λ k. record { good = true; place = 0; request = whole k }; count = length-take-le (a .len) (set values i v) enough })
 
 -- A line by its count of fields
 module _ (f : Bytes) (a : Attributes) (line : Bytes) {pieces : ℕ} (counted : pieces ≡ length (cut tab line)) where

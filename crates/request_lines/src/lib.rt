@@ -3,13 +3,14 @@ use layout::Attributes;
 use names::Found;
 use requests::Request;
 ghost use mathlib.Core.Path.{_≡_};
-ghost use Prim.Native.Nat.{_≤_};
-ghost use lib.ListN.{length};
+ghost use mathlib.Core.Bool.{cond};
+ghost use Prim.Native.Nat.{ℕ, _≤_, _<_};
+ghost use lib.ListN.{length, getD};
 ghost use Rattle.meaning.specs.Text.{cut, tab};
-ghost use Rattle.meaning.specs.Model.{refused};
-ghost use Rattle.meaning.specs.Deciding.{valuesOf, requestLine};
-ghost use Rattle.layout.specs.Places.{attributesOf, AllStanding};
-ghost use Rattle.request_lines.specs.Asked.{AskedAs};
+ghost use Rattle.meaning.specs.Deciding.{valueOf, setOf, valuesOf, requestLine};
+ghost use Rattle.names.specs.Places.{foundOf};
+ghost use Rattle.layout.specs.Places.{attributesOf};
+ghost use Rattle.request_lines.specs.Asked.{FewValues, Refused, AskedAs};
 
 // The request, or the place of the field that refuses the line: 0 for a wrong count of fields.
 pub struct Asked {
@@ -20,10 +21,13 @@ pub struct Asked {
 
 fn refuse(place: usize) -> Asked
     requires { ⌜ place ≤ 6 ⌝ }
-    ensures { λ r. ⌜ AskedAs r (refused 10 place) ⌝ }
+    ensures { λ r. ⌜ Refused r 10 place ⌝ }
 {
-    let values = [0usize; 6];
-    let request = Request { values, len: 0 };
+    let request = Request {
+        several: [false; 6],
+        values: [0; 6],
+        len: 0,
+    };
     Asked {
         good: false,
         place,
@@ -31,11 +35,27 @@ fn refuse(place: usize) -> Asked
     }
 }
 
-// The request of a line that has a field for each attribute, or the place of the first field that is no value.
-fn read_fields(file: &[u8], a: Attributes, line: &[u8]) -> Asked
-    requires { ⌜ AllStanding (now file) a × (length (cut tab (now line)) ≡ a .len) ⌝ }
-    ensures { λ r. ⌜ AskedAs r (valuesOf 1 (attributesOf (now (file .entry)) a) (cut tab (now (line .entry)))) ⌝ }
+// What a field has of an attribute: the number of a value, or where it may have several, of a set of them.
+fn choose(several: bool, values: &[u8], field: &[u8]) -> Found
+    requires { ⌜ length (cut tab (now values)) ≤ 16 ⌝ }
+    ensures { λ r. ⌜ r ≡ foundOf (cond several (setOf (cut tab (now (values .entry))) (now (field .entry))) (valueOf 0 (now (field .entry)) (cut tab (now (values .entry))))) ⌝ }
 {
+    if several {
+        let mask = syntax::names_mask(values, field, false);
+        if mask == 0 {
+            return Found::Nothing;
+        }
+        return Found::At((mask - 1) as usize);
+    }
+    names::find(values, field)
+}
+
+// The request of a line that has a field for each attribute, or the place of the first field that is no value and no set.
+fn read_fields(file: &[u8], a: Attributes, line: &[u8]) -> Asked
+    requires { ⌜ FewValues (now file) a × (length (cut tab (now line)) ≡ a .len) ⌝ }
+    ensures { λ r. ⌜ AskedAs a r (valuesOf 1 (attributesOf (now (file .entry)) a) (cut tab (now (line .entry)))) ⌝ }
+{
+    let several = a.several;
     let starts = a.values;
     let ends = a.ends;
     let mut values = [0usize; 6];
@@ -45,13 +65,17 @@ fn read_fields(file: &[u8], a: Attributes, line: &[u8]) -> Asked
         let end = text::end_of(line, at, b'\t');
         let first = starts[i];
         let last = ends[i];
-        let Found::At(v) = names::find(&file[first..last], &line[at..end]) else {
+        let Found::At(v) = choose(several[i], &file[first..last], &line[at..end]) else {
             return refuse(i + 1);
         };
         values[i] = v;
         i += 1;
         if i == a.len {
-            let request = Request { values, len: a.len };
+            let request = Request {
+                several,
+                values,
+                len: a.len,
+            };
             return Asked {
                 good: true,
                 place: 0,
@@ -64,8 +88,8 @@ fn read_fields(file: &[u8], a: Attributes, line: &[u8]) -> Asked
 
 // What a request line asks of a file with these attributes. The fields are counted first.
 pub fn request_line(file: &[u8], a: Attributes, line: &[u8]) -> Asked
-    requires { ⌜ AllStanding (now file) a ⌝ }
-    ensures { λ r. ⌜ AskedAs r (requestLine (attributesOf (now (file .entry)) a) (now (line .entry))) ⌝ }
+    requires { ⌜ FewValues (now file) a ⌝ }
+    ensures { λ r. ⌜ AskedAs a r (requestLine (attributesOf (now (file .entry)) a) (now (line .entry))) ⌝ }
 {
     if text::count_pieces(line, b'\t') != a.len {
         return refuse(0);

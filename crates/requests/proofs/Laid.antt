@@ -1,6 +1,7 @@
 -- A request whole: its values and the places behind them.
 use Prim.Native.Nat.{ℕ, zero, suc, _-_, _≤_}
 use mathlib.Core.Path.{_≡_, sym, ap, _∙_}
+use mathlib.Core.Bool.{Bool}
 use mathlib.Core.List.{List, _++_}
 use native.Mathlib.Nat.{sub-zero}
 use native.Mathlib.Omega.{arith}
@@ -18,15 +19,15 @@ drop-zeros (suc n) zero = let none : 0 - suc n ≡ 0 = omega arith in rw none
 drop-zeros (suc n) (suc m) = let less : suc m - suc n ≡ m - n = omega arith in rw less (drop-zeros n m)
 
 -- the first n values are these, and the places behind them are as zeros have them
-pub laid : (n : ℕ) (vs q : List ℕ) → n ≤ length vs → take n vs ≡ q → drop n vs ≡ drop n (replicate 6 0) → record { values = vs; len = n } ≡ requestWith q
-laid n vs q few p z =
+pub laid : (bs : List Bool) (n : ℕ) (vs q : List ℕ) → n ≤ length vs → take n vs ≡ q → drop n vs ≡ drop n (replicate 6 0) → record { several = bs; values = vs; len = n } ≡ requestWith bs q
+laid bs n vs q few p z =
     let count : n ≡ length q = sym (length-take-le n vs few) ∙ ap length p in
     let behind : drop n vs ≡ replicate (6 - length q) 0 = z ∙ drop-zeros n 6 ∙ ap (λ k. replicate (6 - k) 0) count in
-    λ i. record { values = by-parts n vs q (replicate (6 - length q) 0) p behind i; len = count i }
+    λ i. record { several = bs; values = by-parts n vs q (replicate (6 - length q) 0) p behind i; len = count i }
 
-pub changed : (q : Request) (vs next : List ℕ) → take (q .len) vs ≡ next → drop (q .len) vs ≡ drop (q .len) (q .values) → record { values = vs; len = q .len } ≡ revalued q next
-changed q vs next p z = λ i. record { values = by-parts (q .len) vs next (drop (q .len) (q .values)) p z i; len = q .len }
+pub changed : (q : Request) (vs next : List ℕ) → take (q .len) vs ≡ next → drop (q .len) vs ≡ drop (q .len) (q .values) → record { several = q .several; values = vs; len = q .len } ≡ revalued q next
+changed q vs next p z = λ i. record { several = q .several; values = by-parts (q .len) vs next (drop (q .len) (q .values)) p z i; len = q .len }
 
 -- its values again
-pub values-with : (q : List ℕ) → valuesOf (requestWith q) ≡ q
-values-with q = take-append-seam q (replicate (6 - length q) 0)
+pub values-with : (bs : List Bool) (q : List ℕ) → valuesOf (requestWith bs q) ≡ q
+values-with bs q = take-append-seam q (replicate (6 - length q) 0)

@@ -1,5 +1,6 @@
--- A request by value, as the meaning's list of value numbers.
+-- A request by value, as the meaning's list of numbers.
 use Prim.Native.Nat.{ℕ, _≤_, _<_}
+use mathlib.Core.Bool.{Bool}
 use mathlib.Core.List.{List, _++_}
 use lib.ListN.{length, take, drop, getD}
 use Rattle.meaning.specs.Model.{product, padded}
@@ -8,12 +9,16 @@ use Rattle.requests.specs.declared.Request.{Request}
 abbrev pub valuesOf : Request → List ℕ
 valuesOf q = take (q .len) (q .values)
 
+-- at which attributes they are sets
+abbrev pub lettersOf : Request → List Bool
+lettersOf q = take (q .len) (q .several)
+
 -- the request of these values, with zeros behind them; and one whose values become these, the places behind as they were
-abbrev pub requestWith : List ℕ → Request
-requestWith vs = record { values = padded 6 vs; len = length vs }
+abbrev pub requestWith : List Bool → List ℕ → Request
+requestWith several vs = record { several = several; values = padded 6 vs; len = length vs }
 
 abbrev pub revalued : Request → List ℕ → Request
-revalued q vs = record { values = vs ++ drop (q .len) (q .values); len = q .len }
+revalued q vs = record { several = q .several; values = vs ++ drop (q .len) (q .values); len = q .len }
 
 -- a request of at most six attributes, each value below its count, in a space of at most 4,096
 pub record Fitting (counts : List ℕ) (q : Request) : Type 0 where

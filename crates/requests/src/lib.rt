@@ -1,13 +1,15 @@
-// Requests by value: one value number for each attribute. The numbering of requests, and the test of a target.
+// Requests by value: one number for each attribute. The numbering of requests, and the test of a target.
 ghost use mathlib.Core.Path.{_≡_};
 ghost use Prim.Native.Nat.{_+_, _≤_, _<_};
 ghost use lib.ListN.{length, take, drop};
 ghost use Rattle.meaning.specs.Model.{product};
-ghost use Rattle.meaning.specs.Deciding.{numberOf, requestOf, nextRequest, bit, within};
-ghost use Rattle.requests.specs.Values.{valuesOf, requestWith, revalued, Fitting};
+ghost use Rattle.meaning.specs.Deciding.{numberOf, requestOf, nextRequest, bit, inField, within};
+ghost use Rattle.requests.specs.Values.{valuesOf, lettersOf, requestWith, revalued, Fitting};
 
-// The values of `len` attributes; the places behind them don't matter.
+// The numbers of `len` attributes, each that of a value or, where `several` says so, that of a set of values; the places
+// behind them don't matter.
 pub struct Request {
+    pub several: [bool; 6],
     pub values: [usize; 6],
     pub len: usize,
 }
@@ -17,6 +19,18 @@ fn holds(mask: u16, v: usize) -> bool
     ensures { λ r. ⌜ r ≡ bit mask v ⌝ }
 {
     if v < 16 { (mask >> v) % 2 == 1 } else { false }
+}
+
+// Whether number v of an attribute matches a target's field: the value is in it; or the set, whose mask is v + 1 and has
+// at most 12 values, shares one with it.
+fn in_field(several: bool, mask: u16, v: usize) -> bool
+    ensures { λ r. ⌜ r ≡ inField several mask v ⌝ }
+{
+    if several {
+        let set = ((v % 4096 + 1) % 4096) as u16;
+        return (mask & set) != 0;
+    }
+    holds(mask, v)
 }
 
 impl Request {
@@ -41,6 +55,7 @@ impl Request {
         requires { ⌜ Fitting counts self ⌝ }
         ensures { λ r. ⌜ (r ≡ revalued self (nextRequest (take (self .len) counts) (valuesOf self))) × Fitting counts r ⌝ }
     {
+        let several = self.several;
         let mut values = self.values;
         let len = self.len;
         let mut i = len;
@@ -49,23 +64,32 @@ impl Request {
             let v = values[i];
             if v + 1 < counts[i] {
                 values[i] = v + 1;
-                return Request { values, len };
+                return Request {
+                    several,
+                    values,
+                    len,
+                };
             }
             values[i] = 0;
         }
-        Request { values, len }
+        Request {
+            several,
+            values,
+            len,
+        }
     }
 
-    // Whether each value is in the mask of its attribute; the masks stand from `at` on.
+    // Whether each value, or set of values, matches the field of its attribute; the masks stand from `at` on.
     pub fn matches(self, masks: &[u16], at: usize) -> bool
         requires { ⌜ (at + 6 ≤ length (now masks)) × (self .len ≤ 6) ⌝ }
-        ensures { λ r. ⌜ r ≡ within (take 6 (drop at (now (masks .entry)))) (valuesOf self) ⌝ }
+        ensures { λ r. ⌜ r ≡ within (lettersOf self) (take 6 (drop at (now (masks .entry)))) (valuesOf self) ⌝ }
     {
+        let several = self.several;
         let values = self.values;
         let len = self.len;
         let mut i = 0;
         while i < len {
-            if !holds(masks[at + i], values[i]) {
+            if !in_field(several[i], masks[at + i], values[i]) {
                 return false;
             }
             i += 1;
@@ -75,9 +99,9 @@ impl Request {
 }
 
 // The request that has the number.
-pub fn request_of(number: usize, counts: [usize; 6], len: usize) -> Request
+pub fn request_of(number: usize, several: [bool; 6], counts: [usize; 6], len: usize) -> Request
     requires { ⌜ (len ≤ 6) × (number < product (take len counts)) × (product (take len counts) ≤ 4096) ⌝ }
-    ensures { λ r. ⌜ (r ≡ requestWith (requestOf (take len counts) number)) × Fitting counts r ⌝ }
+    ensures { λ r. ⌜ (r ≡ requestWith several (requestOf (take len counts) number)) × Fitting counts r ⌝ }
 {
     let mut values = [0usize; 6];
     let mut rest = number;
@@ -87,5 +111,9 @@ pub fn request_of(number: usize, counts: [usize; 6], len: usize) -> Request
         values[i] = rest % counts[i];
         rest /= counts[i];
     }
-    Request { values, len }
+    Request {
+        several,
+        values,
+        len,
+    }
 }

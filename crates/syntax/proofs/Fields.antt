@@ -8,27 +8,32 @@ use mathlib.Core.List.{[], _∷_}
 use mathlib.Core.Option.{Option, none, some}
 use lib.ListN.{length, getD}
 use lib.Dec.{eqb}
-use Rattle.meaning.specs.Text.{Bytes, bytes, isNone, between, same}
-use Rattle.meaning.specs.Model.{wordText}
-use Rattle.meaning.specs.Reading.{kindOf, depthOf, wordOf}
+use Rattle.meaning.specs.Text.{Bytes, isNone, between, same}
+use Rattle.meaning.specs.Model.{letterText, wordText}
+use Rattle.meaning.specs.Reading.{kindOf, attributeLetter, depthOf, wordOf}
 use Rattle.laws.proofs.Types.{Kind, set, policy, Word, deny-overrides, permit-overrides, first-applicable, only-one-applicable}
 use Rattle.laws.proofs.Bools.{Test, passed, failed, test}
+use Rattle.laws.proofs.Text.{same-true}
+use Rattle.laws.proofs.Lines.{letter-is, letter-attribute, letter-several}
 use Rattle.syntax.specs.Fields.{lineKind, numberOfWord}
 use Rattle.syntax.specs.declared.LineKind.{LineKind}
 
 -- First field: what each answer says of it
 abbrev pub ByLetter : Bytes → LineKind → Type 0
-ByLetter f LineKind.Attribute = same f (bytes "A") ≡ true
-ByLetter f (LineKind.Tree k) = (same f (bytes "A") ≡ false) × (kindOf f ≡ some k)
-ByLetter f LineKind.Other = (same f (bytes "A") ≡ false) × (kindOf f ≡ none)
+ByLetter f (LineKind.Attribute several) = f ≡ letterText several
+ByLetter f (LineKind.Tree k) = (attributeLetter f ≡ false) × (kindOf f ≡ some k)
+ByLetter f LineKind.Other = (attributeLetter f ≡ false) × (kindOf f ≡ none)
 
 pub by-letter : (f : Bytes) → ByLetter f (lineKind f)
-by-letter f = go (test (same f (bytes "A"))) (kindOf f) refl
+by-letter f = go (test (attributeLetter f)) (kindOf f) refl
   where
-    go : Test (same f (bytes "A")) → (o : Option Kind) → kindOf f ≡ o → ByLetter f (lineKind f)
-    go (passed e) o i = rw e e
+    go : Test (attributeLetter f) → (o : Option Kind) → kindOf f ≡ o → ByLetter f (lineKind f)
+    go (passed e) o i = rw e (letter-is f e)
     go (failed e) none i = rw (e, i) (e, i)
     go (failed e) (some k) i = rw (e, i) (e, i)
+
+pub letter-kind : (f : Bytes) (several : Bool) → same f (letterText several) ≡ true → LineKind.Attribute several ≡ lineKind f
+letter-kind f several e = rw (same-true f (letterText several) e, letter-attribute several, letter-several several)
 
 -- Depth: a field of one byte goes by that byte, any other is none
 pub depth-byte : (f : Bytes) → length f ≡ 1 → depthOf f ≡ cond (between 48 55 (getD f 0 0)) (getD f 0 0 - 48) 8

@@ -1,12 +1,18 @@
 -- What the first field and the word of a tree line stand for, as the code answers it.
 use Prim.Native.Nat.{ℕ}
-use mathlib.Core.Bool.{cond}
+use mathlib.Core.Bool.{Bool, true, false, cond}
 use mathlib.Core.Option.{Option, none, some}
-use Rattle.meaning.specs.Text.{Bytes, bytes, same}
+use Rattle.meaning.specs.Text.{Bytes, same, lower}
 use Rattle.meaning.specs.declared.Kind.{Kind}
 use Rattle.meaning.specs.declared.Word.{Word}
-use Rattle.meaning.specs.Reading.{kindOf}
+use Rattle.meaning.specs.Model.{letterText}
+use Rattle.meaning.specs.Reading.{kindOf, attributeLetter}
 use Rattle.syntax.specs.declared.LineKind.{LineKind}
+
+-- A name as it is compared: to the byte, or letter case aside
+abbrev pub spelt : (exact : Bool) → Bytes → Bytes
+spelt true n = n
+spelt false n = lower n
 
 -- A line by its first field
 abbrev pub treeKind : Option Kind → LineKind
@@ -14,7 +20,7 @@ treeKind none = LineKind.Other
 treeKind (some k) = LineKind.Tree k
 
 abbrev pub lineKind : Bytes → LineKind
-lineKind f = cond (same f (bytes "A")) LineKind.Attribute (treeKind (kindOf f))
+lineKind f = cond (attributeLetter f) (LineKind.Attribute (same f (letterText true))) (treeKind (kindOf f))
 
 -- A word by its number; 6 is a word that is not allowed for its kind
 abbrev pub numberOfWord : Option Word → ℕ

@@ -1,15 +1,16 @@
 // What the single fields of a tree line stand for.
 ghost use mathlib.Core.Path.{_≡_};
+ghost use mathlib.Core.List.{map};
 ghost use Prim.Native.Nat.{_^_, _≤_};
 ghost use lib.ListN.{length};
-ghost use Rattle.meaning.specs.Text.{cut, tab, comma};
+ghost use Rattle.meaning.specs.Text.{same, cut, tab, comma};
 ghost use Rattle.meaning.specs.Reading.{depthOf, wordOf, maskOf, targetOf, orEmpty};
-ghost use Rattle.syntax.specs.Fields.{lineKind, numberOfWord};
+ghost use Rattle.syntax.specs.Fields.{spelt, lineKind, numberOfWord};
 use meaning::Kind;
 
-// A line by its first field.
+// A line by its first field; an attribute line with whether its attribute takes several values in a request.
 pub enum LineKind {
-    Attribute,
+    Attribute(bool),
     Tree(Kind),
     Other,
 }
@@ -18,7 +19,10 @@ pub fn line_kind(first: &[u8]) -> LineKind
     ensures { λ r. ⌜ r ≡ lineKind (now (first .entry)) ⌝ }
 {
     if comparing::same(first, b"A") {
-        return LineKind::Attribute;
+        return LineKind::Attribute(false);
+    }
+    if comparing::same(first, b"M") {
+        return LineKind::Attribute(true);
     }
     if comparing::same(b"S", first) {
         return LineKind::Tree(Kind::Set);
@@ -115,11 +119,21 @@ fn bit(k: usize) -> u32
     1u32 << k
 }
 
-// The mask of the names in `field`, matched along the values once; 0 where they are not values, to the byte, in
-// declared order, each once.
-fn names_mask(values: &[u8], field: &[u8]) -> u16
+// Whether two names are equal: to the byte, or letter case aside.
+fn equal(exact: bool, a: &[u8], b: &[u8]) -> bool
+    ensures { λ r. ⌜ r ≡ same (spelt exact (now (a .entry))) (spelt exact (now (b .entry))) ⌝ }
+{
+    if exact {
+        return comparing::same(a, b);
+    }
+    names::same_name(a, b)
+}
+
+// The mask of the names in `field`, matched along the values once; 0 where they are not values in declared order, each once.
+// A target spells them to the byte, a request's set letter case aside.
+pub fn names_mask(values: &[u8], field: &[u8], exact: bool) -> u16
     requires { ⌜ length (cut tab (now values)) ≤ 16 ⌝ }
-    ensures { λ r. ⌜ r ≡ orEmpty (maskOf (cut tab (now (values .entry))) (cut comma (now (field .entry)))) ⌝ }
+    ensures { λ r. ⌜ r ≡ orEmpty (maskOf (map (spelt exact) (cut tab (now (values .entry)))) (map (spelt exact) (cut comma (now (field .entry))))) ⌝ }
 {
     let mut at = 0;
     let mut name = 0;
@@ -128,7 +142,7 @@ fn names_mask(values: &[u8], field: &[u8]) -> u16
     let mut taken: u32 = 0;
     loop {
         let e = text::end_of(values, at, b'\t');
-        if comparing::same(&values[at..e], &field[name..end]) {
+        if equal(exact, &values[at..e], &field[name..end]) {
             taken += bit(k);
             if end == field.len() {
                 return taken as u16;
@@ -159,7 +173,7 @@ pub fn target_mask(values: &[u8], n: usize, field: &[u8]) -> u16
     if comparing::same(field, b"*") {
         return full;
     }
-    let mask = names_mask(values, field);
+    let mask = names_mask(values, field, true);
     if mask == full {
         return 0;
     }

@@ -4,13 +4,15 @@ ghost use mathlib.Core.Path.{_≡_};
 ghost use Prim.Native.Nat.{_+_, _≤_, _<_};
 ghost use lib.ListN.{length};
 ghost use Rattle.meaning.specs.Deciding.{matches};
-ghost use Rattle.requests.specs.Values.{valuesOf};
+ghost use Rattle.requests.specs.Values.{valuesOf, lettersOf};
 ghost use Rattle.table.specs.Rows.{Rows, wordNumber, depthOf, masksAt, elementAt, withRow};
 ghost use Rattle.table.specs.Tree.{parentOf, placeOr, overOf, Over, ruleLeft, nextChild, Room};
 
-// A policy's shape: `n` elements, how many choices each of `len` attributes has, and their product, the number of requests.
+// A policy's shape: `n` elements; at which of `len` attributes a request has sets of values, how many choices each has, and
+// their product, the number of requests.
 pub struct Shape {
     pub n: usize,
+    pub several: [bool; 6],
     pub counts: [usize; 6],
     pub len: usize,
     pub space: usize,
@@ -63,7 +65,7 @@ pub fn masks_at(table: &[u16], i: usize) -> [u16; 6]
 // Whether a request matches element i's own target.
 pub fn matches(table: &[u16], i: usize, q: Request) -> bool
     requires { ⌜ Rows (now table) (i + 1) × (q .len ≤ 6) ⌝ }
-    ensures { λ r. ⌜ r ≡ matches (valuesOf q) (elementAt (now (table .entry)) i) ⌝ }
+    ensures { λ r. ⌜ r ≡ matches (lettersOf q) (valuesOf q) (elementAt (now (table .entry)) i) ⌝ }
 {
     q.matches(table, 8 * i + 2)
 }

@@ -8,18 +8,19 @@ use mathlib.Core.Option.{Option, none, some}
 use native.Mathlib.Nat.{sub-zero, eq-or-lt-of-le}
 use native.Mathlib.Numerals.{add-one}
 use native.Mathlib.Omega.{arith}
-use lib.ListN.{length, take, drop, getD, set, replicate, length-replicate}
-use lib.Seq.{sets, sets-eq}
+use lib.ListN.{length, take, drop, getD, set, replicate}
+use lib.Seq.{sets}
 use borrow.Author.Tests.{ne-eqb, le-ltb}
 use Rattle.meaning.specs.Text.{Bytes, cut, tab}
-use Rattle.meaning.specs.Model.{Attribute, padded}
-use Rattle.meaning.specs.Reading.{nonZero, full, targetOf, orEmpty, masksOf, badMasks}
+use Rattle.meaning.specs.Model.{Attribute, padded, full}
+use Rattle.meaning.specs.Reading.{nonZero, targetOf, orEmpty, masksOf, badMasks}
 use Rattle.laws.proofs.Targets.{field-read}
 use Rattle.laws.proofs.Bounds.{masks-count}
 use Rattle.text.proofs.Pieces.{behind, piece-last, piece-more, piece-at}
 use Rattle.layout.specs.declared.Attributes.{Attributes}
 use Rattle.layout.specs.Places.{attributeAt, attributesFrom, attributesOf}
 use Rattle.layout.proofs.Laws.{attributes-walk, attributes-length}
+use Rattle.layout.proofs.Counts.{laid-padded}
 use Rattle.tree_fields.specs.Masks.{masksIn}
 
 -- Zeros are no masks
@@ -42,17 +43,6 @@ module _ (x : Attribute) (attrs : List Attribute) (t : Bytes) (ts : List Bytes) 
 
   first-good : mask ≢ 0 → badMasks (x ∷ attrs) (masksOf (x ∷ attrs) (t ∷ ts) ++ zs) ≡ badMasks attrs (masksOf attrs ts ++ zs)
   first-good some-bit = rw (← is-mask, ne-eqb mask 0 some-bit, le-ltb (full (x .values)) mask (rw is-mask (mask-low (x .values) t)))
-
--- Masks laid over zeros
-drop-zeros : (k n : ℕ) → drop k (replicate {A = ℕ} n 0) ≡ replicate (n - k) 0
-drop-zeros zero n = rw (sub-zero n)
-drop-zeros (suc k) zero = let none-left : 0 - suc k ≡ 0 = omega arith in rw none-left
-drop-zeros (suc k) (suc n) = let fewer : suc n - suc k ≡ n - k = omega arith in rw fewer (drop-zeros k n)
-
-laid-padded : (n : ℕ) (ms : List ℕ) → length ms ≤ n → sets (replicate n 0) 0 ms ≡ padded n ms
-laid-padded n ms few =
-    let behind-none : 0 + length ms ≡ length ms = omega arith in
-    sets-eq ms (replicate n 0) 0 (omega (arith, length-replicate {A = ℕ} n 0)) ∙ rw (behind-none, drop-zeros (length ms) n)
 
 -- The masks of the attributes from i on, whose targets start at `at`
 abbrev rest : Bytes → Attributes → ℕ → List Attribute

@@ -11,7 +11,7 @@ use Rattle.meaning.specs.Model.{Policy, given}
 use Rattle.meaning.specs.Reading.{read}
 use Rattle.meaning.specs.Trimming.{lines, isRuleLine, ruleLines}
 use Rattle.meaning.specs.Report.{keptLine}
-use Rattle.meaning.specs.Claims.Deciding.{Rising}
+use Rattle.meaning.specs.Claims.Texts.{Rising}
 use Rattle.laws.proofs.Bools.{Test, passed, failed, test}
 use Rattle.laws.proofs.Search.{counting-has, keep-has, keep-only, counting-rising, keep-rising, rising-map, rising-same}
 use Rattle.laws.proofs.Rewritten.{gathered-map}

@@ -10,7 +10,7 @@ use lib.Seq.{take-append-seam, getD-at}
 use borrow.Author.Tests.{eqb-true, eqb-false}
 use Rattle.meaning.specs.declared.Element.{Element}
 use Rattle.meaning.specs.Text.{Bytes}
-use Rattle.meaning.specs.Model.{nameOf, Policy}
+use Rattle.meaning.specs.Model.{nameOf, Policy, severals}
 use Rattle.meaning.specs.Deciding.{matches, firstDecision, decide}
 use Rattle.meaning.specs.Report.{nameIn}
 use Rattle.laws.proofs.Bools.{Test, passed, failed, test}
@@ -53,10 +53,10 @@ module _ (f : Bytes) (table places : List ℕ) (n : ℕ) (p : Policy) (is : p .e
   whole-left struck live = all-left table struck n live ∙ ap reverse (sym (elements-bare f table places n)) ∙ sym (map-reverse bare (elementsTo f table places n)) ∙ ap (map bare) (sym is)
 
   -- The decision on what is left of the table is that of the policy left
-  pub decided-left : (struck q : List ℕ) → firstDecision (matches q) (left table struck 0 n) ≡ decide (leftPolicy p struck) q
+  pub decided-left : (struck q : List ℕ) → firstDecision (matches (severals (p .attributes)) q) (left table struck 0 n) ≡ decide (leftPolicy p struck) q
   decided-left struck q =
-      ap (firstDecision (matches q)) (left-again table struck 0 n ∙ ap (leftFrom struck 0) (whole-left [] (λ k l. refl)) ∙ sym (left-map bare struck 0 (p .elements)))
-      ∙ decision-bare q (leftFrom struck 0 (p .elements))
+      ap (firstDecision (matches (severals (p .attributes)) q)) (left-again table struck 0 n ∙ ap (leftFrom struck 0) (whole-left [] (λ k l. refl)) ∙ sym (left-map bare struck 0 (p .elements)))
+      ∙ decision-bare (severals (p .attributes)) q (leftFrom struck 0 (p .elements))
 
   -- What an element of the policy has is what stands at its place
   pub element-at : {A : Type 0} (F : Element → A) (d : A) (i : ℕ) → i < n → getD (map F (p .elements)) i d ≡ F (elementIn f table places i)

@@ -8,13 +8,21 @@ use libc::STDOUT_FILENO;
 ghost use Prim.Native.Nat.{_≤_};
 ghost use lib.ListN.{length};
 
-// Where the attribute lines end: at the first line that does not start with `A`.
+// Whether a line that starts with this byte is an attribute line.
+fn is_attribute(first: u8) -> bool {
+    if first == b'A' {
+        return true;
+    }
+    first == b'M'
+}
+
+// Where the attribute lines end: at the first line that is none.
 fn attribute_lines_end(file: &[u8]) -> usize
     ensures { λ r. ⌜ r ≤ length (now (file .entry)) ⌝ }
 {
     let mut at = 0;
     while at < file.len() {
-        if file[at] != b'A' {
+        if !is_attribute(file[at]) {
             return at;
         }
         let end = text::end_of(file, at, b'\n');

@@ -116,10 +116,11 @@ fn step_all(table: &[u16], struck: &[u8], shape: Shape, told: &[u8], shown: bool
     requires { ⌜ PolicyTable (now table) (now struck) shape × (4096 ≤ length (now told)) ⌝ }
 {
     let n = shape.n;
+    let several = shape.several;
     let counts = shape.counts;
     let space = shape.space;
     let mut words = [0u64; 4096];
-    let mut q = requests::request_of(0, counts, shape.len);
+    let mut q = requests::request_of(0, several, counts, shape.len);
     let mut m = 0;
     while m < space {
         if q.number(counts) != m {
@@ -148,14 +149,7 @@ pub(crate) fn stepped(file: &[u8], report: &[u8]) -> bool {
     if reading.number != 0 {
         return true;
     }
-    let attributes = reading.attributes;
-    let counts = layout::sizes(attributes);
-    let shape = Shape {
-        n: reading.elements,
-        counts,
-        len: attributes.len,
-        space: reading.space,
-    };
+    let shape = jogimaduve::shape_of(reading);
     let struck = [0u8; 64];
     let mut told = [4u8; 4096];
     lay_decisions(report, &mut told);

@@ -23,14 +23,19 @@ add-first-2 c =
 with-attribute-requires : tie.Need-with-attribute-requires
 with-attribute-requires c κs = c .before .before .attribute-refusal .ensures .few (c .before .if1 .left)
 
-mul-t21 : tie.Need-mul-t21
-mul-t21 c = let small = c .before .before .before .before .attribute-refusal .ensures .small-space (c .before .before .before .if1 .left) in omega arith
+choices-requires : tie.Need-choices-requires
+choices-requires c κs = c .before .before .before .before .attribute-refusal .ensures .few-values (c .before .before .before .if1 .left)
+
+mul-t23 : tie.Need-mul-t23
+mul-t23 c =
+    let small = c .before .before .before .before .before .attribute-refusal .ensures .small-space (c .before .before .before .before .if1 .left) in
+    rw (c .choices .ensures) (omega arith)
 
 returns-2 : tie.Need-returns-2
 returns-2 c =
-    let a = c .before .before .before .before .before .before .before .before .before .args in
-    let attributes = c .before .with-attribute .ensures ∙ ap (λ name. added (a .st .attributes) (a .st .at + 2) (a .st .at + 3 + length name) (a .end) (a .fields - 2)) (c .before .before .field .ensures) in
-    record { refusal = c .before .before .before .before .attribute-refusal .ensures; state = rw (eq-eqb _ 0 (c .before .before .before .if1 .left), attributes) }
+    let a = c .before .before .before .before .before .before .before .before .before .before .args in
+    let attributes = c .before .before .with-attribute .ensures ∙ ap (λ name. added (a .st .attributes) (a .several) (a .st .at + 2) (a .st .at + 3 + length name) (a .end) (a .fields - 2)) (c .before .before .before .field .ensures) in
+    record { refusal = c .before .before .before .before .before .attribute-refusal .ensures; state = rw (eq-eqb _ 0 (c .before .before .before .before .if1 .left), attributes, c .choices .ensures) }
 
 pub attribute-line-spec : {M : Type 1} → statement M
 attribute-line-spec =
@@ -49,5 +54,6 @@ attribute-line-spec =
     with-attribute-requires
     (λ c. search needs)
     (λ c. search needs)
-    mul-t21
+    choices-requires
+    mul-t23
     returns-2)

@@ -11,19 +11,19 @@ use Rattle.header.proofs.header_line.Tie as tie
 
 attribute-line-requires : tie.Need-attribute-line-requires
 attribute-line-requires c κs =
-    let start = c .before .before .before .before .before in
-    (start .pre .0 .ready .in-file, start .pre .1, of-kind _ (c .before .before .line-shape .ensures) (c .enum-told .given .1))
+    let start = c .before .before .before .before .before .before in
+    (start .pre .0 .ready .in-file, start .pre .1, of-kind _ (c .before .before .before .line-shape .ensures) (c .before .kind .given .1))
 
 returns : tie.Need-returns
 returns c =
-    let pre = c .before .before .before .before .before .before .pre in
-    let line = of-kind _ (c .before .before .before .line-shape .ensures) (c .before .enum-told .given .1) in
+    let pre = c .before .before .before .before .before .before .before .pre in
+    let line = of-kind _ (c .before .before .before .before .line-shape .ensures) (c .before .before .kind .given .1) in
     past-attribute _ _ _ _ line (attribute-told (pre .0 .ready) (pre .1) line (c .attribute-line .ensures))
 
 tree-refusal-requires : tie.Need-tree-refusal-requires
 tree-refusal-requires c κs =
     let start = c .before .before .before .before .before .before in
-    (start .pre .0 .ready .in-file .attributes .standing .few, (_, of-kind _ (c .before .before .before .line-shape .ensures) (c .before .enum-told2 .given .1)))
+    (start .pre .0 .ready .in-file .attributes .standing .few, (_, of-kind _ (c .before .before .before .line-shape .ensures) (c .before .enum-told .given .1)))
 
 returns-2 : tie.Need-returns-2
 returns-2 c = past-tree _ _ _ _ _ refl (c .tree-refusal .ensures)
@@ -31,7 +31,7 @@ returns-2 c = past-tree _ _ _ _ _ refl (c .tree-refusal .ensures)
 returns-3 : tie.Need-returns-3
 returns-3 c =
     let a = c .before .before .before .before .before .args in
-    past-other _ _ _ (of-kind (cut tab (part (a .header .now) (a .st .at) (a .end))) (c .before .before .line-shape .ensures) (c .enum-told3 .given .1) _)
+    past-other _ _ _ (of-kind (cut tab (part (a .header .now) (a .st .at) (a .end))) (c .before .before .line-shape .ensures) (c .enum-told2 .given .1) _)
 
 pub header-line-spec : {M : Type 1} → statement M
 header-line-spec =

@@ -1,6 +1,7 @@
 -- `jogimaduve_report` meets its contract: the file's refusal, or the report.
 use mathlib.Core.Path.{_∙_}
 use Rattle.reader.proofs.FileRead.{small-numbers, file-read}
+use Rattle.jogimaduve.proofs.Shaping.{sizable}
 use Rattle.jogimaduve.proofs.Reporting.{refusal-answered, refusal-lent, held}
 use borrow.Author.Needs.{needs}
 use Rattle.jogimaduve.proofs.jogimaduve_report.Statement.{statement}
@@ -14,6 +15,11 @@ returns c =
     let is-read = c .before .before .before .before .before .read .ensures .answer in
     let out = c .before .before .before .before .before .before .before .before .before .before .args .out .now in
     (c .refusal .ensures ∙ refusal-answered _ _ _ _ is-read out (c .before .if1 .taken), refusal-lent _ _ _ _ is-read out (c .before .if1 .taken))
+
+shape-of-requires : tie.Need-shape-of-requires
+shape-of-requires c κs =
+    let (p, h, holds) = file-read _ _ _ _ (c .before .before .before .before .before .before .read .ensures .answer) (c .before .before .if1 .left) in
+    sizable _ _ _ _ p h holds
 
 report-requires : tie.Need-report-requires
 report-requires c κs =
@@ -31,7 +37,7 @@ jogimaduve-report-spec =
     returns
     (λ c. search needs)
     (λ c. search needs)
-    (λ c κs. search needs)
+    shape-of-requires
     report-requires
     (λ c. search needs)
     (λ c. search needs))

@@ -4,7 +4,7 @@ use native.Mathlib.Omega.{arith}
 use lib.Seq.{length-take-le}
 use Rattle.printing.proofs.Fitting.{written}
 use Rattle.reader.proofs.FileRead.{small-numbers, file-read}
-use Rattle.jogimaduve.proofs.Shaping.{ready, copies}
+use Rattle.jogimaduve.proofs.Shaping.{sizable, ready, copies}
 use Rattle.jogimaduve.proofs.Trimming.{refusal-answered, refusal-lent, small-text, trim-fitted}
 use borrow.Author.Needs.{needs}
 use Rattle.jogimaduve.proofs.jogimaduve_trim.Statement.{statement}
@@ -18,6 +18,11 @@ returns c =
     let is-read = c .before .before .before .before .before .read .ensures .answer in
     let out = c .before .before .before .before .before .before .before .before .before .before .args .out .now in
     (c .refusal .ensures ∙ refusal-answered _ _ _ _ is-read out (c .before .if1 .taken), refusal-lent _ _ _ _ is-read out (c .before .if1 .taken))
+
+shape-of-requires : tie.Need-shape-of-requires
+shape-of-requires c κs =
+    let (p, h, holds) = file-read _ _ _ _ (c .before .before .before .before .before .before .read .ensures .answer) (c .before .before .if1 .left) in
+    sizable _ _ _ _ p h holds
 
 strike-requires : tie.Need-strike-requires
 strike-requires c κs =
@@ -59,7 +64,7 @@ jogimaduve-trim-spec =
     returns
     (λ c. search needs)
     (λ c. search needs)
-    (λ c κs. search needs)
+    shape-of-requires
     strike-requires
     (λ c. search needs)
     (λ c. search needs)

@@ -12,17 +12,17 @@ use Rattle.matching.proofs.match_all.Statement.{statement}
 use Rattle.matching.proofs.match_all.Tie as tie
 
 abbrev Inv-loop : tie.InvT-loop
-Inv-loop table shape hits₀ n counts words i₀ hits i = (i ≤ n) × (length hits ≡ length hits₀) × Hits table i (hitOf shape) (shape .space) hits × Rest i (shape .space) hits₀ hits
+Inv-loop table shape hits₀ n several counts words i₀ hits i = (i ≤ n) × (length hits ≡ length hits₀) × Hits table i (hitOf shape) (shape .space) hits × Rest i (shape .space) hits₀ hits
 
 abbrev μ-loop : tie.MeasureT-loop
-μ-loop table shape hits₀ n counts words i₀ hits i = n - i
+μ-loop table shape hits₀ n several counts words i₀ hits i = n - i
 
 loop-holds : tie.Need-loop-holds Inv-loop μ-loop
-loop-holds c = let args = c .before .before .before .before .args in (search needs, refl, hits-none (args .table .now) (args .shape) (args .hits .now), rest-none (args .shape .space) (args .hits .now))
+loop-holds c = let args = c .before .before .before .before .before .args in (search needs, refl, hits-none (args .table .now) (args .shape) (args .hits .now), rest-none (args .shape .space) (args .hits .now))
 
 loop-again : tie.Need-loop-again Inv-loop μ-loop
 loop-again c =
-    let start = c .before .before .before .before .before .before .before .before .before .before .before .before .before in
+    let start = c .before .before .before .before .before .before .before .before .before .before .before .before .before .before in
     let turn = c .before .before .before .before .before .before .before .before .loop in
     let put = c .before .before .copy-plane in
     let t = start .args .table .now in
@@ -39,7 +39,7 @@ loop-again c =
 
 returns : tie.Need-returns Inv-loop μ-loop
 returns c =
-    let start = c .before .before .before .before .before .before in
+    let start = c .before .before .before .before .before .before .before in
     let turn = c .before .loop in
     let all : turn .i ≡ start .args .shape .n = omega arith in
     let rest = rw all at (turn .inv .3) in

@@ -10,12 +10,9 @@ use Rattle.meaning.specs.Text.{Bytes}
 use Rattle.meaning.specs.Model.{Word, not-applicable, Element, Policy, sizes, space, Result, refused, given}
 use Rattle.meaning.specs.Deciding.{Request, numberOf, requestOf, requestLine, Reply, hits, Outcome, outcome}
 use Rattle.meaning.specs.Segments.{applyingTo, depthAt, parentOf, childrenOf, decisionAt}
-use Rattle.meaning.specs.Claims.Texts.{Ordered}
+use Rattle.meaning.specs.Claims.Texts.{Rising}
 use Rattle.meaning.specs.Claims.Requests.{requestText}
 use Rattle.meaning.specs.Claims.Standard.{standard}
-
-abbrev pub Rising : List ℕ → Type 0
-Rising ns = Ordered (λ n m. n < m) ns
 
 -- An element's parent is the nearest earlier element of depth one less
 pub record IsParent (es : List Element) (j i : ℕ) : Type 0 where

@@ -6,19 +6,19 @@ use mathlib.Core.Bool.{Bool, true, false, cond}
 use mathlib.Core.List.{List, [], _∷_, _++_, map, List·Memᴰ}
 use lib.ListN.{length}
 use Rattle.meaning.specs.Text.{Bytes, bytes, all, gathered, join, comma, line, isName}
-use Rattle.meaning.specs.Model.{Kind, set, policy, rule, Word, deny-overrides, permit-overrides, first-applicable, only-one-applicable, Attribute, Element, padded, nameOf, Policy, choices, space, Result, given, kindText, wordText}
+use Rattle.meaning.specs.Model.{Kind, set, policy, rule, Word, deny-overrides, permit-overrides, first-applicable, only-one-applicable, Attribute, Element, padded, nameOf, Policy, space, Result, given, letterText, kindText, wordText}
 use Rattle.meaning.specs.Claims.Texts.{All, Each, Paired, Among, DistinctNames}
 
--- Attribute line: `A`, name, then 1 to 16 value names
+-- Attribute line: `A`, name, then 1 to 16 value names; or `M`, with at most 12
 pub record GoodAttribute (a : Attribute) : Type 0 where
   pub named : isName (a .name) ≡ true
   pub values-named : all isName (a .values) ≡ true
   pub distinct : DistinctNames (a .values)
-  pub some-value : 1 ≤ choices a
-  pub few-values : length (a .values) ≤ 16
+  pub some-value : 1 ≤ length (a .values)
+  pub few-values : length (a .values) ≤ cond (a .several) 12 16
 
 abbrev pub attributeFields : Attribute → List Bytes
-attributeFields a = bytes "A" ∷ a .name ∷ a .values
+attributeFields a = letterText (a .several) ∷ a .name ∷ a .values
 
 -- A target field by marks, one for each value: `*` if all are marked; else the marked values' names by commas, spelled and
 -- ordered as declared, some and not all. Its mask has a bit for each mark, bit 0 for the first

@@ -17,6 +17,7 @@ use Rattle.meaning.specs.Claims.PolicyFile.{WellFormed, Reads}
 use Rattle.meaning.specs.Claims.Refusals.{Refuses}
 use Rattle.meaning.specs.Claims.Writing.{Shaped, RoundTrips, Made}
 use Rattle.meaning.specs.Claims.WriterRefusals.{RefusesToWrite}
+use Rattle.meaning.specs.Claims.Sets.{SetsNumbered}
 use Rattle.meaning.specs.Claims.Requests.{Numbered, Matched}
 use Rattle.meaning.specs.Claims.Standard.{standard}
 use Rattle.meaning.specs.Claims.Deciding.{Parented, Standardly, Decides}
@@ -55,6 +56,7 @@ pub record Promises : Type 0 where
   pub round-trips : RoundTrips
   pub writing : (room : ℕ) (header : Bytes) (es : List Element) (t : Bytes) → All Shaped es → writeFile room header es ≡ given t ↔ Made room header es t
   pub writer-refusals : (room : ℕ) (header : Bytes) (es : List Element) (n m : ℕ) → All Shaped es → writeFile room header es ≡ refused n m ↔ RefusesToWrite room header es n m
+  pub sets : SetsNumbered
   pub numbers : (f : Bytes) (p : Policy) → read f ≡ given p → Numbered (p .attributes)
   pub targets : (f : Bytes) (p : Policy) → read f ≡ given p → Matched p
   pub appendix-C : (w : Word) (rs : List Reply) → combined w rs ≡ standard w rs

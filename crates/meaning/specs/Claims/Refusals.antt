@@ -2,35 +2,35 @@
 use mathlib.Core.Path.{_≡_}
 use mathlib.Core.Logic.{_≢_, _⊎_}
 use Prim.Native.Nat.{ℕ, suc, _+_, _≤_, _<_}
-use mathlib.Core.Bool.{false}
+use mathlib.Core.Bool.{Bool, false, cond}
 use mathlib.Core.List.{List, [], _∷_, _++_, map, reverse}
 use lib.ListN.{length, getD, drop}
-use Rattle.meaning.specs.Text.{Bytes, bytes, all, gathered, cut, join, newline, tab, line, isField, isName}
-use Rattle.meaning.specs.Model.{Kind, Word, Attribute, Element, nameOf, space, kindText, wordText}
+use Rattle.meaning.specs.Text.{Bytes, all, gathered, cut, join, newline, tab, line, isField, isName}
+use Rattle.meaning.specs.Model.{Kind, Word, Attribute, Element, nameOf, space, letterText, kindText, wordText}
 use Rattle.meaning.specs.Claims.Texts.{Among, DistinctNames}
 use Rattle.meaning.specs.Claims.PolicyFile.{Allowed, Targets, PlacedAt, attributeNames, GoodLines}
 
 -- Refused: the table's rows 2 to 8 on a line, by its fields, behind lines that break no rule, of these attributes and elements,
 -- the nearest first. A row's condition on an attribute line and on a tree line
 abbrev pub On : (Attribute → Type 0) → (Kind → Bytes → Bytes → Bytes → List Bytes → Type 0) → List Bytes → Type 0
-On A T fs = ((getD fs 0 [] ≡ bytes "A") × A (record { name = getD fs 1 []; values = drop 2 fs }))
+On A T fs = ((several : Bool) × (getD fs 0 [] ≡ letterText several) × A (record { several = several; name = getD fs 1 []; values = drop 2 fs }))
     ⊎ ((k : Kind) × (getD fs 0 [] ≡ kindText k) × T k (getD fs 1 []) (getD fs 2 []) (getD fs 3 []) (drop 4 fs))
 
--- empty line or field, other byte; first field not A, S, P or R; field count under 3 (A), or not 4 plus the attributes so far
+-- empty line or field, other byte; first field not A, M, S, P or R; field count under 3 (A, M), or not 4 plus the attributes so far
 abbrev pub BadFields : List Attribute → List Bytes → Type 0
 BadFields attrs fs = (all isField fs ≡ false)
-    ⊎ (((getD fs 0 [] ≢ bytes "A") × ((k : Kind) → getD fs 0 [] ≢ kindText k))
-    ⊎ (((getD fs 0 [] ≡ bytes "A") × (length fs < 3))
+    ⊎ ((((several : Bool) → getD fs 0 [] ≢ letterText several) × ((k : Kind) → getD fs 0 [] ≢ kindText k))
+    ⊎ (((several : Bool) × (getD fs 0 [] ≡ letterText several) × (length fs < 3))
     ⊎ ((k : Kind) × (getD fs 0 [] ≡ kindText k) × (length fs ≢ 4 + length attrs))))
 
--- a name used before among the attributes, a value twice; attribute 7, value 17, space over 4,096
+-- a name used before among the attributes, a value twice; attribute 7, value 17 (M: 13), space over 4,096
 abbrev pub Used : List Attribute → Attribute → Type 0
 Used attrs a = Among (a .name) (attributeNames attrs) ⊎ (DistinctNames (a .values) → ⊥)
 
 abbrev pub TooMany : List Attribute → Attribute → Type 0
-TooMany attrs a = (6 ≤ length attrs) ⊎ ((16 < length (a .values)) ⊎ (4096 < space (attrs ++ (a ∷ []))))
+TooMany attrs a = (6 ≤ length attrs) ⊎ ((cond (a .several) 12 16 < length (a .values)) ⊎ (4096 < space (attrs ++ (a ∷ []))))
 
--- tree line before any A, bad depth, place or parent; a word not allowed for its kind; a bad target
+-- tree line before any A or M, bad depth, place or parent; a word not allowed for its kind; a bad target
 abbrev pub BadPlace : List Attribute → List Element → Kind → Bytes → Type 0
 BadPlace attrs before k d = (length attrs ≡ 0) ⊎ ((x : ℕ) → x ≤ 7 → d ≡ (48 + x) ∷ [] → PlacedAt before k x → ⊥)
 

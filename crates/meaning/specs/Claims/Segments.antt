@@ -1,7 +1,7 @@
 -- Segments and conflicts, of what a tool lists.
 use mathlib.Core.Path.{_≡_}
 use mathlib.Core.Logic.{_≢_, _⊎_, _↔_}
-use Prim.Native.Nat.{ℕ, _+_, _<_}
+use Prim.Native.Nat.{ℕ, _<_}
 use mathlib.Core.Bool.{true, false}
 use mathlib.Core.List.{List, [], _∷_, map, List·Memᴰ}
 use mathlib.Core.Option.{some}
@@ -9,8 +9,7 @@ use lib.ListN.{length, getD}
 use Rattle.meaning.specs.Model.{Decision, Policy, space}
 use Rattle.meaning.specs.Deciding.{outcome}
 use Rattle.meaning.specs.Segments.{applyingTo, parentOf, decisionAt, Conflict}
-use Rattle.meaning.specs.Claims.Texts.{Distinct, Ordered}
-use Rattle.meaning.specs.Claims.Deciding.{Rising}
+use Rattle.meaning.specs.Claims.Texts.{Distinct, Ordered, Rising, total}
 
 -- Two requests are in one segment exactly if the same elements apply to both
 abbrev pub InSegment : Policy → ℕ → ℕ → Type 0
@@ -19,10 +18,6 @@ InSegment p s n = (n < space (p .attributes)) × (applyingTo p n ≡ applyingTo 
 -- n is the first request of its segment
 abbrev pub Opens : Policy → ℕ → Type 0
 Opens p n = (m : ℕ) → m < n → applyingTo p m ≢ applyingTo p n
-
-abbrev pub total : List ℕ → ℕ
-total [] = 0
-total (n ∷ ns) = n + total ns
 
 -- A tool's first requests and its counts: each request is in exactly one segment, shown by its first request; a count is that
 -- of the segment's requests, and all of them get one outcome

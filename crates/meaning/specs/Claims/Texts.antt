@@ -1,7 +1,7 @@
 -- Lists, texts, names and numbers: what the other claims stand on.
 use mathlib.Core.Path.{_≡_}
 use mathlib.Core.Logic.{_≢_, _⊎_, _↔_}
-use Prim.Native.Nat.{ℕ, _+_, _*_, _-_, _≤_}
+use Prim.Native.Nat.{ℕ, _+_, _*_, _-_, _≤_, _<_}
 use mathlib.Core.Bool.{true, false}
 use mathlib.Core.List.{List, [], _∷_, List·Memᴰ}
 use lib.ListN.{length, getD}
@@ -34,6 +34,13 @@ module _ {A B : Type 0} where
   Paired R [] (y ∷ ys) = ⊥
   Paired R (x ∷ xs) [] = ⊥
   Paired R (x ∷ xs) (y ∷ ys) = R x y × Paired R xs ys
+
+abbrev pub Rising : List ℕ → Type 0
+Rising ns = Ordered (λ n m. n < m) ns
+
+abbrev pub total : List ℕ → ℕ
+total [] = 0
+total (n ∷ ns) = n + total ns
 
 abbrev pub In : ℕ → ℕ → ℕ → Type 0
 In low high n = (low ≤ n) × (n ≤ high)

@@ -6,7 +6,7 @@ use mathlib.Core.Bool.{false}
 use mathlib.Core.List.{List, [], _∷_, _++_, map, reverse}
 use lib.ListN.{length, getD, take}
 use Rattle.meaning.specs.Text.{Bytes, gathered, cut, join, newline, tab, line, isName}
-use Rattle.meaning.specs.Model.{Kind, Attribute, Element, nameOf, sizes, kindText}
+use Rattle.meaning.specs.Model.{Kind, Attribute, Element, nameOf, kindText}
 use Rattle.meaning.specs.Claims.Texts.{In, Among}
 use Rattle.meaning.specs.Claims.PolicyFile.{attributeFields, Allowed, Placed, GoodLines}
 use Rattle.meaning.specs.Claims.Refusals.{tableRows, Lowest}
@@ -39,7 +39,7 @@ BadlyPlaced attrs before e = (length attrs ≡ 0) ⊎ ((7 < e .depth) ⊎ (Place
 
 -- 8: an empty mask, a bit too high, a non-zero mask behind the last attribute
 abbrev pub BadMasks : List Attribute → List ℕ → Type 0
-BadMasks attrs ms = ((i : ℕ) × (i < length attrs) × ((getD ms i 0 ≡ 0) ⊎ (2 ^ getD (sizes attrs) i 0 ≤ getD ms i 0))) ⊎ NonZeroFrom (length attrs) ms
+BadMasks attrs ms = ((i : ℕ) × (i < length attrs) × ((getD ms i 0 ≡ 0) ⊎ (2 ^ getD (map (λ a. length (a .values)) attrs) i 0 ≤ getD ms i 0))) ⊎ NonZeroFrom (length attrs) ms
 
 -- The rows 3 to 8 of an element behind elements that break no rule, the nearest first
 abbrev pub elementRows : List Attribute → List Element → Element → List (ℕ × Type 0)

@@ -9,23 +9,23 @@ use Rattle.reader.proofs.read_line.Tie as tie
 
 attribute-line-requires : tie.Need-attribute-line-requires
 attribute-line-requires c κs =
-    let start = c .before .before .before .before .before .before .before in
-    (start .pre .0 .in-file, start .pre .1, of-kind _ (c .before .before .shape-of .ensures) (c .enum-told .given .1))
+    let start = c .before .before .before .before .before .before .before .before in
+    (start .pre .0 .in-file, start .pre .1, of-kind _ (c .before .before .before .shape-of .ensures) (c .before .kind .given .1))
 
 tree-line-requires : tie.Need-tree-line-requires
 tree-line-requires c κs =
     let start = c .before .before .before .before .before .before .before .before .before .before in
-    (start .pre .0, start .pre .1, of-kind _ (c .before .before .before .before .before .shape-of .ensures) (c .before .before .before .kind .given .1))
+    (start .pre .0, start .pre .1, of-kind _ (c .before .before .before .before .before .shape-of .ensures) (c .before .before .before .kind2 .given .1))
 
 returns : tie.Need-returns
 returns c =
-    let pre = c .before .before .before .before .before .before .before .before .pre in
-    attribute-told (pre .0) (pre .1) (of-kind _ (c .before .before .before .shape-of .ensures) (c .before .enum-told .given .1)) (c .attribute-line .ensures)
+    let pre = c .before .before .before .before .before .before .before .before .before .pre in
+    attribute-told (pre .0) (pre .1) (of-kind _ (c .before .before .before .before .shape-of .ensures) (c .before .before .kind .given .1)) (c .attribute-line .ensures)
 
 returns-3 : tie.Need-returns-3
 returns-3 c =
     let a = c .before .before .before .before .before .before .before .args in
-    refused-2 _ _ _ _ _ (of-kind (cut tab (part (a .file .now) (a .st .at) (a .end))) (c .before .before .shape-of .ensures) (c .enum-told2 .given .1) _)
+    refused-2 _ _ _ _ _ (of-kind (cut tab (part (a .file .now) (a .st .at) (a .end))) (c .before .before .shape-of .ensures) (c .enum-told .given .1) _)
 
 pub read-line-spec : {M : Type 1} → statement M
 read-line-spec =

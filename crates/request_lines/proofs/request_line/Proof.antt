@@ -10,13 +10,13 @@ returns : tie.Need-returns
 returns c =
     let args = c .before .before .before .before .before .before .args in
     let wrong = wrong-count (args .file .now) (args .a) (args .line .now) (c .before .before .before .count-pieces .ensures) (c .before .if1 .taken) in
-    subst (AskedAs (c .refuse .result)) wrong (c .refuse .ensures)
+    subst (AskedAs (args .a) (c .refuse .result)) wrong (c .refuse .ensures)
 
 returns-2 : tie.Need-returns-2
 returns-2 c =
     let args = c .before .before .before .before .before .before .args in
     let right = right-count (args .file .now) (args .a) (args .line .now) (c .before .before .before .count-pieces .ensures) (c .before .if1 .left) in
-    subst (AskedAs (c .read-fields .result)) right (c .read-fields .ensures)
+    subst (AskedAs (args .a) (c .read-fields .result)) right (c .read-fields .ensures)
 
 pub request-line-spec : {M : Type 1} → statement M
 request-line-spec =

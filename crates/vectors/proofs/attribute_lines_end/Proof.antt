@@ -21,6 +21,7 @@ attribute-lines-end-spec =
     μ-loop
     (λ c. search needs)
     (λ c. search needs)
+    (λ c κs. search needs)
     (λ c. search needs)
     (λ c κs. search needs)
     (λ c. search needs)

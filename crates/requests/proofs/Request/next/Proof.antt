@@ -13,15 +13,15 @@ use Rattle.requests.proofs.Request.next.Statement.{statement}
 use Rattle.requests.proofs.Request.next.Tie as tie
 
 abbrev Inv-loop : tie.InvT-loop
-Inv-loop counts values₀ len i₀ values i = (i ≤ len) × (length values ≡ 6) × Below len counts values × Carried len i counts values values₀ × (drop len values ≡ drop len values₀)
+Inv-loop counts several values₀ len i₀ values i = (i ≤ len) × (length values ≡ 6) × Below len counts values × Carried len i counts values values₀ × (drop len values ≡ drop len values₀)
 
 abbrev μ-loop : tie.MeasureT-loop
-μ-loop counts values₀ len i₀ values i = i
+μ-loop counts several values₀ len i₀ values i = i
 
 -- a value is below its count, and that is at most the space
 value-small : (c : tie.In-loop Inv-loop μ-loop) → getD (c .before .loop .values) (c .before .loop .i - 1) 0 < 4096
 value-small c =
-    let start = c .before .before .before in
+    let start = c .before .before .before .before in
     let turn = c .before .loop in
     let len = start .args .self .len in
     let counts = start .args .t2 in
@@ -34,7 +34,7 @@ value-small c =
 
 loop-holds : tie.Need-loop-holds Inv-loop μ-loop
 loop-holds c =
-    let start = c .before in
+    let start = c .before .before in
     let few = start .pre .few in
     let six : length (start .args .t2) ≡ 6 = search needs in
     (search needs, search needs, start .pre .below, carried-none (start .args .self .len) (start .args .t2) (start .args .self .values) (omega arith), refl)
@@ -47,7 +47,7 @@ add-values c = omega (arith, value-small (c .before))
 
 returns : tie.Need-returns Inv-loop μ-loop
 returns c =
-    let start = c .before .before .before .before in
+    let start = c .before .before .before .before .before in
     let turn = c .before .before .loop in
     let len = start .args .self .len in
     let counts = start .args .t2 in
@@ -69,7 +69,7 @@ returns c =
 
 loop-again : tie.Need-loop-again Inv-loop μ-loop
 loop-again c =
-    let start = c .before .before .before .before in
+    let start = c .before .before .before .before .before in
     let turn = c .before .before .loop in
     let len = start .args .self .len in
     let counts = start .args .t2 in
@@ -88,7 +88,7 @@ loop-again c =
 
 returns-2 : tie.Need-returns-2 Inv-loop μ-loop
 returns-2 c =
-    let start = c .before .before .before in
+    let start = c .before .before .before .before in
     let turn = c .before .loop in
     let len = start .args .self .len in
     let counts = start .args .t2 in

@@ -1,5 +1,6 @@
 use Prim.Native.Nat.{_-_, _≤_}
 use Rattle.requests.specs.Values.{Fitting}
+use native.Mathlib.Omega.{arith}
 use borrow.Author.Needs.{needs}
 use Rattle.vectors.proofs.stepping.step_all.Statement.{statement}
 use Rattle.vectors.proofs.stepping.step_all.Tie as tie
@@ -9,6 +10,11 @@ Inv-loop table struck told shown n counts space words₀ q₀ m₀ words q m = (
 
 abbrev μ-loop : tie.MeasureT-loop
 μ-loop table struck told shown n counts space words₀ q₀ m₀ words q m = space - m
+
+add-m : tie.Need-add-m Inv-loop μ-loop
+add-m c =
+    let small = c .before .before .before .before .before .before .before .before .before .before .before .before .before .before .before .before .before .pre .0 .small in
+    omega (arith, small)
 
 pub step-all-spec : {M : Type 1} → statement M
 step-all-spec =
@@ -30,7 +36,7 @@ step-all-spec =
     (λ c. search needs)
     (λ c. search needs)
     (λ c κs. search needs)
-    (λ c. search needs)
+    add-m
     (λ c. search needs)
     (λ c. search needs)
     (λ c κs. search needs)
