@@ -10,8 +10,13 @@ def add(name, *parts):
     return data
 
 
-def attribute(name, values):
-    return " ".join(["A", name, *values]) + "\n"
+def attribute(name, values, letter="A"):
+    return " ".join([letter, name, *values]) + "\n"
+
+
+def sets(name, values):
+    """An attribute of which a request holds a set of values."""
+    return attribute(name, values, "M")
 
 
 LETTERS = "abcdefghijklmnop"
@@ -170,6 +175,68 @@ add("trim-search-starts-again", AB, "S 0 top permit-overrides *\nP 1 p first-app
 add("trim-across-policies", "A x a b c\nS 0 top permit-overrides *\nP 1 p first-applicable a,b\nR 2 r1 permit *\n"
     "P 1 q deny-overrides *\nR 2 r2 permit b\nR 2 r3 deny c\nP 1 o first-applicable *\nR 2 r4 deny a,b\n"
     "R 2 r5 permit c\n")
+
+# Attributes of which a request holds a set of values: n values have 2^n - 1 sets, the first value's number 0 alone.
+
+add("accepted-set-of-1-value", "M x a\n", TOP, "R 1 r permit *\n")
+add("accepted-set-of-2-values", "M x a b\n", TOP, "R 1 r1 permit a\nR 1 r2 deny b\n")
+add("accepted-set-of-12-values", sets("x", LETTERS[:12]), TOP, "R 1 r1 permit l\nR 1 r2 deny a,b,c,d,e,f,g,h,i,j,k\n")
+add("accepted-set-of-12-values-7-rules", sets("x", LETTERS[:12]), TOP,
+    *(f"R 1 r-{letter} {'deny' if number % 3 else 'permit'} {letter}\n" for number, letter in enumerate(LETTERS[:6])),
+    "R 1 rest permit g,h,i,j,k,l\n")
+add("accepted-set-of-12-values-then-one-value", sets("x", LETTERS[:12]), "A y c\n", TOP2, "R 1 r1 permit b,l *\n")
+add("accepted-one-value-then-set-of-12-values", "A y c\nM z d\n", sets("x", LETTERS[:12]),
+    "P 0 top deny-overrides * * *\nR 1 r1 permit * * b,l\nR 1 r2 deny * * k\n")
+add("accepted-set-of-11-values-times-2", sets("x", LETTERS[:11]), "A y c d\n", TOP2, "R 1 r1 permit a,k d\n")
+add("accepted-sets-63-times-63", sets("x", "abcdef"), sets("y", "abcdef"), TOP2,
+    "R 1 r1 permit f f\nR 1 r2 deny a,b *\n")
+add("accepted-space-4095-with-set", attribute("x", LETTERS[:13]), sets("y", "abcdef"), attribute("z", LETTERS[:5]),
+    "P 0 top first-applicable * * *\nR 1 r permit m f a\n")
+add("accepted-space-4096-then-set-of-1-value", CUBE, "M w a\n",
+    "P 0 top first-applicable * * * *\nR 1 r permit a p b,c *\n")
+add("accepted-set-first", "M x a b\nA y c d\nA z e f\n", "P 0 top first-applicable * * *\nR 1 r1 permit b c *\n"
+    "R 1 r2 deny a * f\n")
+add("accepted-set-middle", "A y c d\nM x a b\nA z e f\n", "P 0 top first-applicable * * *\nR 1 r1 permit c b *\n"
+    "R 1 r2 deny * a f\n")
+add("accepted-set-last", "A y c d\nA z e f\nM x a b\n", "P 0 top first-applicable * * *\nR 1 r1 permit c * b\n"
+    "R 1 r2 deny * f a\n")
+add("accepted-sets-only", "M x a b\nM y c\nM z d e f\n", "S 0 top deny-overrides * * *\nP 1 p first-applicable a * *\n"
+    "R 2 r1 permit * * d,e\nP 1 q permit-overrides b * e,f\nR 2 r2 deny a * f\nR 2 r3 permit * * d\n")
+add("accepted-sets-of-six-attributes", *(sets(name, "ab") for name in "uvwxyz"),
+    "P 0 top deny-overrides * * * * * *\nR 1 r1 permit a * * b * *\nR 1 r2 deny * * a * b b\n")
+add("accepted-sets-of-1-value-six-attributes",
+    *(attribute(name, "a", letter) for name, letter in zip("uvwxyz", "AMAMAM")),
+    "P 0 top deny-overrides * * * * * *\nR 1 r permit * * * * * *\n")
+add("accepted-sets-among-values", "A u a b\nM v c d\nM w e f g\nA x h\nM y i\nA z j k\n",
+    "S 0 top permit-overrides * * * * * *\nP 1 p first-applicable * c * * * *\nR 2 r1 permit b * f,g * * *\n"
+    "R 2 r2 deny * d * * * k\nP 1 q deny-overrides * * e,g * * *\nR 2 r3 deny a * * * * j\nR 2 r4 permit * d f * * *\n")
+add("accepted-sets-with-capitals", "M Role Tech guest M\nA M A m\nP 0 M first-applicable * *\nR 1 R1 permit Tech,M A\n"
+    "R 1 m-2 deny guest m\nR 1 A deny M *\n")
+# Four algorithms where two roles match two rules or policies.
+for word in ("deny-overrides", "permit-overrides", "first-applicable"):
+    add(f"two-roles-{word}", "M role a b c\n", f"P 0 top {word} *\nR 1 r1 permit a\nR 1 r2 deny b\n")
+add("two-roles-only-one-applicable", "M role a b c\n", "S 0 top only-one-applicable *\nP 1 p first-applicable a\n"
+    "R 2 r1 permit *\nP 1 q first-applicable b\nR 2 r2 deny *\nP 1 o first-applicable c\n")
+add("two-roles-policy-by-one-rule-by-the-other", "M role a b c\n", "S 0 top first-applicable a,b\n"
+    "P 1 p deny-overrides b,c\nR 2 r1 permit c\nR 2 r2 deny a\n")
+# Each value has a rule, so that no two sets are alike; the report is too long, and each request is stepped to.
+add("report-of-4095-sets", sets("x", LETTERS[:12]), TOP.replace("first-applicable", "deny-overrides"),
+    *(f"R 1 r{letter} {'deny' if letter in 'fl' else 'permit'} {letter}\n" for letter in LETTERS[:12]))
+add("conflict-shown-by-set-alone", "M role tech guest\nA act jog teach\n", "P 0 cell first-applicable * *\n"
+    "R 1 r1 permit tech *\nR 1 r2 deny guest teach\n")
+add("conflict-shown-by-sets-of-two-attributes", "M x a b\nM y c d\n", "S 0 top deny-overrides * *\n"
+    "P 1 p first-applicable a c\nR 2 r1 permit * *\nP 1 q first-applicable b d\nR 2 r2 deny * *\n")
+# The set of g alone is request 63, that of a and g 64.
+add("conflict-lowest-set-ends-a-word", sets("x", LETTERS[:7]), "P 0 top deny-overrides *\nR 1 r63 permit g\n"
+    "R 1 no deny *\nR 1 r64 deny a\n")
+# The policy applies to sets that hold all of g to l, from request 4,031 on; with a it is 4,032, the last word's first.
+add("conflict-lowest-set-in-last-word", sets("x", LETTERS[:12]), *(f"S {depth} s{depth} deny-overrides {letter}\n"
+    for depth, letter in enumerate("ghijk")), "P 5 p deny-overrides l\nR 6 all permit *\nR 6 r4032 deny a\n"
+    "R 6 r4033 deny b\nR 6 r4063 deny f\n")
+add("trim-rule-needed-for-set-alone", "M x a b c\n", TOP, "R 1 r1 permit a\nR 1 r2 deny b\nR 1 r3 permit a,c\n")
+add("trim-same-rules-without-sets", "A x a b c\n", TOP, "R 1 r1 permit a\nR 1 r2 deny b\nR 1 r3 permit a,c\n")
+add("trim-strikes-all-rules-with-sets", "M x a b\n", "S 0 top only-one-applicable *\nP 1 p deny-overrides *\n"
+    "R 2 r1 permit a\nP 1 q deny-overrides *\nR 2 r2 deny a\nR 2 r3 permit b\n")
 
 
 def all_but_one(prefix, at, attributes, values=LETTERS):

@@ -1,6 +1,6 @@
 /* The paper's cases "On each side of an edge" and those of changes C-11 and C-12, worked out by hand, run through the
- * reference. Spaces stand for tabs, as in the paper. */
-#include "reference.h"
+ * reference; cases_sets.c has those of C-13. Spaces stand for tabs, as in the paper. */
+#include "cases.h"
 
 #include <stdio.h>
 #include <string.h>
@@ -23,15 +23,15 @@ static void expect(const char *what, struct answer answer, uint32_t number, uint
     bad++;
 }
 
-static void decides(const char *what, const char *policy, const char *line, uint32_t number, uint32_t second)
+void decides(const char *what, const char *policy, const char *line, uint32_t number, uint32_t second)
 {
-    uint8_t file[FILE_BYTES + 1], request[100];
+    uint8_t file[FILE_BYTES + 1], request[400];
     size_t length = bytes_of(policy, file);
     expect(what, ref_decide(file, length, request, bytes_of(line, request)), number, second);
 }
 
-static void gives_text(const char *what, struct answer operation(const uint8_t *, size_t, uint8_t *, size_t),
-                       const char *policy, const char *text)
+void gives_text(const char *what, struct answer operation(const uint8_t *, size_t, uint8_t *, size_t),
+                const char *policy, const char *text)
 {
     uint8_t file[FILE_BYTES + 1], wanted[1000], out[1000];
     size_t length = bytes_of(policy, file), needed = bytes_of(text, wanted);
@@ -49,7 +49,6 @@ static void gives_text(const char *what, struct answer operation(const uint8_t *
     }
 }
 
-#define SIXTEEN " a b c d e f g h i j k l m n o p\n"
 #define CUBE "A x" SIXTEEN "A y" SIXTEEN "A z" SIXTEEN
 #define SEVEN "A x a\nS 0 e0 first-applicable *\nS 1 e1 first-applicable *\nS 2 e2 first-applicable *\n" \
     "S 3 e3 first-applicable *\nS 4 e4 first-applicable *\nS 5 e5 first-applicable *\nP 6 e6 first-applicable *\n"
@@ -181,38 +180,43 @@ static void long_lines(void)
     long_line(38, 39, 4);
 }
 
-/* The writer takes a policy and a rule of these names; `text` is all that it puts into the buffer. */
-static void writes(const char *policy, const char *rule, uint32_t number, uint32_t second, const char *text)
+void writes(const char *lines, const struct record list[2], uint32_t number, uint32_t second, const char *text)
+{
+    uint8_t bytes[200], wanted[300] = {0}, out[300] = {0};
+    size_t length = bytes_of(lines, bytes);
+
+    expect(lines, ref_write((struct slice){bytes, length}, list, 2, out, sizeof out), number, second);
+    bytes_of(text, wanted);
+    if (memcmp(out, wanted, sizeof out) != 0) {
+        printf("%s: other text written\n", lines);
+        bad++;
+    }
+}
+
+static void writes_names(const char *policy, const char *rule, uint32_t number, uint32_t second, const char *text)
 {
     struct record list[] = {
         {.kind = 'P', .depth = 0, .length = (uint8_t)strlen(policy), .word = DENY_OVERRIDES, .mask = {3}},
         {.kind = 'R', .depth = 1, .length = (uint8_t)strlen(rule), .word = EFFECT_PERMIT, .mask = {1}},
     };
-    uint8_t lines[50], wanted[200] = {0}, out[200] = {0};
-    size_t length = bytes_of("A x A b\n", lines);
 
     memcpy(list[0].name, policy, strlen(policy));
     memcpy(list[1].name, rule, strlen(rule));
-    expect(rule, ref_write((struct slice){lines, length}, list, 2, out, sizeof out), number, second);
-    bytes_of(text, wanted);
-    if (memcmp(out, wanted, sizeof out) != 0) {
-        printf("%s: other text written\n", rule);
-        bad++;
-    }
+    writes("A x A b\n", list, number, second, text);
 }
 
 static void lists(void)
 {
     static const char good[] = "A x A b\nP 0 Cell deny-overrides *\nR 1 cel permit A\n";
 
-    writes("Cell", "cel", 0, sizeof good - 1, good);
-    writes("Cell", "cELL", 4, 3, "");
-    writes(NAME, "Name-of-16-bytes", 4, 3, "");
-    writes(NAME, "name-of-16-byteS", 4, 3, "");
-    writes("Cell", "@", 3, 3, "");
-    writes("Cell", "c[", 3, 3, "");
-    writes("c`ll", "r", 3, 2, "");
-    writes("{ell", "r", 3, 2, "");
+    writes_names("Cell", "cel", 0, sizeof good - 1, good);
+    writes_names("Cell", "cELL", 4, 3, "");
+    writes_names(NAME, "Name-of-16-bytes", 4, 3, "");
+    writes_names(NAME, "name-of-16-byteS", 4, 3, "");
+    writes_names("Cell", "@", 3, 3, "");
+    writes_names("Cell", "c[", 3, 3, "");
+    writes_names("c`ll", "r", 3, 2, "");
+    writes_names("{ell", "r", 3, 2, "");
 }
 
 /* C-12: a conflict is shown with the lowest request to which the parent applies and on which its children differ. */
@@ -269,6 +273,7 @@ int main(void)
     long_lines();
     lists();
     lowest_requests();
+    cases_of_sets();
     puts(bad == 0 ? "all cases hold" : "cases fail");
     return bad != 0;
 }

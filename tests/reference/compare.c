@@ -17,6 +17,10 @@ enum { MANY = 10000, OFTEN = 100 };         /* of so many inputs, so many answer
 enum { NUMBERS = 12 };
 
 static unsigned long differences, seen[NUMBERS];
+
+/* How often accepted files had an M, requests held two of its values or more or were refused at its field, and requests
+ * with a comma were refused at an A's field. */
+static struct { unsigned long files, sets, bad_sets, bad_lists; } came_up;
 static uint64_t input_seed;
 
 static void show_bytes(const char *what, const uint8_t *bytes, size_t length)
@@ -55,7 +59,7 @@ static void difference(const char *what, struct answer wanted, jogimaduve_answer
     show_bytes("file", file->bytes, file->length);
 }
 
-static void compare_decide(const struct bytes *file, const struct bytes *request)
+static struct answer compare_decide(const struct bytes *file, const struct bytes *request)
 {
     uint8_t *lent_file = exactly(file->bytes, file->length), *line = exactly(request->bytes, request->length);
     struct answer wanted = ref_decide(file->bytes, file->length, request->bytes, request->length);
@@ -69,6 +73,7 @@ static void compare_decide(const struct bytes *file, const struct bytes *request
     }
     free(lent_file);
     free(line);
+    return wanted;
 }
 
 /* Trim and report alike: both fill a lent buffer of `room` bytes. */
@@ -113,6 +118,27 @@ static void compare_rooms(const char *what, const struct bytes *file, size_t mos
         compare_text(what, file, rooms[i], reference, library);
 }
 
+static int has_set(const struct policy *policy)
+{
+    for (int i = 0; i < policy->attributes; i++)
+        if (policy->attribute[i].letter == 'M')
+            return 1;
+    return 0;
+}
+
+/* Counts a request of an accepted policy by what the reference answers. No good field of an A has a comma. */
+static void count_request(const struct policy *policy, const struct bytes *request, struct answer answer)
+{
+    int comma = memchr(request->bytes, ',', request->length) != NULL;
+
+    if (answer.number == 0)
+        came_up.sets += comma;
+    else if (answer.number == 10 && answer.second > 0 && policy->attribute[answer.second - 1].letter == 'M')
+        came_up.bad_sets++;
+    else if (answer.number == 10 && answer.second > 0)
+        came_up.bad_lists += comma;
+}
+
 static void compare_input(uint64_t seed)
 {
     static struct bytes file, request;
@@ -126,13 +152,16 @@ static void compare_input(uint64_t seed)
 
     for (int i = accepted ? (small ? 24 : 6) : 2; i > 0; i--) {
         make_request(&request, &policy, accepted && below(3) != 0);
-        compare_decide(&file, &request);
+        struct answer answer = compare_decide(&file, &request);
+        if (accepted)
+            count_request(&policy, &request, answer);
     }
+    came_up.files += accepted && has_set(&policy);
     compare_rooms("trim", &file, small ? 5 : 1, below(2) ? file.length : below(64), ref_trim, jogimaduve_trim);
     compare_rooms("report", &file, small ? 5 : 1, below(2) ? REPORT_BYTES : below(64), ref_report, jogimaduve_report);
 }
 
-/* Whether every number was answered often; prints how often. */
+/* Whether every number was answered often, and sets came up often; prints how often. */
 static int all_seen(void)
 {
     int all = 1;
@@ -142,8 +171,10 @@ static int all_seen(void)
         printf(" %d:%lu", number, seen[number]);
         all = all && seen[number] >= OFTEN;
     }
-    printf("\n");
-    return all;
+    printf("\nfiles with an M: %lu; requests with two of its values or more: %lu,", came_up.files, came_up.sets);
+    printf(" refused at an M: %lu, at a list of an A: %lu\n", came_up.bad_sets, came_up.bad_lists);
+    return all && came_up.files >= OFTEN && came_up.sets >= OFTEN
+        && came_up.bad_sets >= OFTEN && came_up.bad_lists >= OFTEN;
 }
 
 int main(int count, char **words)

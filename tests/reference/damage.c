@@ -9,7 +9,7 @@
 static const char *tricky(void)
 {
     static const char *const strings[] = {
-        "", "A", "S", "P", "R", "AA", "a", "0", "1", "2", "7", "8", "07", "-1", "*", "**", "x", "-x", "x-", "X", "~",
+        "", "A", "M", "S", "P", "R", "AA", "a", "0", "1", "2", "7", "8", "07", "-1", "*", "**", "x", "-x", "x-", "X", "~",
         "a,b", ",", "a,", ",a", "a_b", "a.b", "@x", "`x", "[", "{", "name-of-16-bytes", "Name-of-16-bytes",
         "name-of-17-bytes-", "permit", "deny",
     };
@@ -34,7 +34,7 @@ static void damage_target(struct bytes *file, uint32_t number)
         for (length = 0; line + length < file->length && file->bytes[line + length] != '\n'; length++)
             ;
     }
-    if (line >= file->length || file->bytes[line] != 'A')
+    if (line >= file->length || (file->bytes[line] != 'A' && file->bytes[line] != 'M'))
         return;
     int all = one_in(3);
     uint32_t values = count_values(file, line, length), value = below(values), pieces = all ? values : 1 + below(3);
@@ -130,7 +130,7 @@ static void damage_name(struct bytes *file)
 
 void damage(struct bytes *file)
 {
-    static const char *const kinds[] = {"S", "P", "R", "A", "S", "P", "R", "s", "B", "PP"};
+    static const char *const kinds[] = {"S", "P", "R", "A", "M", "S", "P", "R", "s", "B", "PP"};
     static const char *const depths[] = {
         "0", "1", "2", "3", "4", "5", "6", "7", "8", "8", "9", "07", "01", "11", "-1", "*",
     };
@@ -141,6 +141,7 @@ void damage(struct bytes *file)
     static const char *const more_lines[] = {
         "\n", "\t\n", "A\tanother\ta\tb\n", "A\ta\ta\n", "S\t0\troot\tdeny\t*\n", "x",
         "A\tanother\ta\tb\tc\td\te\tf\tg\th\ti\tj\tk\tl\tm\tn\to\tp\tq\n",
+        "M\tanother\ta\tb\n", "M\tanother\ta\tb\tc\td\te\tf\tg\th\ti\tj\tk\tl\tm\n",
     };
     uint8_t byte = tricky_byte();
     uint32_t at = below((uint32_t)file->length);
@@ -149,7 +150,7 @@ void damage(struct bytes *file)
 
     if (file->length == 0)
         return;
-    switch (below(28)) {
+    switch (below(33)) {
     case 0: set_field(file, ANY_LINE, below(7), string); break;
     case 1: set_field(file, TREE_LINE, 2, string); break;
     case 2: set_field(file, ATTRIBUTE_LINE, 1 + below(4), string); break;
@@ -183,6 +184,7 @@ void damage(struct bytes *file)
         while (file->length < length)
             file->bytes[file->length++] = '\n';
         break;
+    case 22: case 23: case 24: case 25: case 26: damage_sets(file); break;
     default: damage_case(file); break;
     }
 }

@@ -1,33 +1,35 @@
 /* Requests and decisions. */
 #include "reference.h"
 
-/* The first attribute weighs most. */
-void values_of(const struct policy *policy, int request, int values[ATTRIBUTES])
+/* The first attribute weighs most. The number of a set is the sum of 2 to the power of each value's number, less 1. */
+void values_of(const struct policy *policy, int request, unsigned held[ATTRIBUTES])
 {
     for (int i = policy->attributes - 1; i >= 0; i--) {
-        values[i] = request % policy->attribute[i].values;
-        request /= policy->attribute[i].values;
+        const struct attribute *attribute = &policy->attribute[i];
+        unsigned number = (unsigned)(request % attribute->count);
+        held[i] = attribute->letter == 'M' ? number + 1 : 1u << number;
+        request /= attribute->count;
     }
 }
 
-/* Whether the request matches the element's own target. */
-static int matches(const struct policy *policy, int place, const int values[ATTRIBUTES])
+/* Whether the request matches the element's own target: each field shares a value with what the request holds. */
+static int matches(const struct policy *policy, int place, const unsigned held[ATTRIBUTES])
 {
     for (int i = 0; i < policy->attributes; i++)
-        if (!(policy->element[place].target[i] >> values[i] & 1))
+        if ((policy->element[place].target[i] & held[i]) == 0)
             return 0;
     return 1;
 }
 
 /* Whether it also matches that of every element above. */
-int applies(const struct policy *policy, int place, const int values[ATTRIBUTES])
+int applies(const struct policy *policy, int place, const unsigned held[ATTRIBUTES])
 {
     if (place < 0)
         return 1; /* above the first element */
-    return matches(policy, place, values) && applies(policy, policy->element[place].parent, values);
+    return matches(policy, place, held) && applies(policy, policy->element[place].parent, held);
 }
 
-static enum decision combined(const struct policy *policy, const struct element *element, const int values[ATTRIBUTES])
+static enum decision combined(const struct policy *policy, const struct element *element, const unsigned held[ATTRIBUTES])
 {
     int any[4] = {0};                         /* whether any child gives this decision */
     enum decision first = NOT_APPLICABLE;     /* the first child's decision that isn't not-applicable */
@@ -38,11 +40,11 @@ static enum decision combined(const struct policy *policy, const struct element 
         int child = element->child[i];
         if (policy->element[child].struck)
             continue;
-        enum decision decision = gives(policy, child, values);
+        enum decision decision = gives(policy, child, held);
         any[decision] = 1;
         if (first == NOT_APPLICABLE)
             first = decision;
-        if (element->word == ONLY_ONE_APPLICABLE && matches(policy, child, values)) {
+        if (element->word == ONLY_ONE_APPLICABLE && matches(policy, child, held)) {
             matching++;
             the_match = decision;
         }
@@ -60,30 +62,40 @@ static enum decision combined(const struct policy *policy, const struct element 
 }
 
 /* What the element itself decides, whatever stands above it. */
-enum decision gives(const struct policy *policy, int place, const int values[ATTRIBUTES])
+enum decision gives(const struct policy *policy, int place, const unsigned held[ATTRIBUTES])
 {
     const struct element *element = &policy->element[place];
 
-    if (!matches(policy, place, values))
+    if (!matches(policy, place, held))
         return NOT_APPLICABLE;
     if (element->kind == 'R')
         return element->word == EFFECT_PERMIT ? PERMIT : DENY;
-    return combined(policy, element, values);
+    return combined(policy, element, held);
 }
 
 /* The file's decision on every request. */
 void decide_space(const struct policy *policy, uint8_t decisions[SPACE])
 {
-    int values[ATTRIBUTES];
+    unsigned held[ATTRIBUTES];
 
     for (int request = 0; request < policy->space; request++) {
-        values_of(policy, request, values);
-        decisions[request] = (uint8_t)gives(policy, 0, values);
+        values_of(policy, request, held);
+        decisions[request] = (uint8_t)gives(policy, 0, held);
     }
 }
 
-/* A request line: value names parted by tabs. Its other bytes are not tested: they are in no value's name. */
-static struct answer read_request(const struct policy *policy, struct slice line, int values[ATTRIBUTES])
+/* The mask of a request's field, or 0 for one that is no value of an A, no list of values of an M. A full list is one,
+ * and there is no other way to write all values. */
+static unsigned held_in(const struct attribute *attribute, struct slice field)
+{
+    if (attribute->letter == 'M')
+        return mask_of_list(attribute, field, 0);
+    int value = value_number(attribute, field);
+    return value < 0 ? 0 : 1u << value;
+}
+
+/* A request line: fields parted by tabs. Its other bytes are not tested: they are in no value's name. */
+static struct answer read_request(const struct policy *policy, struct slice line, unsigned held[ATTRIBUTES])
 {
     int fields = 1;
     for (size_t i = 0; i < line.length; i++)
@@ -96,8 +108,8 @@ static struct answer read_request(const struct policy *policy, struct slice line
     for (int i = 0; i < policy->attributes; i++, start = end + 1) {
         for (end = start; end < line.length && line.bytes[end] != '\t'; end++)
             ;
-        values[i] = value_number(&policy->attribute[i], (struct slice){line.bytes + start, end - start});
-        if (values[i] < 0)
+        held[i] = held_in(&policy->attribute[i], (struct slice){line.bytes + start, end - start});
+        if (held[i] == 0)
             return (struct answer){10, (uint32_t)i + 1};
     }
     return (struct answer){0, 0};
@@ -106,12 +118,12 @@ static struct answer read_request(const struct policy *policy, struct slice line
 struct answer ref_decide(const uint8_t *file, size_t file_len, const uint8_t *request, size_t request_len)
 {
     struct policy policy;
-    int values[ATTRIBUTES] = {0};
+    unsigned held[ATTRIBUTES] = {0};
 
     struct answer answer = read_policy(file, file_len, &policy);
     if (answer.number == 0)
-        answer = read_request(&policy, (struct slice){request, request_len}, values);
+        answer = read_request(&policy, (struct slice){request, request_len}, held);
     if (answer.number == 0)
-        answer.second = (uint32_t)gives(&policy, 0, values);
+        answer.second = (uint32_t)gives(&policy, 0, held);
     return answer;
 }

@@ -1,4 +1,4 @@
-/* Valid files and request lines, made as text. */
+/* Valid files, made as text. */
 #include "generate.h"
 
 #include <stdio.h>
@@ -47,7 +47,9 @@ static void name_of(struct style style, int number, char name[17])
 
 struct shape {
     int capitals; /* whether names may have them */
+    int sets;     /* of four attributes so many are an M */
     int attributes;
+    char letter[8];
     int values[8];
     char value[8][20][17];
     uint32_t stars; /* of ten targets so many are `*` */
@@ -61,30 +63,48 @@ static struct style any_style(const struct shape *shape)
     return style;
 }
 
-/* How many values each attribute has. */
+/* Values of all attributes, those of an M below 0, on both sides of 4,096, of 16 and 12 values and of 6 attributes. The
+ * next space over 4,096 that there can be, with sets or without, is 4,116. */
+static const int edges[][8] = {
+    {16, 16, 16}, {16, 16, 16, 2}, {16, 16, 16, 1, 1, 1}, {1, 16, 16, 1, 16, 2}, {14, 14, 7, 3}, {13, 9, 7, 5},
+    {16, 16, 17}, {17}, {16, 16, 16, 1, 1, 1, 1}, {4, 4, 4, 4, 4, 4}, {2, 2, 2, 2, 2, 2, 2},
+    {-12}, {-13}, {-12, 1}, {1, -1, -12, 1, -1}, {-12, 2}, {2, -12}, {-11, 2}, {2, -11}, {-11, -2}, {-6, -6}, {-6, -7},
+    {-7, -5}, {-6, 13, 5}, {14, -3, 14, 3}, {16, 16, 16, -1}, {16, 16, 16, -2}, {16, -8}, {-8, 17}, {-4, -4, -4},
+    {-4, -4, -4, 2}, {-2, -2, -2, -2, -2, -2}, {-1, -1, -1, -1, -1, -1}, {-1, 1, -1, 1, -1, 1, -1},
+    {-1, -1, -1, -1, -1, -1, -1}, {-16}, {-17},
+};
+
+/* What an attribute counts in the space. */
+static int count_of(char letter, int values)
+{
+    return letter == 'M' ? (1 << values) - 1 : values;
+}
+
+/* How many values each attribute has, and whether a request holds one of them or a set. */
 static void choose_values(struct shape *shape)
 {
     static const int spaces[] = {8, 24, 24, 60, 60, 256, 1024, 4096};
-    static const int edges[][8] = { /* on both sides of 4,096; 4,116 is the next space over it that there can be */
-        {16, 16, 16}, {16, 16, 16, 2}, {16, 16, 16, 1, 1, 1}, {1, 16, 16, 1, 16, 2}, {14, 14, 7, 3}, {13, 9, 7, 5},
-        {16, 16, 17}, {17}, {16, 16, 16, 1, 1, 1, 1}, {4, 4, 4, 4, 4, 4}, {2, 2, 2, 2, 2, 2, 2}
-    };
     int space = 1, most = spaces[below(8)];
 
     shape->attributes = 0;
-    if (one_in(25)) {
-        uint32_t edge = below(sizeof edges / sizeof *edges);
-        for (int i = 0; i < 8 && edges[edge][i] > 0; i++)
-            shape->values[shape->attributes++] = edges[edge][i];
+    if (one_in(20)) {
+        const int *edge = edges[below(sizeof edges / sizeof *edges)];
+        for (int i = 0; i < 8 && edge[i] != 0; i++) {
+            shape->letter[i] = edge[i] < 0 ? 'M' : 'A';
+            shape->values[i] = edge[i] < 0 ? -edge[i] : edge[i];
+            shape->attributes++;
+        }
         return;
     }
-    int attributes = 1 + (int)below(6);
-    while (shape->attributes < attributes) {
-        int values = 1 + (int)below(one_in(2) ? 16 : 4);
-        if (space * values > most)
-            values = most / space > 0 ? most / space : 1;
-        space *= values;
-        shape->values[shape->attributes++] = values;
+    for (int attributes = 1 + (int)below(6); shape->attributes < attributes; shape->attributes++) {
+        char letter = (int)below(4) < shape->sets ? 'M' : 'A';
+        int many = letter == 'M' ? one_in(6) : one_in(2); /* sets soon fill the space */
+        int values = 1 + (int)below(many ? (letter == 'M' ? SET_VALUES : VALUES) : 4);
+        while (values > 1 && space * count_of(letter, values) > most)
+            values--;
+        space *= count_of(letter, values);
+        shape->letter[shape->attributes] = letter;
+        shape->values[shape->attributes] = values;
     }
 }
 
@@ -97,7 +117,7 @@ static void make_attributes(struct bytes *file, struct shape *shape)
         struct style style = any_style(shape);
         char name[17];
         name_of(attribute_style, i, name);
-        put(file, "A\t");
+        put(file, shape->letter[i] == 'M' ? "M\t" : "A\t");
         put(file, name);
         for (int value = 0; value < shape->values[i]; value++) {
             name_of(style, value, shape->value[i][value]);
@@ -192,6 +212,9 @@ static void make_elements(struct bytes *file, const struct shape *shape)
 /* Long rules, then short ones whose names' lengths find the size. */
 void make_edge_file(struct bytes *file)
 {
+    static const int counts[][3] = {{8, 8, 8}, {8, 16, 1}};
+    int sets = one_in(2); /* the first attribute is an M; there is room for 255 sets times 16 values */
+    const int *values = counts[sets];
     const char *value_name = one_in(2) ? "value-of-16-byt" : "Value-Of-16-byT";
     size_t size = 16382 + below(5);
     char line[80];
@@ -199,10 +222,10 @@ void make_edge_file(struct bytes *file)
 
     file->length = 0;
     for (int i = 0; i < 3; i++) {
-        sprintf(line, "A\tx%d", i);
+        sprintf(line, "%c\tx%d", sets && i == 0 ? 'M' : 'A', i);
         put(file, line);
-        for (int value = 0; value < 8; value++) {
-            sprintf(line, "\t%s%d", value_name, value);
+        for (int value = 0; value < values[i]; value++) {
+            sprintf(line, "\t%s%c", value_name, 'a' + value);
             put(file, line);
         }
         put(file, "\n");
@@ -212,9 +235,12 @@ void make_edge_file(struct bytes *file)
         sprintf(line, "R\t1\t%s%d", one_in(2) ? "long" : "LonG", rules++);
         put(file, line);
         put(file, one_in(2) ? "\tdeny" : "\tpermit");
-        for (int i = 0; i < 21; i++) {
-            sprintf(line, "%c%s%d", i % 7 == 0 ? '\t' : ',', value_name, i % 7);
-            put(file, line);
+        for (int i = 0; i < 3; i++) {
+            put(file, values[i] == 1 ? "\t*" : "");
+            for (int value = 0; value < values[i] - 1; value++) {
+                sprintf(line, "%c%s%c", value == 0 ? '\t' : ',', value_name, 'a' + value);
+                put(file, line);
+            }
         }
         put(file, "\n");
     }
@@ -235,6 +261,7 @@ void make_file(struct bytes *file)
     }
     file->length = 0;
     shape.capitals = !one_in(3);
+    shape.sets = one_in(3) ? 0 : 1 + (int)below(4);
     make_attributes(file, &shape);
     shape.stars = shape.attributes > 3 ? 5 + below(4) : below(7);
     shape.narrow = one_in(3);
@@ -243,34 +270,4 @@ void make_file(struct bytes *file)
     if (!one_in(3))
         for (uint32_t i = 1 + below(one_in(3) ? 3 : 1); i > 0; i--)
             damage(file);
-}
-
-void make_request(struct bytes *request, const struct policy *policy, int good)
-{
-    request->length = 0;
-    for (int i = 0; i < policy->attributes; i++) {
-        const struct attribute *attribute = &policy->attribute[i];
-        struct slice value = attribute->value[below((uint32_t)attribute->values)];
-        put(request, i > 0 ? "\t" : "");
-        replace(request, request->length, 0, value.bytes, value.length);
-    }
-    if (one_in(2))
-        turn_case(request->bytes, request->length);
-    if (good)
-        return;
-    uint8_t byte = tricky_byte();
-    uint32_t at = below((uint32_t)request->length + 1);
-    size_t length, field = field_of(request, 0, request->length, below(6), &length);
-    switch (below(10)) {
-    case 0: put(request, one_in(2) ? "\n" : "\t"); break;
-    case 1: request->length = 0; break;
-    case 2: request->length = at; break;
-    case 3: replace(request, at, 0, &byte, 1); break;
-    case 4: replace(request, at, at < request->length, &byte, 1); break;
-    case 5: replace(request, at, at < request->length, "", 0); break;
-    case 6: put(request, "\tx\tx\tx\tx\tx\tx\tx"); break;
-    case 7: request->bytes[at] ^= (uint8_t)(one_in(2) ? CASE_BIT : 1 << below(8)); break; /* fine in a letter */
-    case 8: byte = byte_beside_letters(); replace(request, at, at < request->length, &byte, 1); break;
-    default: replace(request, field, length, "*", byte < 64); break; /* another field, or an empty one */
-    }
 }

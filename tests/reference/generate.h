@@ -17,7 +17,7 @@ void replace(struct bytes *text, size_t at, size_t length, const void *bytes, si
 void put(struct bytes *text, const char *string); /* at the end */
 
 #define TREE_LINE "SPR"
-#define ATTRIBUTE_LINE "A"
+#define ATTRIBUTE_LINE "AM"
 #define ANY_LINE ""
 
 /* A random line that starts with one of these letters, if there is one: where it starts and how long it is, newline
@@ -34,7 +34,7 @@ uint32_t count_values(const struct bytes *text, size_t line, size_t line_length)
 void make_file(struct bytes *file);
 void make_edge_file(struct bytes *file); /* near 16,384 bytes, good but for its size */
 
-/* A request line of the policy, or a bad one (of any policy, also one that was refused). */
+/* requests.c: a request line of the policy, or a bad one (of any policy, also one that was refused). */
 void make_request(struct bytes *request, const struct policy *policy, int good);
 
 /* damage.c */
@@ -50,6 +50,9 @@ uint8_t byte_beside_letters(void); /* the first and the last of A-Z and a-z, and
 /* Gives a name another that is equal but for case; may lengthen it first. */
 void make_equal(uint8_t name[NAME_BYTES], uint8_t other[NAME_BYTES], size_t *length);
 void damage_case(struct bytes *file);
+
+/* sets.c: attribute lines A and M, and how many values there may be of an M */
+void damage_sets(struct bytes *file);
 
 /* lists.c */
 enum { LONGEST = ELEMENTS + 2 }; /* more than the writer looks at */

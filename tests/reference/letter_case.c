@@ -83,7 +83,7 @@ static void many_values(struct bytes *file)
     const char *format = one_in(2) ? "\tvalue-%04lu-of-16" : "\tv%lu";
     char value[24];
     size_t length, line = pick_line(file, ATTRIBUTE_LINE, &length);
-    uint32_t values = 17 + below(one_in(4) ? 200 : 24), again = below(values), of = one_in(3) ? again : below(values);
+    uint32_t values = 9 + below(one_in(4) ? 200 : 32), again = below(values), of = one_in(3) ? again : below(values);
 
     for (uint32_t i = 0; i < values; i++) {
         size_t count = (size_t)sprintf(value, format, (unsigned long)(i == again ? of : i));

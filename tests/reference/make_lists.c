@@ -14,7 +14,7 @@
 enum { MANY = 1000, OFTEN = 10 }; /* of so many lists, so many answers of each number */
 enum { NUMBERS = 12, TOO_MANY = 65536 };
 
-static unsigned long seen[NUMBERS];
+static unsigned long seen[NUMBERS], with_sets; /* lists written, of which an attribute line is an M */
 
 static void put_pair(FILE *file, size_t number)
 {
@@ -40,6 +40,14 @@ static void store(FILE *file, const struct list *list)
     }
 }
 
+static int has_set(const struct bytes *lines)
+{
+    for (size_t i = 0; i < lines->length; i++)
+        if (lines->bytes[i] == 'M' && (i == 0 || lines->bytes[i - 1] == '\n'))
+            return 1;
+    return 0;
+}
+
 static void store_answer(FILE *file, const struct list *list)
 {
     static uint8_t out[TOO_MANY];
@@ -50,6 +58,7 @@ static void store_answer(FILE *file, const struct list *list)
         sum = (sum * 257 + out[i] + 1) % 4294967291u;
     fprintf(file, "%lu\t%lu\t%llu\n", (unsigned long)answer.number, (unsigned long)answer.second, (unsigned long long)sum);
     seen[answer.number]++;
+    with_sets += answer.number == 0 && has_set(&list->lines);
 }
 
 int main(int count, char **words)
@@ -74,6 +83,7 @@ int main(int count, char **words)
         printf(" %d:%lu", i, seen[i]);
         all = all && (seen[i] >= OFTEN || i == 10); /* 10 is a request's */
     }
-    printf("\n");
+    printf(", with an M written: %lu\n", with_sets);
+    all = all && with_sets >= OFTEN;
     return fclose(lists) != 0 || fclose(answers) != 0 || otherwise != 0 || (number >= MANY && !all);
 }

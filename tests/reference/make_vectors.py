@@ -68,15 +68,33 @@ def far_too_long():
 ALGORITHMS = ("deny-overrides", "permit-overrides", "first-applicable", "only-one-applicable")
 
 
-def random_policy(seed):
-    random.seed(f"policy-{seed}")
+def random_counts():
     counts, space = [], 1
     for _ in range(random.randint(1, 6)):
         count = random.choice([count for count in (1, 2, 2, 3, 4, 6) if space * count <= 24])
-        counts.append(count)
+        counts.append(("A", count))
         space *= count
-    values = [[f"{'abcdef'[at]}{number}" for number in range(count)] for at, count in enumerate(counts)]
-    text = "".join(attribute(f"attribute-{at}", some) for at, some in enumerate(values))
+    return counts
+
+
+def random_counts_with_sets():
+    """At least one M, in any place; a space of up to 120."""
+    counts, space, attributes = [], 1, random.randint(1, 6)
+    must = random.randrange(attributes)
+    for at in range(attributes):
+        letter = "M" if at == must else random.choice("AMM")
+        sizes = {count: 2**count - 1 if letter == "M" else count for count in (1, 2, 3, 4)}
+        count = random.choice([count for count, size in sizes.items() if space * size <= 120])
+        counts.append((letter, count))
+        space *= sizes[count]
+    return counts
+
+
+def random_policy(seed, choose_counts):
+    random.seed(f"policy-{seed}")
+    counts = choose_counts()
+    values = [[f"{'abcdef'[at]}{number}" for number in range(count)] for at, (_, count) in enumerate(counts)]
+    text = "".join(attribute(f"attribute-{at}", some, counts[at][0]) for at, some in enumerate(values))
 
     def target(some):
         if len(some) == 1 or random.random() < 0.45:
@@ -101,7 +119,9 @@ def random_policy(seed):
 
 
 for seed in range(30):
-    add(f"random-{seed:02}", random_policy(seed))
+    add(f"random-{seed:02}", random_policy(seed, random_counts))
+for seed in range(30, 50):
+    add(f"random-{seed:02}", random_policy(seed, random_counts_with_sets))
 
 
 LISTS = 400
@@ -115,7 +135,7 @@ def build(program, *parts):
 def lists_and_answers(scratch):
     """Lists for the writer, and the lines that must be printed of them."""
     program, lists, answers = (pathlib.Path(scratch) / name for name in ("make_lists", "lists", "answers"))
-    build(program, "make_lists", "lists", "generate", "damage", "letter_case", "text", "read", "write")
+    build(program, "make_lists", "lists", "generate", "requests", "damage", "sets", "letter_case", "text", "read", "write")
     subprocess.run([program, "1", str(LISTS), lists, answers], check=True, stdout=subprocess.DEVNULL)
     return lists.read_bytes(), answers.read_bytes()
 

@@ -84,11 +84,18 @@ static int take_fields(struct slice line, struct fields *fields)
     return 1;
 }
 
+/* What an attribute counts in the space: an M has a request for each set of its values but the empty one. */
+static int count_of(char letter, int values)
+{
+    return letter == 'M' ? (1 << values) - 1 : values;
+}
+
 /* The tests 3 to 6 of an attribute line; a good one joins the policy. */
 static uint32_t read_attribute(struct policy *policy, const struct fields *fields)
 {
     const struct slice *name = &fields->field[1], *value = &fields->field[2];
-    size_t values = fields->count - 2;
+    char letter = (char)fields->field[0].bytes[0];
+    size_t values = fields->count - 2, most = letter == 'M' ? SET_VALUES : VALUES;
 
     for (size_t i = 1; i < fields->count; i++)
         if (!is_name(fields->field[i]))
@@ -96,21 +103,26 @@ static uint32_t read_attribute(struct policy *policy, const struct fields *field
     for (int i = 0; i < policy->attributes; i++)
         if (equal_names(policy->attribute[i].name, *name))
             return 4;
-    /* All values count here, also those behind the sixteenth: 4 is lower than 5. */
+    /* All values are looked at here, also those that are too many: 4 is lower than 5. */
     for (size_t later = 1; later < values; later++)
         for (size_t earlier = 0; earlier < later; earlier++)
             if (equal_names(value[earlier], value[later]))
                 return 4;
-    if (policy->attributes == ATTRIBUTES || values > VALUES || policy->space * (int)values > SPACE)
+    if (policy->attributes == ATTRIBUTES || values > most)
+        return 5;
+    int count = count_of(letter, (int)values);
+    if (policy->space * count > SPACE)
         return 5;
     if (policy->elements > 0)
         return 6;
 
     struct attribute *attribute = &policy->attribute[policy->attributes++];
+    attribute->letter = letter;
     attribute->name = *name;
     attribute->values = (int)values;
     memcpy(attribute->value, value, values * sizeof *value);
-    policy->space *= (int)values;
+    attribute->count = count;
+    policy->space *= count;
     return 0;
 }
 
@@ -148,24 +160,32 @@ static enum word word_of(struct slice field, char kind)
     return WORDS;
 }
 
-/* The mask of a target field, or 0 for a bad one: no good target has an empty mask. */
-static unsigned target_of(struct slice field, const struct attribute *attribute)
+unsigned mask_of_list(const struct attribute *attribute, struct slice field, int spelt_alike)
 {
-    unsigned all = (1u << attribute->values) - 1, mask = 0;
+    unsigned mask = 0;
     int lowest = 0; /* declared order, each once: the next value stands behind the one before */
 
-    if (is(field, "*"))
-        return all;
     for (size_t start = 0, end; start <= field.length; start = end + 1) {
         for (end = start; end < field.length && field.bytes[end] != ','; end++)
             ;
         struct slice name = {field.bytes + start, end - start};
         int value = value_number(attribute, name);
-        if (value < lowest || !same(attribute->value[value], name)) /* as its attribute line spells it */
+        if (value < lowest || (spelt_alike && !same(attribute->value[value], name)))
             return 0;
         mask |= 1u << value;
         lowest = value + 1;
     }
+    return mask;
+}
+
+/* The mask of a target field, or 0 for a bad one: no good target has an empty mask. */
+static unsigned target_of(struct slice field, const struct attribute *attribute)
+{
+    unsigned all = (1u << attribute->values) - 1;
+
+    if (is(field, "*"))
+        return all;
+    unsigned mask = mask_of_list(attribute, field, 1);
     return mask == all ? 0 : mask;
 }
 
@@ -211,7 +231,7 @@ static uint32_t read_line(struct policy *policy, struct slice line)
         return 2;
     if (!take_fields((struct slice){line.bytes, line.length - 1}, &fields))
         return 2;
-    if (is(fields.field[0], "A"))
+    if (is(fields.field[0], "A") || is(fields.field[0], "M"))
         return fields.count < 3 ? 2 : read_attribute(policy, &fields);
     if (!is(fields.field[0], "S") && !is(fields.field[0], "P") && !is(fields.field[0], "R"))
         return 2;

@@ -1,4 +1,5 @@
-/* Reference implementation of paper 01 with change C-11, written from the paper alone: plain code, for comparing with.
+/* Reference implementation of paper 01 with changes C-11 to C-13, written from the papers alone: plain code, for
+ * comparing with.
  *
  * Every function answers two numbers. `number` is 0 where the work was done, and `second` is then the result; any other
  * `number` is the paper's refusal with its second number. Lent memory is left as it was on every refusal. */
@@ -21,7 +22,7 @@ struct answer ref_report(const uint8_t *file, size_t len, uint8_t *out, size_t r
 
 /* What follows is for the reference's own files. */
 
-enum { FILE_BYTES = 16384, NAME_BYTES = 16, ATTRIBUTES = 6, VALUES = 16, SPACE = 4096, ELEMENTS = 64 };
+enum { FILE_BYTES = 16384, NAME_BYTES = 16, ATTRIBUTES = 6, VALUES = 16, SET_VALUES = 12, SPACE = 4096, ELEMENTS = 64 };
 
 enum decision { PERMIT, DENY, NOT_APPLICABLE, INDETERMINATE };
 
@@ -35,9 +36,11 @@ enum word {
 struct slice { const uint8_t *bytes; size_t length; };
 
 struct attribute {
+    char letter;                /* 'A': a request holds one of its values; 'M': a set of one or more */
     struct slice name;
-    int values;
+    int values;                 /* at most VALUES, of an M at most SET_VALUES */
     struct slice value[VALUES];
+    int count;                  /* what it counts in the space: its values, or the sets that there are of them */
 };
 
 struct element {
@@ -68,13 +71,18 @@ struct answer read_policy(const uint8_t *file, size_t length, struct policy *pol
 int equal_names(struct slice a, struct slice b); /* letter case (A-Z, a-z) aside; no other bytes are alike */
 int is_name(struct slice field);
 int value_number(const struct attribute *attribute, struct slice name); /* letter case aside; -1 if it is no value */
+
+/* The mask of values parted by single commas, in declared order and each once, or 0 for another field: no such list has
+ * an empty mask. Each value is spelt as its attribute line does or, where that is not asked for, letter case aside. */
+unsigned mask_of_list(const struct attribute *attribute, struct slice field, int spelt_alike);
 int parent_of(const struct policy *policy, int depth); /* the nearest earlier element of depth one less, or -1 */
 int well_placed(const struct policy *policy, char kind, int depth, int parent);
 
-/* decide.c */
-void values_of(const struct policy *policy, int request, int values[ATTRIBUTES]);
-int applies(const struct policy *policy, int place, const int values[ATTRIBUTES]);
-enum decision gives(const struct policy *policy, int place, const int values[ATTRIBUTES]);
+/* decide.c: `held` has, for each attribute, a mask of the values that the request holds. It is never empty, and of an A
+ * it has one value. */
+void values_of(const struct policy *policy, int request, unsigned held[ATTRIBUTES]);
+int applies(const struct policy *policy, int place, const unsigned held[ATTRIBUTES]);
+enum decision gives(const struct policy *policy, int place, const unsigned held[ATTRIBUTES]);
 void decide_space(const struct policy *policy, uint8_t decisions[SPACE]);
 
 /* An element of the list that the writer takes. */

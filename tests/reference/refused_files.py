@@ -1,5 +1,5 @@
 """Policy files that are refused: each refusal, each of its reasons. In the texts spaces stand for tabs."""
-from accepted_files import AB, LETTERS, LONG, SET, TOP, TOP2, TWO, add, attribute
+from accepted_files import AB, LETTERS, LONG, SET, TOP, TOP2, TWO, add, attribute, sets
 
 # Refusal 2, each reason.
 
@@ -128,3 +128,58 @@ add("lowest-4-behind-tree", AB, TOP, "A x c\n")
 add("lowest-6-over-7-and-8", AB, TOP, "R 0 r first-applicable a,b\n")
 add("lowest-7-over-8", AB, TOP, "R 1 r first-applicable a,b\n")
 add("first-bad-line-8-before-2", AB, TOP, "R 1 r permit a,b\n", "\n")
+
+# Attributes of which a request holds a set of values: `M` stands where `A` may, with 12 values at most.
+
+add("refused-2-set-one-field", "M\n", TOP)
+add("refused-2-set-no-value", AB, "M y\n", TOP2)
+add("refused-2-letter-small-m", "m x a b\n", TOP)
+add("refused-2-set-two-letters", "MM x a b\n", TOP)
+add("refused-2-target-of-set-missing", AB, "M y c d\n", TOP2, "R 1 r permit a\n")
+add("refused-2-tree-line-first-with-target-of-set", TOP, "M x a b\n")
+add("refused-2-set-no-value-behind-tree", AB, TOP, "M y\n")
+
+add("refused-3-set-value-hyphen-first", "M x a -b\n", TOP)
+add("refused-3-set-value-with-comma", "M x a b,c\n", TOP)
+add("refused-3-set-value-13-is-bad", sets("x", [*LETTERS[:12], "m_"]), TOP)
+add("refused-3-set-value-13-is-bad-and-another-double", sets("x", ["a", *LETTERS[:11], "m_"]), TOP)
+
+add("refused-4-set-value-twice", "M x a b a\n", TOP)
+add("refused-4-set-value-but-for-case", "M x Tech guest tecH\n", TOP)
+add("refused-4-set-value-13-is-double", sets("x", [*LETTERS[:12], "l"]), TOP)
+add("refused-4-set-value-13-but-for-case", sets("x", [*LETTERS[:12], "A"]), TOP)
+add("refused-4-set-values-13-and-14-but-for-case", sets("x", [*LETTERS[:13], "M"]), TOP)
+add("refused-4-set-named-as-attribute", "A role a\nM Role b\n", TOP2)
+add("refused-4-attribute-named-as-set", "M role a\nA role b\n", TOP2)
+add("refused-4-set-twice-behind-tree", AB, TOP, "M X c\n")
+
+add("refused-5-set-value-13", sets("x", LETTERS[:13]), TOP)
+add("refused-5-set-of-16-values", sets("x", LETTERS), TOP)
+add("refused-5-set-value-17", sets("x", [*LETTERS, "q"]), TOP)
+add("refused-5-set-of-40-values", sets("x", MANY), TOP)
+add("refused-5-sets-63-times-127", sets("x", "abcdef"), sets("y", "abcdefg"), TOP2)
+add("refused-5-set-of-12-values-times-2", sets("x", LETTERS[:12]), "A y c d\n", TOP2)
+add("refused-5-2-times-set-of-12-values", "A y c d\n", sets("x", LETTERS[:12]), TOP2)
+add("refused-5-space-4096-then-set-of-2-values", *(attribute(name, LETTERS) for name in "xyz"), "M w a b\n",
+    "P 0 top first-applicable * * * *\n")
+# No space lies nearer over 4,096 with sets either.
+add("refused-5-space-4116-with-set", attribute("w", LETTERS[:14]), sets("x", "abc"), attribute("y", LETTERS[:14]),
+    attribute("z", "abc"), "P 0 top first-applicable * * * *\n")
+add("refused-5-attribute-7-is-set", SIX, "M t a\n", "P 0 top first-applicable" + " *" * 7 + "\n")
+add("refused-5-attribute-7-behind-sets", *(sets(name, "a") for name in "uvwxyz"), "A t a\n",
+    "P 0 top first-applicable" + " *" * 7 + "\n")
+add("refused-5-set-of-13-values-behind-tree", AB, TOP, sets("y", LETTERS[:13]))
+
+add("refused-6-set-behind-tree", AB, TOP, "M y c\n")
+add("refused-6-set-behind-tree-of-sets", "M x a b\n", TOP, "R 1 r permit a\n", "M y c d\n")
+add("refused-6-tree-line-before-set", "P 0 top first-applicable\n", "M x a b\n", TOP)
+
+add("refused-8-full-list-of-set", "M x a b c\n", TOP, "R 1 r permit a,b,c\n")
+add("refused-8-full-list-of-set-of-12-values", sets("x", LETTERS[:12]), TOP, f"R 1 r permit {','.join(LETTERS[:12])}\n")
+add("refused-8-one-value-of-set-listed", "M x a\n", TOP, "R 1 r permit a\n")
+add("refused-8-set-wrong-order", "M x a b c\n", TOP, "R 1 r permit b,a\n")
+add("refused-8-set-value-twice", "M x a b c\n", TOP, "R 1 r permit b,b\n")
+add("refused-8-set-double-comma", "M x a b c\n", TOP, "R 1 r permit a,,b\n")
+add("refused-8-set-in-other-case", "M x Tech guest\n", TOP, "R 1 r permit Tech\nR 1 s deny tech\n")
+
+add("refused-9-sets-only", "M x a b\nM y c\n")

@@ -40,13 +40,13 @@ static void put_segments(struct text *text, const struct policy *policy, const u
 {
     static const char *const decision_words[] = {"permit", "deny", "not-applicable", "indeterminate"};
     static uint64_t applying[SPACE]; /* for each request the elements that apply, bit 0 the first element */
-    int values[ATTRIBUTES];
+    unsigned held[ATTRIBUTES];
 
     for (int request = 0; request < policy->space; request++) {
-        values_of(policy, request, values);
+        values_of(policy, request, held);
         applying[request] = 0;
         for (int place = 0; place < policy->elements; place++)
-            if (applies(policy, place, values))
+            if (applies(policy, place, held))
                 applying[request] |= (uint64_t)1 << place;
     }
     for (int request = 0; request < policy->space; request++) {
@@ -81,13 +81,13 @@ static uint8_t under_parent[ELEMENTS][SPACE];
 
 static void fill_under_parent(const struct policy *policy)
 {
-    int values[ATTRIBUTES];
+    unsigned held[ATTRIBUTES];
 
     for (int request = 0; request < policy->space; request++) {
-        values_of(policy, request, values);
+        values_of(policy, request, held);
         for (int place = 0; place < policy->elements; place++)
-            under_parent[place][request] = applies(policy, policy->element[place].parent, values)
-                ? (uint8_t)gives(policy, place, values) : NOT_APPLICABLE;
+            under_parent[place][request] = applies(policy, policy->element[place].parent, held)
+                ? (uint8_t)gives(policy, place, held) : NOT_APPLICABLE;
     }
 }
 

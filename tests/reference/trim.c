@@ -6,12 +6,13 @@
 /* The first request whose decision changes without the rule; the space if none does, so that the rule is needless. */
 int first_change(struct policy *policy, int rule, const uint8_t decisions[SPACE])
 {
-    int request, values[ATTRIBUTES];
+    unsigned held[ATTRIBUTES];
+    int request;
 
     policy->element[rule].struck = 1;
     for (request = 0; request < policy->space; request++) {
-        values_of(policy, request, values);
-        if (gives(policy, 0, values) != decisions[request])
+        values_of(policy, request, held);
+        if (gives(policy, 0, held) != decisions[request])
             break;
     }
     policy->element[rule].struck = 0;

@@ -43,7 +43,7 @@ static int bad_name(const struct record *record)
     return 0;
 }
 
-/* All values of an attribute; there are none behind the last attribute. */
+/* All values of an attribute, be it an A or an M; there are none behind the last attribute. */
 static unsigned all_values(const struct policy *policy, int attribute)
 {
     return (1u << policy->attribute[attribute].values) - 1;

@@ -1,0 +1,20 @@
+/* What the cases are told with: each call says what the reference must answer. Spaces stand for tabs. */
+#ifndef CASES_H
+#define CASES_H
+
+#include "reference.h"
+
+#define SIXTEEN " a b c d e f g h i j k l m n o p\n"
+
+/* cases.c */
+void decides(const char *what, const char *policy, const char *line, uint32_t number, uint32_t second);
+/* The text in a buffer of its size, and 11 in one that is a byte too short. */
+void gives_text(const char *what, struct answer operation(const uint8_t *, size_t, uint8_t *, size_t),
+                const char *policy, const char *text);
+/* The list is a policy and a rule; `text` is all that is put into the buffer. */
+void writes(const char *lines, const struct record list[2], uint32_t number, uint32_t second, const char *text);
+
+/* cases_sets.c */
+void cases_of_sets(void);
+
+#endif
