@@ -20,7 +20,8 @@ static const char LETTERS[] = "PDNI";
 static char policy[FILE_MOST];
 static size_t size;
 static char declared[ATTRIBUTES][VALUES][NAME_MOST + 1];
-static int counts[ATTRIBUTES];
+static int values[ATTRIBUTES];
+static int sets[ATTRIBUTES]; /* an M: a request holds a set of its values, not one */
 static int attributes;
 
 static int passed;
@@ -30,32 +31,45 @@ static int failed;
 static void declare(const char *line) {
     int field = 0;
     if (attributes == ATTRIBUTES) return;
-    counts[attributes] = 0;
+    sets[attributes] = line[0] == 'M';
+    values[attributes] = 0;
     for (const char *at = line; *at != '\n' && *at != '\0'; field++) {
         size_t length = strcspn(at, "\t\n");
         if (field >= 2 && field < 2 + VALUES) {
-            snprintf(declared[attributes][counts[attributes]++], sizeof declared[0][0], "%.*s", (int)length, at);
+            snprintf(declared[attributes][values[attributes]++], sizeof declared[0][0], "%.*s", (int)length, at);
         }
         at += length + (at[length] == '\t');
     }
     attributes++;
 }
 
+/* What an attribute counts in the space. */
+static long count_of(int attribute) {
+    return sets[attribute] ? (1L << values[attribute]) - 1 : values[attribute];
+}
+
 /* The request line of a number, the first attribute weighing most; 0 if there is no such request. */
 static int request_line(long number, char *line) {
-    int values[ATTRIBUTES];
-    for (int i = attributes; i-- > 0; number /= counts[i]) values[i] = (int)(number % counts[i]);
+    long held[ATTRIBUTES]; /* masks of values; a set's number is its mask less 1 */
+    for (int i = attributes; i-- > 0; number /= count_of(i)) {
+        held[i] = sets[i] ? number % count_of(i) + 1 : 1L << number % count_of(i);
+    }
     if (number != 0) return 0;
     *line = '\0';
     for (int i = 0; i < attributes; i++) {
-        if (i > 0) strcat(line, "\t");
-        strcat(line, declared[i][values[i]]);
+        const char *before = i > 0 ? "\t" : "";
+        for (int value = 0; value < values[i]; value++) {
+            if (!(held[i] >> value & 1)) continue;
+            strcat(line, before);
+            strcat(line, declared[i][value]);
+            before = ",";
+        }
     }
     return 1;
 }
 
 static int decides(const char *file, size_t length, const char *decisions, const char *what) {
-    static char line[ATTRIBUTES * (NAME_MOST + 1)];
+    static char line[ATTRIBUTES * VALUES * (NAME_MOST + 1)];
     long number = 0;
     for (; request_line(number, line); number++) {
         jogimaduve_answer got = jogimaduve_decide((const uint8_t *)file, length, (const uint8_t *)line, strlen(line));
@@ -97,7 +111,7 @@ static int compare_file(const char *name) {
             line[strcspn(line, "\n")] = '\0';
             compare(line + 1);
         } else if (size + length <= sizeof policy) {
-            if (line[0] == 'A') declare(line);
+            if (line[0] == 'A' || line[0] == 'M') declare(line);
             memcpy(policy + size, line, length);
             size += length;
         }

@@ -18,6 +18,7 @@ using std::string;
 namespace {
 
 struct Attribute {
+    bool sets;  // an M: a request holds a set of its values, not one
     string name;
     std::vector<string> values;
 };

@@ -17,21 +17,40 @@
 
 namespace {
 
-string request_of(const std::vector<size_t> &values) {
+// What an attribute counts in the space.
+size_t count_of(const Attribute &attribute) {
+    return attribute.sets ? (size_t(1) << attribute.values.size()) - 1 : attribute.values.size();
+}
+
+// The values that a request holds of an attribute. The number of a set is the sum of 2 to the power of each value's
+// number, less 1.
+std::vector<string> held(const Attribute &attribute, size_t number) {
+    if (!attribute.sets) return {attribute.values[number]};
+    std::vector<string> values;
+    for (size_t value = 0; value < attribute.values.size(); value++) {
+        if ((number + 1) >> value & 1) values.push_back(attribute.values[value]);
+    }
+    return values;
+}
+
+// A number for each attribute: of its value, or of its set of values.
+string request_of(const std::vector<size_t> &numbers) {
     string xml = "<Request xmlns=\"urn:oasis:names:tc:xacml:2.0:context:schema:os\">";
     for (size_t section = 0; section < HELD; section++) {
         xml += "<" + SECTIONS[section] + ">";
-        for (size_t i = section; i < values.size(); i += HELD) {
-            xml += "<Attribute AttributeId=\"" + value_id(file.attributes[i], file.attributes[i].values[values[i]])
-                + "\" DataType=\"" + TEXT + "\"><AttributeValue>1</AttributeValue></Attribute>";
+        for (size_t i = section; i < numbers.size(); i += HELD) {
+            for (const string &value : held(file.attributes[i], numbers[i])) {
+                xml += "<Attribute AttributeId=\"" + value_id(file.attributes[i], value) + "\" DataType=\"" + TEXT
+                    + "\"><AttributeValue>1</AttributeValue></Attribute>";
+            }
         }
         xml += "</" + SECTIONS[section] + ">";
     }
     return xml + "</Request>";
 }
 
-char decide(const std::vector<size_t> &values) {
-    ArcSec::Response *response = evaluator->evaluate(Source(request_of(values)));
+char decide(const std::vector<size_t> &numbers) {
+    ArcSec::Response *response = evaluator->evaluate(Source(request_of(numbers)));
     char decision = '?';
     if (response != nullptr && response->getResponseItems().size() == 1) {
         switch (response->getResponseItems()[0]->res) {
@@ -56,21 +75,21 @@ string decide_all(bool by_orders) {
     if (by_orders) encoded(nullptr, file.elements.at(0));
     else direct(nullptr, file.elements.at(0));
     string decisions;
-    std::vector<size_t> values(file.attributes.size(), 0);
+    std::vector<size_t> numbers(file.attributes.size(), 0);
     for (;;) {
-        decisions += decide(values);
-        size_t place = values.size();
-        while (place > 0 && values[place - 1] + 1 == file.attributes[place - 1].values.size()) values[--place] = 0;
+        decisions += decide(numbers);
+        size_t place = numbers.size();
+        while (place > 0 && numbers[place - 1] + 1 == count_of(file.attributes[place - 1])) numbers[--place] = 0;
         if (place == 0) return decisions;
-        values[place - 1]++;
+        numbers[place - 1]++;
     }
 }
 
 void take(const string &line) {
     static std::vector<size_t> above;
     std::vector<string> fields = split(line, '\t');
-    if (fields[0] == "A") {
-        file.attributes.push_back({fields.at(1), {fields.begin() + 2, fields.end()}});
+    if (fields[0] == "A" || fields[0] == "M") {
+        file.attributes.push_back({fields[0] == "M", fields.at(1), {fields.begin() + 2, fields.end()}});
         return;
     }
     size_t depth = static_cast<size_t>(fields.at(1)[0] - '0');
