@@ -17,13 +17,15 @@ void put(struct policy_file *file, const char *bytes)
     file->length += length;
 }
 
-void attribute(struct policy_file *file, struct shape *shape, const char *name, const char *const *values,
-               unsigned count)
+void attribute(struct policy_file *file, struct shape *shape, char letter, const char *name,
+               const char *const *values, unsigned count)
 {
     unsigned attribute = shape->attributes++;
+    const char start[] = {letter, '\t', 0};
 
     shape->values[attribute] = count;
-    put(file, "A\t");
+    shape->letter[attribute] = letter;
+    put(file, start);
     put(file, name);
     for (unsigned i = 0; i < count; i++) {
         snprintf(shape->value[attribute][i], 17, "%s", values[i]);
@@ -33,8 +35,7 @@ void attribute(struct policy_file *file, struct shape *shape, const char *name, 
     put(file, "\n");
 }
 
-/* Attributes of equally many values, with names of 16 bytes or short ones. */
-void even_space(struct policy_file *file, struct shape *shape, unsigned attributes, unsigned values,
+void even_space(struct policy_file *file, struct shape *shape, char letter, unsigned attributes, unsigned values,
                 int long_names)
 {
     memset(shape, 0, sizeof *shape);
@@ -50,7 +51,7 @@ void even_space(struct policy_file *file, struct shape *shape, unsigned attribut
                 snprintf(text[j], sizeof text[j], "%c%c", (char)('a' + i), (char)('a' + j));
             pointers[j] = text[j];
         }
-        attribute(file, shape, name, pointers, values);
+        attribute(file, shape, letter, name, pointers, values);
     }
 }
 

@@ -6,6 +6,7 @@
 
 struct shape { /* the attributes, and what makes names */
     unsigned attributes, values[6];
+    char letter[6];
     char value[6][16][17];
     int long_names;
 };
@@ -15,11 +16,12 @@ static const char *const algorithms[4] = {
 };
 
 void put(struct policy_file *file, const char *bytes);
-void attribute(struct policy_file *file, struct shape *shape, const char *name, const char *const *values,
-               unsigned count);
+void attribute(struct policy_file *file, struct shape *shape, char letter, const char *name,
+               const char *const *values, unsigned count);
 
-/* Attributes of equally many values, with names of 16 bytes or short ones. */
-void even_space(struct policy_file *file, struct shape *shape, unsigned attributes, unsigned values, int long_names);
+/* Attributes of one letter and equally many values, with names of 16 bytes or short ones. */
+void even_space(struct policy_file *file, struct shape *shape, char letter, unsigned attributes, unsigned values,
+                int long_names);
 
 /* A tree line; `numbered` makes its name. A mask of 0 or of all values is written `*`. */
 void element(struct policy_file *file, const struct shape *shape, char kind, unsigned depth, const char *name,
@@ -30,10 +32,13 @@ void numbered(struct policy_file *file, const struct shape *shape, char kind, un
 unsigned random_below(uint64_t *state, unsigned limit);
 unsigned random_mask(uint64_t *state, unsigned values, unsigned bits);
 
-/* laboratories.c: the small file, the common one with this algorithm at the top, and it with capitals in all names but
- * those of requests. */
-void small_laboratory(struct policy_file *file, struct shape *shape);
-void common_laboratory(struct policy_file *file, struct shape *shape, const char *algorithm);
+/* laboratories.c: the small file and the common one with this algorithm at the top, each with one role a request (A) or
+ * badges of several (M), and the common one with capitals in all names but those of requests. */
+void small_laboratory(struct policy_file *file, struct shape *shape, char roles);
+void common_laboratory(struct policy_file *file, struct shape *shape, char roles, const char *algorithm);
 void spelled_laboratory(struct policy_file *file, struct shape *shape);
+
+/* requests.c */
+void make_requests(struct policy_file *file, const struct shape *shape);
 
 #endif

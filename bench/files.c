@@ -17,7 +17,7 @@ static void largest(struct policy_file *file, struct shape *shape)
 {
     uint64_t state = 1;
 
-    even_space(file, shape, 6, 4, 1);
+    even_space(file, shape, 'A', 6, 4, 1);
     numbered(file, shape, 'S', 0, 0, "deny-overrides", everything);
     for (unsigned i = 1; i < 64; i++) {
         unsigned targets[6];
@@ -39,7 +39,7 @@ static void long_lists(struct policy_file *file, struct shape *shape)
 {
     uint64_t state = 2;
 
-    even_space(file, shape, 3, 16, 0);
+    even_space(file, shape, 'A', 3, 16, 0);
     numbered(file, shape, 'S', 0, 0, "permit-overrides", everything);
     for (unsigned i = 1; i < 64; i++) {
         unsigned targets[6] = {0};
@@ -70,7 +70,7 @@ static void flat(struct policy_file *file, struct shape *shape, const char *algo
 {
     uint64_t state = 3;
 
-    even_space(file, shape, 6, 4, 0);
+    even_space(file, shape, 'A', 6, 4, 0);
     numbered(file, shape, 'P', 0, 0, algorithm, everything);
     for (unsigned i = 13; i < 64; i++) {
         unsigned targets[6];
@@ -84,7 +84,7 @@ static void flat(struct policy_file *file, struct shape *shape, const char *algo
 /* All rules are needed: each has sixteen requests of its own, the last rules at the first of them. */
 static void all_needed(struct policy_file *file, struct shape *shape)
 {
-    even_space(file, shape, 3, 16, 0);
+    even_space(file, shape, 'A', 3, 16, 0);
     numbered(file, shape, 'P', 0, 0, "deny-overrides", everything);
     for (unsigned i = 1; i < 64; i++) {
         unsigned targets[6] = {1u << (15 - i / 4), 15u << 4 * (i % 4), 0};
@@ -95,7 +95,7 @@ static void all_needed(struct policy_file *file, struct shape *shape)
 /* The first rule decides all: the others go, one by one from the last, and no request needs any of them. */
 static void none_needed(struct policy_file *file, struct shape *shape, const char *algorithm)
 {
-    even_space(file, shape, 6, 4, 1);
+    even_space(file, shape, 'A', 6, 4, 1);
     numbered(file, shape, 'P', 0, 0, algorithm, everything);
     numbered(file, shape, 'R', 1, 13, "permit", everything);
     parting_rules(file, shape, 0, 0);
@@ -109,7 +109,7 @@ static void needless_first(struct policy_file *file, struct shape *shape)
 {
     unsigned number = 0;
 
-    even_space(file, shape, 3, 16, 0);
+    even_space(file, shape, 'A', 3, 16, 0);
     numbered(file, shape, 'S', 0, number++, "deny-overrides", everything);
     numbered(file, shape, 'P', 1, number++, "permit-overrides", everything);
     for (unsigned i = 0; i < 26; i++) {
@@ -130,7 +130,7 @@ static void deep(struct policy_file *file, struct shape *shape)
     uint64_t state = 4;
     unsigned number = 0;
 
-    even_space(file, shape, 6, 4, 0);
+    even_space(file, shape, 'A', 6, 4, 0);
     for (unsigned depth = 0; depth < 7; depth++) {
         unsigned rules = depth < 6 ? 6 : 15;
         if (depth < 6)
@@ -148,7 +148,7 @@ static void deep(struct policy_file *file, struct shape *shape)
 /* Only-one-applicable: 21 policies of two rules, some of which overlap. */
 static void only_one(struct policy_file *file, struct shape *shape)
 {
-    even_space(file, shape, 3, 16, 0);
+    even_space(file, shape, 'A', 3, 16, 0);
     numbered(file, shape, 'S', 0, 0, "only-one-applicable", everything);
     for (unsigned i = 0; i < 21; i++) {
         unsigned policy[6] = {1u << i % 16, i < 16 ? 0xfff : 0xfe00, 0}, odd[6] = {0, 0, 0x5555};
@@ -161,12 +161,32 @@ static void only_one(struct policy_file *file, struct shape *shape)
 /* Thirty-one policies of one rule each, most pairs of which conflict late or never. */
 static void many_policies(struct policy_file *file, struct shape *shape)
 {
-    even_space(file, shape, 6, 4, 0);
+    even_space(file, shape, 'A', 6, 4, 0);
     numbered(file, shape, 'S', 0, 0, "first-applicable", everything);
     for (unsigned i = 0; i < 31; i++) {
         unsigned policy[6] = {0, 0, 0, 0, 0, 1u << i % 4}, rule[6] = {1u << i / 8 % 4, 0, 3u << i % 3, 0, 0, 0};
         numbered(file, shape, 'P', 1, 2 * i + 1, algorithms[i % 3], policy);
         numbered(file, shape, 'R', 2, 2 * i + 2, effects[i / 4 % 2], rule);
+    }
+}
+
+/* Sets of values. */
+
+/* Seven policies of eight rules, whose targets hold from one value to most of them. */
+static void sets(struct policy_file *file, struct shape *shape, unsigned attributes, unsigned values)
+{
+    uint64_t state = 5;
+
+    even_space(file, shape, 'M', attributes, values, 0);
+    numbered(file, shape, 'S', 0, 0, "permit-overrides", everything);
+    for (unsigned i = 1; i < 64; i++) {
+        unsigned policy = i % 9 == 1, targets[6] = {0};
+        for (unsigned j = 0; j < attributes; j++)
+            targets[j] = random_mask(&state, values, policy ? values : 1 + random_below(&state, values));
+        if (policy)
+            numbered(file, shape, 'P', 1, i, algorithms[i / 9 % 3], targets);
+        else
+            numbered(file, shape, 'R', 2, i, effects[random_below(&state, 2)], targets);
     }
 }
 
@@ -180,7 +200,7 @@ static void bad_last_target(struct policy_file *file, struct shape *shape)
 
 static void name_again(struct policy_file *file, struct shape *shape)
 {
-    common_laboratory(file, shape, "deny-overrides");
+    common_laboratory(file, shape, 'A', "deny-overrides");
     put(file, "R\t3\tgrip-wet-lead\tpermit\t*\t*\t*\n");
 }
 
@@ -197,31 +217,14 @@ static void many_values(struct policy_file *file, struct shape *shape)
     put(file, "\n");
 }
 
-static void make_requests(struct policy_file *file, const struct shape *shape)
-{
-    unsigned space = 1;
-
-    for (unsigned i = 0; i < shape->attributes; i++)
-        space *= shape->values[i];
-    for (unsigned number = 0; number < REQUESTS; number++) {
-        unsigned request = (space - 1) * number / (REQUESTS - 1), weight = space;
-        uint8_t *at = file->request[number];
-        for (unsigned i = 0; i < shape->attributes; i++) {
-            weight /= shape->values[i];
-            at += snprintf((char *)at, 18, i > 0 ? "\t%s" : "%s", shape->value[i][request / weight % shape->values[i]]);
-        }
-        file->request_length[number] = (size_t)(at - file->request[number]);
-    }
-    file->requests = REQUESTS;
-}
-
 int make_file(struct policy_file *file, unsigned number)
 {
     static const char *const names[] = {
-        "lab-12", "lab-25-deny", "lab-25-permit", "lab-25-first", "lab-25-only-one", "lab-25-capitals", "largest",
-        "long-lists",
+        "lab-12", "lab-25-deny", "lab-25-permit", "lab-25-first", "lab-25-only-one", "lab-25-capitals",
+        "badge-12", "badge-25-deny", "badge-25-permit", "badge-25-first", "badge-25-only-one",
+        "largest", "long-lists",
         "flat-deny", "flat-permit", "flat-first", "all-needed", "none-needed-first", "none-needed-permit",
-        "needless-first", "deep", "only-one", "many-policies",
+        "needless-first", "deep", "only-one", "many-policies", "sets-of-12", "sets-of-6-and-6",
         "refused-target", "refused-name", "refused-values",
     };
     enum { FILES = sizeof names / sizeof *names };
@@ -233,24 +236,28 @@ int make_file(struct policy_file *file, unsigned number)
     file->length = 0;
     file->requests = 0;
     switch (number) {
-    case 0: small_laboratory(file, &shape); break;
-    case 1: case 2: case 3: case 4: common_laboratory(file, &shape, algorithms[number - 1]); break;
+    case 0: small_laboratory(file, &shape, 'A'); break;
+    case 1: case 2: case 3: case 4: common_laboratory(file, &shape, 'A', algorithms[number - 1]); break;
     case 5: spelled_laboratory(file, &shape); break;
-    case 6: largest(file, &shape); break;
-    case 7: long_lists(file, &shape); break;
-    case 8: case 9: case 10: flat(file, &shape, algorithms[number - 8]); break;
-    case 11: all_needed(file, &shape); break;
-    case 12: none_needed(file, &shape, "first-applicable"); break;
-    case 13: none_needed(file, &shape, "permit-overrides"); break;
-    case 14: needless_first(file, &shape); break;
-    case 15: deep(file, &shape); break;
-    case 16: only_one(file, &shape); break;
-    case 17: many_policies(file, &shape); break;
-    case 18: bad_last_target(file, &shape); break;
-    case 19: name_again(file, &shape); break;
+    case 6: small_laboratory(file, &shape, 'M'); break;
+    case 7: case 8: case 9: case 10: common_laboratory(file, &shape, 'M', algorithms[number - 7]); break;
+    case 11: largest(file, &shape); break;
+    case 12: long_lists(file, &shape); break;
+    case 13: case 14: case 15: flat(file, &shape, algorithms[number - 13]); break;
+    case 16: all_needed(file, &shape); break;
+    case 17: none_needed(file, &shape, "first-applicable"); break;
+    case 18: none_needed(file, &shape, "permit-overrides"); break;
+    case 19: needless_first(file, &shape); break;
+    case 20: deep(file, &shape); break;
+    case 21: only_one(file, &shape); break;
+    case 22: many_policies(file, &shape); break;
+    case 23: sets(file, &shape, 1, 12); break;
+    case 24: sets(file, &shape, 2, 6); break;
+    case 25: bad_last_target(file, &shape); break;
+    case 26: name_again(file, &shape); break;
     default: many_values(file, &shape); break;
     }
-    if (number < 18)
+    if (number < 25)
         make_requests(file, &shape);
     return 1;
 }

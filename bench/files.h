@@ -5,7 +5,8 @@
 #include <stddef.h>
 #include <stdint.h>
 
-enum { REQUESTS = 8, REQUEST_BYTES = 6 * 17, MOST_FILE_BYTES = 16384 };
+/* The longest request has all values of an M of twelve. */
+enum { REQUESTS = 8, REQUEST_BYTES = (12 + 5) * 17, MOST_FILE_BYTES = 16384 };
 
 struct policy_file {
     const char *name;

@@ -1,18 +1,18 @@
-/* Laboratories: five roles, six actions, eight nests. */
+/* Laboratories: five roles, six actions, eight nests. A badge carries one role, or several. */
 #include "file_lines.h"
 
 #include <string.h>
 
-static void laboratory(struct policy_file *file, struct shape *shape)
+static void laboratory(struct policy_file *file, struct shape *shape, char letter)
 {
     static const char *const roles[] = {"tech", "lead", "service", "student", "guest"};
     static const char *const actions[] = {"jog", "teach", "run", "grip", "unlock", "calibrate"};
     static const char *const nests[] = {"rack-1", "rack-2", "rack-3", "reader", "washer", "shaker", "cooler", "waste"};
 
     memset(shape, 0, sizeof *shape);
-    attribute(file, shape, "role", roles, 5);
-    attribute(file, shape, "action", actions, 6);
-    attribute(file, shape, "nest", nests, 8);
+    attribute(file, shape, letter, "role", roles, 5);
+    attribute(file, shape, 'A', "action", actions, 6);
+    attribute(file, shape, 'A', "nest", nests, 8);
 }
 
 enum { TECH = 1, LEAD = 2, SERVICE = 4, STUDENT = 8, GUEST = 16, JOG = 1, TEACH = 2, RUN = 4, GRIP = 8, UNLOCK = 16,
@@ -71,15 +71,15 @@ static void lay_out(struct policy_file *file, const struct shape *shape, const s
                 i == 0 ? first_word : elements[i].word, elements[i].targets);
 }
 
-void small_laboratory(struct policy_file *file, struct shape *shape)
+void small_laboratory(struct policy_file *file, struct shape *shape, char roles)
 {
-    laboratory(file, shape);
+    laboratory(file, shape, roles);
     lay_out(file, shape, small, sizeof small / sizeof *small, small[0].word);
 }
 
-void common_laboratory(struct policy_file *file, struct shape *shape, const char *algorithm)
+void common_laboratory(struct policy_file *file, struct shape *shape, char roles, const char *algorithm)
 {
-    laboratory(file, shape);
+    laboratory(file, shape, roles);
     lay_out(file, shape, common, sizeof common / sizeof *common, algorithm);
 }
 
@@ -88,7 +88,7 @@ void spelled_laboratory(struct policy_file *file, struct shape *shape)
     unsigned field = 0;
     uint8_t letter = 'A';
 
-    common_laboratory(file, shape, "first-applicable");
+    common_laboratory(file, shape, 'A', "first-applicable");
     for (size_t i = 1; i < file->length; i++) {
         uint8_t before = file->bytes[i - 1], *byte = &file->bytes[i];
         field = before == '\n' ? 0 : field + (before == '\t');

@@ -1,4 +1,4 @@
-/* A policy that was read, for plain.c and plain_read.c alone. */
+/* A policy that was read, for the files of plain C alone. */
 #ifndef PLAIN_POLICY_H
 #define PLAIN_POLICY_H
 
@@ -7,6 +7,7 @@
 #include <stdbool.h>
 
 enum { FILE_BYTES = 16384, NAME_BYTES = 16, ATTRIBUTES = 6, VALUES = 16, SPACE = 4096, ELEMENTS = 64 };
+enum { LANES = 8 }; /* of a target or request: the attributes, rounded up to whole words */
 
 enum word {
     EFFECT_PERMIT, EFFECT_DENY,
@@ -20,13 +21,15 @@ struct name { uint64_t half[2]; };
 struct attribute {
     struct name name, value[VALUES], spelled[VALUES]; /* in small letters, but as spelled for targets */
     uint8_t values, length[VALUES];
+    bool sets;      /* an M: a request has a set of its values, not one */
+    uint16_t count; /* of values, or of sets */
 };
 
 struct element {
     uint8_t kind, word, parent, length;
     uint8_t label[NAME_BYTES + 1]; /* the name, then a comma */
     uint16_t line, line_length;    /* newline included */
-    uint16_t target[8];            /* met with the targets above, so that it holds exactly where the element applies */
+    uint16_t target[LANES];        /* of an A met with those above; an M can share one value here and another above */
 };
 
 struct policy {
@@ -39,8 +42,8 @@ struct policy {
 
 jogimaduve_answer plain_read_policy(struct policy *policy, const uint8_t *file, size_t length);
 
-/* Sets one bit a lane: the value that the request has. */
+/* Sets in each lane the bits of the values that the request has. */
 jogimaduve_answer plain_read_request(const struct policy *policy, const uint8_t *line, size_t length,
-                                     uint16_t values[8]);
+                                     uint16_t values[LANES]);
 
 #endif

@@ -90,7 +90,8 @@ static unsigned read_attribute(struct policy *policy, const struct line *line)
     if (line->bad_names & ~1u)
         return 3;
 
-    struct attribute attribute = {.name = folded(load_name(line->field[1], line->length[1]))};
+    bool sets = *line->field[0] == 'M';
+    struct attribute attribute = {.name = folded(load_name(line->field[1], line->length[1])), .sets = sets};
     unsigned values = line->fields - 2;
     for (unsigned i = 0; i < policy->attributes; i++)
         if (same(attribute.name, policy->attribute[i].name))
@@ -104,12 +105,14 @@ static unsigned read_attribute(struct policy *policy, const struct line *line)
     }
     if (values > VALUES)
         return repeats_value(line) ? 4 : 5;
-    if (policy->attributes == ATTRIBUTES || policy->space * values > SPACE)
+    unsigned count = sets ? (1u << values) - 1 : values; /* the sets of 13 values alone exceed the space */
+    if (policy->attributes == ATTRIBUTES || policy->space * count > SPACE)
         return 5;
     if (policy->elements > 0)
         return 6;
     attribute.values = (uint8_t)values;
-    policy->space *= values;
+    attribute.count = (uint16_t)count;
+    policy->space *= count;
     policy->attribute[policy->attributes++] = attribute;
     return 0;
 }
@@ -174,7 +177,7 @@ static bool place(struct policy *policy, struct element *element, const struct l
 
 static unsigned read_element(struct policy *policy, const struct line *line, const uint8_t *end, struct path *path)
 {
-    struct element new = {.kind = *line->field[0]};
+    struct element new = {.kind = *line->field[0], .target = {1, 1, 1, 1, 1, 1, 1, 1}};
 
     if (line->fields != 4 + policy->attributes)
         return 2;
@@ -194,7 +197,7 @@ static unsigned read_element(struct policy *policy, const struct line *line, con
         new.target[i] = target_of(&policy->attribute[i], line->field[4 + i], line->length[4 + i]);
         if (new.target[i] == 0)
             return 8;
-        if (policy->elements > 0)
+        if (policy->elements > 0 && !policy->attribute[i].sets)
             new.target[i] &= policy->element[new.parent].target[i];
     }
     new.length = (uint8_t)line->length[2];
@@ -224,7 +227,7 @@ jogimaduve_answer plain_read_policy(struct policy *policy, const uint8_t *file, 
         const uint8_t *next = split(&line, at);
         unsigned refusal = 2;
         if (next != NULL && line.length[0] == 1) {
-            if (*at == 'A')
+            if (*at == 'A' || *at == 'M')
                 refusal = read_attribute(policy, &line);
             else if (*at == 'S' || *at == 'P' || *at == 'R')
                 refusal = read_element(policy, &line, next, &path);
@@ -236,8 +239,41 @@ jogimaduve_answer plain_read_policy(struct policy *policy, const uint8_t *file, 
     return (jogimaduve_answer){policy->elements == 0 ? 9 : 0, 0};
 }
 
+/* The first value of this name, of those from `value` on; the number of values if there is none. */
+static unsigned value_of(const struct attribute *attribute, unsigned value, const uint8_t *bytes, size_t length)
+{
+    struct name name = {{0, 0}};
+
+    if (length <= NAME_BYTES) /* others are told apart by their length */
+        memcpy(&name, bytes, length);
+    name = folded(name);
+    while (value < attribute->values && (attribute->length[value] != length || !same(name, attribute->value[value])))
+        value++;
+    return value;
+}
+
+/* The values of a request field; 0 if it is bad. Those of a set stand in declared order, so that each is looked for
+ * behind the one before. */
+static uint16_t values_of(const struct attribute *attribute, const uint8_t *at, size_t length)
+{
+    unsigned values = 0;
+
+    for (unsigned value = 0;; value++) {
+        const uint8_t *comma = attribute->sets ? memchr(at, ',', length) : NULL;
+        size_t bytes = comma != NULL ? (size_t)(comma - at) : length;
+        value = value_of(attribute, value, at, bytes);
+        if (value == attribute->values)
+            return 0;
+        values |= 1u << value;
+        if (comma == NULL)
+            return (uint16_t)values;
+        at += bytes + 1;
+        length -= bytes + 1;
+    }
+}
+
 jogimaduve_answer plain_read_request(const struct policy *policy, const uint8_t *line, size_t length,
-                                     uint16_t values[8])
+                                     uint16_t values[LANES])
 {
     const uint8_t *field[ATTRIBUTES + 1] = {line};
     unsigned fields = 1;
@@ -249,18 +285,10 @@ jogimaduve_answer plain_read_request(const struct policy *policy, const uint8_t 
     if (fields != policy->attributes)
         return (jogimaduve_answer){10, 0};
     for (unsigned i = 0; i < fields; i++) {
-        const struct attribute *attribute = &policy->attribute[i];
-        size_t bytes = (size_t)((i + 1 < fields ? field[i + 1] - 1 : line + length) - field[i]);
-        struct name name = {{0, 0}};
-        unsigned value = 0;
-        if (bytes <= NAME_BYTES)
-            memcpy(&name, field[i], bytes);
-        name = folded(name);
-        while (value < attribute->values && (attribute->length[value] != bytes || !same(name, attribute->value[value])))
-            value++;
-        if (value == attribute->values)
+        const uint8_t *end = i + 1 < fields ? field[i + 1] - 1 : line + length;
+        values[i] = values_of(&policy->attribute[i], field[i], (size_t)(end - field[i]));
+        if (values[i] == 0)
             return (jogimaduve_answer){10, i + 1};
-        values[i] = (uint16_t)(1u << value);
     }
     return (jogimaduve_answer){0, 0};
 }

@@ -33,10 +33,21 @@ static inline int lowest(uint64_t set) { return __builtin_ctzll(set); }
 static inline int highest(uint64_t set) { return 63 - __builtin_clzll(set); }
 static inline uint64_t bit(int place) { return (uint64_t)1 << place; }
 
-/* The elements that apply to each request; none to those between the space's end and the block's. */
-void plain_apply(const struct policy *policy, uint64_t applying[SPACE]);
+static inline uint64_t any(struct gives gives) { return gives.permit | gives.deny | gives.indeterminate; }
 
-void plain_start_trimming(struct trimming *trimming, const struct policy *policy, const uint64_t applying[SPACE]);
+static inline struct gives join(struct gives a, struct gives b)
+{
+    return (struct gives){a.permit | b.permit, a.deny | b.deny, a.indeterminate | b.indeterminate};
+}
+
+/* The requests to which each element applies, by blocks, and the elements that apply to any of a block's. None do
+ * between the space's end and its last block's. */
+void plain_apply(const struct policy *policy, uint64_t applies[BLOCKS][ELEMENTS], uint64_t active[BLOCKS]);
+
+/* What every element gives, from the requests to which it applies. The block says which elements are active. */
+void plain_evaluate(const struct policy *policy, struct block *block, const uint64_t applies[ELEMENTS]);
+
+void plain_start_trimming(struct trimming *trimming, const struct policy *policy);
 
 /* What every element gives on a block's requests, and then which rules are needed there. */
 void plain_look_at(struct trimming *trimming, const struct policy *policy, unsigned number, struct block *block);

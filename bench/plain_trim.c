@@ -1,0 +1,157 @@
+/* Trimming. */
+#include "plain.h"
+#include "plain_space.h"
+
+#include <string.h>
+
+static uint64_t choose(uint64_t which, uint64_t yes, uint64_t no) { return (which & yes) | (~which & no); }
+
+/* The same, of these requests alone. */
+static struct changes within(struct changes changes, uint64_t mine)
+{
+    return (struct changes){changes.permit & mine, changes.deny & mine, changes.indeterminate & mine,
+                            changes.not_applicable & mine};
+}
+
+/* A child's changes, from its parent's. `earlier` is what the siblings before it give, put together. */
+static struct changes changes_of(unsigned word, struct changes parent, struct gives earlier, struct gives later,
+                                 uint64_t matched_twice)
+{
+    struct gives others = join(earlier, later);
+    uint64_t deny = others.deny | others.indeterminate, mine;
+    struct changes child = parent;
+
+    switch (word) {
+    case DENY_OVERRIDES:
+        child.indeterminate = parent.deny;
+        child.permit = choose(deny, parent.deny, parent.permit);
+        child.not_applicable = choose(deny, parent.deny, choose(others.permit, parent.permit, parent.not_applicable));
+        return child;
+    case PERMIT_OVERRIDES:
+        child.not_applicable = choose(others.indeterminate, parent.indeterminate, parent.not_applicable);
+        child.not_applicable = choose(others.deny, parent.deny, child.not_applicable);
+        child.not_applicable = choose(others.permit, parent.permit, child.not_applicable);
+        child.indeterminate = choose(others.deny, parent.deny, parent.indeterminate);
+        child.indeterminate = choose(others.permit, parent.permit, child.indeterminate);
+        child.deny = choose(others.permit, parent.permit, parent.deny);
+        return child;
+    case FIRST_APPLICABLE:
+        mine = ~any(earlier);
+        child.not_applicable = (later.permit & parent.permit) | (later.deny & parent.deny)
+            | (later.indeterminate & parent.indeterminate) | (~any(later) & parent.not_applicable);
+        break;
+    default: /* only-one-applicable */
+        mine = ~matched_twice;
+        break;
+    }
+    return within(child, mine);
+}
+
+/* The rules without which a request's decision changes; the first such request of each goes into `first`. */
+static uint64_t needed_rules(const struct policy *policy, struct block *block, const uint64_t applies[ELEMENTS],
+                             uint8_t first[ELEMENTS])
+{
+    struct changes changes[ELEMENTS];
+    struct gives earlier[ELEMENTS], root = block->gives[0];
+    uint64_t needed = 0;
+
+    for (uint64_t left = block->active; left != 0; left &= left - 1) {
+        int place = lowest(left), parent = policy->element[place].parent;
+        unsigned word = policy->element[parent].word;
+        struct changes child = {~root.permit, ~root.deny, ~root.indeterminate, any(root)};
+
+        if (place > 0) {
+            child = changes_of(word, changes[parent], earlier[parent], block->later[place],
+                               block->matched_twice[parent]);
+            earlier[parent] = join(earlier[parent], block->gives[place]);
+        }
+        uint64_t mine = applies[place];
+        if (policy->element[place].kind != 'R') {
+            changes[place] = within(child, mine);
+            earlier[place] = (struct gives){0, 0, 0};
+        } else if ((mine &= child.not_applicable) != 0) {
+            needed |= bit(place);
+            first[place] = (uint8_t)lowest(mine);
+        }
+    }
+    return needed;
+}
+
+void plain_start_trimming(struct trimming *trimming, const struct policy *policy)
+{
+    trimming->blocks = (policy->space + 63) / 64;
+    trimming->kept = 0;
+    trimming->strikes = 0;
+    for (unsigned place = 0; place < policy->elements; place++)
+        if (policy->element[place].kind == 'R')
+            trimming->kept |= bit((int)place);
+    plain_apply(policy, trimming->applies, trimming->active);
+}
+
+void plain_look_at(struct trimming *trimming, const struct policy *policy, unsigned number, struct block *block)
+{
+    block->active = trimming->active[number];
+    plain_evaluate(policy, block, trimming->applies[number]);
+    trimming->needed[number] = needed_rules(policy, block, trimming->applies[number], trimming->first[number]);
+}
+
+/* Only the blocks to which a struck rule applied are looked at again. */
+void plain_strike_needless(struct trimming *trimming, const struct policy *policy)
+{
+    struct block block;
+
+    for (;;) {
+        uint64_t needless = trimming->kept;
+        for (unsigned i = 0; i < trimming->blocks; i++)
+            needless &= ~trimming->needed[i];
+        if (needless == 0)
+            return;
+        int rule = highest(needless);
+        trimming->kept ^= bit(rule);
+        trimming->struck[trimming->strikes++] = (uint8_t)rule;
+        for (unsigned i = 0; i < trimming->blocks; i++) {
+            if (!(trimming->active[i] & bit(rule)))
+                continue;
+            trimming->applies[i][rule] = 0;
+            trimming->active[i] ^= bit(rule);
+            plain_look_at(trimming, policy, i, &block);
+        }
+    }
+}
+
+static size_t trimmed_length(const struct policy *policy, const struct trimming *trimming, size_t file_length)
+{
+    for (unsigned i = 0; i < trimming->strikes; i++)
+        file_length -= policy->element[trimming->struck[i]].line_length;
+    return file_length;
+}
+
+jogimaduve_answer plain_trim(const uint8_t *file, size_t file_length, uint8_t *buffer, size_t buffer_length)
+{
+    struct policy policy;
+    struct trimming trimming;
+    struct block block;
+
+    jogimaduve_answer answer = plain_read_policy(&policy, file, file_length);
+    if (answer.number != 0)
+        return answer;
+    plain_start_trimming(&trimming, &policy);
+    for (unsigned i = 0; i < trimming.blocks; i++)
+        plain_look_at(&trimming, &policy, i, &block);
+    plain_strike_needless(&trimming, &policy);
+
+    size_t length = trimmed_length(&policy, &trimming, file_length);
+    if (length > buffer_length)
+        return (jogimaduve_answer){11, (uint32_t)length};
+    size_t header = policy.element[0].line;
+    memcpy(buffer, policy.text, header);
+    buffer += header;
+    for (unsigned place = 0; place < policy.elements; place++) {
+        const struct element *element = &policy.element[place];
+        if (element->kind == 'R' && !(trimming.kept & bit((int)place)))
+            continue;
+        memcpy(buffer, policy.text + element->line, element->line_length);
+        buffer += element->line_length;
+    }
+    return (jogimaduve_answer){0, (uint32_t)length};
+}
