@@ -3,7 +3,7 @@ use mathlib.Core.Path.{_≡_, refl}
 use mathlib.Core.Logic.{_≢_}
 use Prim.Native.Nat.{_-_}
 use native.Mathlib.Omega.{arith}
-use mathlib.Core.Bool.{Bool, true, false, cond}
+use mathlib.Core.Bool.{Bool, true, false, cond, and-false}
 use mathlib.Core.List.{[], _∷_}
 use mathlib.Core.Option.{Option, none, some}
 use lib.ListN.{length, getD}
@@ -13,8 +13,7 @@ use Rattle.meaning.specs.Model.{letterText, wordText}
 use Rattle.meaning.specs.Reading.{kindOf, attributeLetter, depthOf, wordOf}
 use Rattle.laws.proofs.Types.{Kind, set, policy, Word, deny-overrides, permit-overrides, first-applicable, only-one-applicable}
 use Rattle.laws.proofs.Bools.{Test, passed, failed, test}
-use Rattle.laws.proofs.Text.{same-true}
-use Rattle.laws.proofs.Lines.{letter-is, letter-attribute, letter-several}
+use Rattle.laws.proofs.Lines.{letter-is}
 use Rattle.syntax.specs.Fields.{lineKind, numberOfWord}
 use Rattle.syntax.specs.declared.LineKind.{LineKind}
 
@@ -32,8 +31,16 @@ by-letter f = go (test (attributeLetter f)) (kindOf f) refl
     go (failed e) none i = rw (e, i) (e, i)
     go (failed e) (some k) i = rw (e, i) (e, i)
 
-pub letter-kind : (f : Bytes) (several : Bool) → same f (letterText several) ≡ true → LineKind.Attribute several ≡ lineKind f
-letter-kind f several e = rw (same-true f (letterText several) e, letter-attribute several, letter-several several)
+-- a field of one byte goes by that byte, any other is none
+pub kind-byte : (f : Bytes) → length f ≡ 1 → lineKind (getD f 0 0 ∷ []) ≡ lineKind f
+kind-byte [] h = absurd (omega arith)
+kind-byte (x ∷ []) h = refl
+kind-byte (x ∷ y ∷ ys) h = absurd (omega arith)
+
+pub kind-other : (f : Bytes) → length f ≢ 1 → LineKind.Other ≡ lineKind f
+kind-other [] h = refl
+kind-other (x ∷ []) h = absurd (h refl)
+kind-other (x ∷ y ∷ ys) h = rw (and-false, and-false, and-false, and-false, and-false)
 
 -- Depth: a field of one byte goes by that byte, any other is none
 pub depth-byte : (f : Bytes) → length f ≡ 1 → depthOf f ≡ cond (between 48 55 (getD f 0 0)) (getD f 0 0 - 48) 8

@@ -1,4 +1,4 @@
--- What the first field and the word of a tree line stand for, as the code answers it.
+-- What the first field and the word of a line stand for, as the code answers it.
 use Prim.Native.Nat.{ℕ}
 use mathlib.Core.Bool.{Bool, true, false, cond}
 use mathlib.Core.Option.{Option, none, some}

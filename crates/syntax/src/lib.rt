@@ -1,6 +1,6 @@
-// What the single fields of a tree line stand for.
+// What the single fields of a line stand for.
 ghost use mathlib.Core.Path.{_≡_};
-ghost use mathlib.Core.List.{map};
+ghost use mathlib.Core.List.{[], _∷_, map};
 ghost use Prim.Native.Nat.{_^_, _≤_};
 ghost use lib.ListN.{length};
 ghost use Rattle.meaning.specs.Text.{same, cut, tab, comma};
@@ -15,25 +15,35 @@ pub enum LineKind {
     Other,
 }
 
+// A line by its letter. Most lines are those of rules, so their letter is tried first.
+fn letter_kind(letter: u8) -> LineKind
+    ensures { λ r. ⌜ r ≡ lineKind (letter ∷ []) ⌝ }
+{
+    if letter == b'R' {
+        return LineKind::Tree(Kind::Rule);
+    }
+    if letter == b'P' {
+        return LineKind::Tree(Kind::Policy);
+    }
+    if letter == b'S' {
+        return LineKind::Tree(Kind::Set);
+    }
+    if letter == b'A' {
+        return LineKind::Attribute(false);
+    }
+    if letter == b'M' {
+        return LineKind::Attribute(true);
+    }
+    LineKind::Other
+}
+
 pub fn line_kind(first: &[u8]) -> LineKind
     ensures { λ r. ⌜ r ≡ lineKind (now (first .entry)) ⌝ }
 {
-    if comparing::same(first, b"A") {
-        return LineKind::Attribute(false);
+    if first.len() != 1 {
+        return LineKind::Other;
     }
-    if comparing::same(first, b"M") {
-        return LineKind::Attribute(true);
-    }
-    if comparing::same(b"S", first) {
-        return LineKind::Tree(Kind::Set);
-    }
-    if comparing::same(b"P", first) {
-        return LineKind::Tree(Kind::Policy);
-    }
-    if comparing::same(b"R", first) {
-        return LineKind::Tree(Kind::Rule);
-    }
-    LineKind::Other
+    letter_kind(first[0])
 }
 
 // The depth that a field stands for; 8 where it is not one digit 0 to 7.
