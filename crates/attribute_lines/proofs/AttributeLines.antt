@@ -12,11 +12,11 @@ use lib.Dec.{leb, ltb, eqb, lit≤}
 use lib.Pow.{pow-mono}
 use borrow.Author.Tests.{lt-ltb, le-ltb, le-leb, lt-leb, eq-eqb, ne-eqb}
 use Rattle.meaning.specs.Text.{Bytes, empty, all, amongNames, repeated, cut, tab, isName}
-use Rattle.meaning.specs.Model.{Attribute, choices, mostValues, space as spaceOf, letterText}
+use Rattle.meaning.specs.Model.{Attribute, choices, mostValues, space as spaceOf, letterText, choicesOf}
 use Rattle.meaning.specs.Reading.{attributeLine, lineOf, Sofar, Tests, lowest, attributeTests}
 use Rattle.laws.proofs.Lines.{letter-attribute, letter-several, attribute-fields}
 use Rattle.layout.specs.declared.Attributes.{Attributes}
-use Rattle.layout.specs.Places.{part, attributesOf, sizeOf, elementsTo, lineStart, placed}
+use Rattle.layout.specs.Places.{part, attributesOf, elementsTo, lineStart, placed}
 use Rattle.layout.proofs.Adding.{added-behind, SixEach, placed-six, placed-more}
 use Rattle.layout.proofs.Laws.{attributes-length}
 use Rattle.attribute_lines.specs.Sofar.{refusalBy, refusalOf, attributeIn, Tested, AttributeRefusal, AttributeLine}
@@ -34,11 +34,11 @@ abbrev pub names : Bytes → Attributes → List Bytes
 names f a = map (λ b. b .name) (attributesOf f a)
 
 -- An attribute that has no more values than it may
-pub most-sixteen : (several : Bool) (fs : List Bytes) → mostValues (attributeIn several fs) ≤ 16
+pub most-sixteen : (several : Bool) (fs : List Bytes) → mostValues several ≤ 16
 most-sixteen true fs = lit≤ tt
 most-sixteen false fs = lit≤ tt
 
-pub size-small : (several : Bool) (fs : List Bytes) (n : ℕ) → n ≤ mostValues (attributeIn several fs) → sizeOf several n ≤ 4096
+pub size-small : (several : Bool) (fs : List Bytes) (n : ℕ) → n ≤ mostValues several → choicesOf several n ≤ 4096
 size-small true fs n few = omega (arith, pow-mono {i = n} {j = 12} few)
 size-small false fs n few = omega arith
 
@@ -47,7 +47,7 @@ abbrev codeTests : Bytes → Attributes → (space elements : ℕ) → (several 
 codeTests f a space elements several fs fields =
     (3, not (all isName (drop 1 fs)))
     ∷ (4, amongNames (getD fs 1 []) (names f a) || repeated (drop 2 fs))
-    ∷ (5, leb 6 (a .len) || ltb (mostValues (attributeIn several fs)) (fields - 2) || ltb 4096 (space * sizeOf several (fields - 2)))
+    ∷ (5, leb 6 (a .len) || ltb (mostValues several) (fields - 2) || ltb 4096 (space * choicesOf several (fields - 2)))
     ∷ (6, not (eqb elements 0))
     ∷ []
 
@@ -89,16 +89,16 @@ module _ {f : Bytes} {a : Attributes} {space fields : ℕ} {fs : List Bytes} (el
     many-attributes many = refuses 5 (lit≤ tt) (rw (g .named, g .fresh, g .once, le-leb 6 (a .len) many))
 
     module _ (few : a .len < 6) where
-      pub many-values : mostValues (attributeIn several fs) < fields - 2 → AttributeRefusal f a space elements several fs fields 5
-      many-values many = refuses 5 (lit≤ tt) (rw (g .named, g .fresh, g .once, lt-leb 6 (a .len) few, lt-ltb (mostValues (attributeIn several fs)) (fields - 2) many))
+      pub many-values : mostValues several < fields - 2 → AttributeRefusal f a space elements several fs fields 5
+      many-values many = refuses 5 (lit≤ tt) (rw (g .named, g .fresh, g .once, lt-leb 6 (a .len) few, lt-ltb (mostValues several) (fields - 2) many))
 
-      module _ (few-values : fields - 2 ≤ mostValues (attributeIn several fs)) where
-        pub large-space : 4096 < space * sizeOf several (fields - 2) → AttributeRefusal f a space elements several fs fields 5
-        large-space large = refuses 5 (lit≤ tt) (rw (g .named, g .fresh, g .once, lt-leb 6 (a .len) few, le-ltb (mostValues (attributeIn several fs)) (fields - 2) few-values, lt-ltb 4096 (space * sizeOf several (fields - 2)) large))
+      module _ (few-values : fields - 2 ≤ mostValues several) where
+        pub large-space : 4096 < space * choicesOf several (fields - 2) → AttributeRefusal f a space elements several fs fields 5
+        large-space large = refuses 5 (lit≤ tt) (rw (g .named, g .fresh, g .once, lt-leb 6 (a .len) few, le-ltb (mostValues several) (fields - 2) few-values, lt-ltb 4096 (space * choicesOf several (fields - 2)) large))
 
-        module _ (small : space * sizeOf several (fields - 2) ≤ 4096) where
+        module _ (small : space * choicesOf several (fields - 2) ≤ 4096) where
           last-test : lowest (codeTests f a space elements several fs fields) ≡ lowest ((6, not (eqb elements 0)) ∷ [])
-          last-test = rw (g .named, g .fresh, g .once, lt-leb 6 (a .len) few, le-ltb (mostValues (attributeIn several fs)) (fields - 2) few-values, le-ltb 4096 (space * sizeOf several (fields - 2)) small)
+          last-test = rw (g .named, g .fresh, g .once, lt-leb 6 (a .len) few, le-ltb (mostValues several) (fields - 2) few-values, le-ltb 4096 (space * choicesOf several (fields - 2)) small)
 
           pub behind-elements : (elements ≡ 0 → ⊥) → AttributeRefusal f a space elements several fs fields 6
           behind-elements some = refuses 6 (lit≤ tt) (last-test ∙ rw (ne-eqb elements 0 some))
@@ -161,7 +161,7 @@ module _ {f : Bytes} {st : State} {end : ℕ} {several : Bool} {fields : ℕ} {t
       let s = readSofar f table places st in
       refusal .is-lowest s refl (no-elements f table places (st .tree .len)) ∙ sym (refusal-is s (cut tab (part f (st .at) end)) is)
 
-  line-next : st .attributes .len < 6 → fields - 2 ≤ 16 → st .space * sizeOf several (fields - 2) ≤ 4096 → st .tree .len ≡ 0 → Next f table places table places st end (behindAttribute st end several (cut tab (part f (st .at) end)) fields)
+  line-next : st .attributes .len < 6 → fields - 2 ≤ 16 → st .space * choicesOf several (fields - 2) ≤ 4096 → st .tree .len ≡ 0 → Next f table places table places st end (behindAttribute st end several (cut tab (part f (st .at) end)) fields)
   line-next few few-values small none =
       let fs = cut tab (part f (st .at) end) in
       let in-file = ready .in-file in
@@ -175,7 +175,7 @@ module _ {f : Bytes} {st : State} {end : ℕ} {several : Bool} {fields : ℕ} {t
       let size = a .len in
       let no-line : size + st .tree .len ≡ size = omega arith in
       let starts : st .at ≡ lineStart f size = ready .lined .next ∙ ap (lineStart f) no-line in
-      let space-is : st .space * sizeOf several (fields - 2) ≡ spaceOf (attributesOf f (behindAttribute st end several fs fields .attributes)) = ap₂ (λ m n. m * sizeOf several n) (in-file .space-is) count ∙ sym (ap spaceOf attributes-are ∙ space-more old (attributeIn several fs)) in
+      let space-is : st .space * choicesOf several (fields - 2) ≡ spaceOf (attributesOf f (behindAttribute st end several fs fields .attributes)) = ap₂ (λ m n. m * choicesOf several n) (in-file .space-is) count ∙ sym (ap spaceOf attributes-are ∙ space-more old (attributeIn several fs)) in
       record {
         ready = record {
           in-file = record {

@@ -8,12 +8,12 @@ use lib.Dec.{ltb, eqb}
 use lib.ListN.{length, drop, getD}
 use Rattle.meaning.specs.declared.Kind.{Kind}
 use Rattle.meaning.specs.Text.{Bytes, empty, all, isField}
-use Rattle.meaning.specs.Model.{Attribute, space as spaceOf, letterText}
+use Rattle.meaning.specs.Model.{Attribute, space as spaceOf, letterText, choicesOf}
 use Rattle.meaning.specs.Reading.{Line, kindOf, attributeLetter, lineOf, Sofar, Tests, lowest, wrongFields, attributeTests, lineTests}
 use Rattle.syntax.specs.declared.LineKind.{LineKind}
 use Rattle.syntax.specs.Fields.{lineKind}
 use Rattle.layout.specs.declared.Attributes.{Attributes}
-use Rattle.layout.specs.Places.{attributesOf, AllStanding, sizeOf, elementsTo}
+use Rattle.layout.specs.Places.{attributesOf, AllStanding, elementsTo}
 use Rattle.attribute_lines.specs.declared.LineShape.{LineShape}
 
 abbrev pub sofarOf : Bytes → Attributes → List ℕ → List ℕ → ℕ → Sofar
@@ -43,7 +43,7 @@ pub record AttributeRefusal (f : Bytes) (a : Attributes) (space elements : ℕ) 
   pub is-lowest : (s : Sofar) → s .attributes ≡ attributesOf f a → empty (s .before) ≡ eqb elements 0 → r ≡ lowest (attributeTests s (attributeIn several fs))
   pub few : r ≡ 0 → a .len < 6
   pub few-values : r ≡ 0 → fields - 2 ≤ 16
-  pub small-space : r ≡ 0 → space * sizeOf several (fields - 2) ≤ 4096
+  pub small-space : r ≡ 0 → space * choicesOf several (fields - 2) ≤ 4096
   pub no-element : r ≡ 0 → elements ≡ 0
 
 -- the fields of an attribute line, and of a tree line of this kind: all are fields, so many

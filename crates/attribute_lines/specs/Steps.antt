@@ -6,11 +6,11 @@ use mathlib.Core.Path.{_≡_}
 use lib.Dec.{eqb}
 use lib.ListN.{length, drop, getD, replicate}
 use Rattle.meaning.specs.Text.{Bytes, cut, tab, newline}
-use Rattle.meaning.specs.Model.{space}
+use Rattle.meaning.specs.Model.{space, choicesOf}
 use Rattle.meaning.specs.Reading.{lineOf, Sofar}
 use Rattle.table.specs.Rows.{Rows}
 use Rattle.layout.specs.declared.Attributes.{Attributes}
-use Rattle.layout.specs.Places.{part, attributesOf, AllStanding, sizeOf, noAttributes, added, elementsTo, Named, lineStart, placed, Lined}
+use Rattle.layout.specs.Places.{part, attributesOf, AllStanding, FewValues, noAttributes, added, elementsTo, Named, lineStart, placed, Lined}
 use Rattle.layout.specs.Nearest.{Stands}
 use Rattle.attribute_lines.specs.declared.State.{State}
 use Rattle.attribute_lines.specs.declared.Step.{Step}
@@ -20,7 +20,7 @@ use Rattle.attribute_lines.specs.Laid.{Laid, withLine}
 -- the attributes lie in the file, with at most 16 values each and a small space
 pub record Spaced (f : Bytes) (a : Attributes) : Type 0 where
   pub standing : AllStanding f a
-  pub few-values : (i : ℕ) → i < a .len → getD (a .counts) i 0 ≤ 16
+  pub few-values : FewValues a
   pub small : space (attributesOf f a) ≤ 4096
 
 -- room for 64 elements, of which n are there
@@ -62,7 +62,7 @@ behindAttribute st end several fs fields =
       at = end + 1;
       line = st .line + 1;
       attributes = added (st .attributes) several (st .at + 2) (st .at + 3 + length (getD fs 1 [])) end (fields - 2);
-      space = st .space * sizeOf several (fields - 2);
+      space = st .space * choicesOf several (fields - 2);
       tree = st .tree;
     }
 

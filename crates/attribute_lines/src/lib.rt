@@ -4,7 +4,7 @@ use layout::Tree;
 use syntax::LineKind;
 ghost use mathlib.Core.Path.{_≡_};
 ghost use Rattle.meaning.specs.Text.{cut, tab};
-ghost use Rattle.meaning.specs.Model.{Attribute, mostValues};
+ghost use Rattle.meaning.specs.Model.{mostValues};
 ghost use Rattle.layout.specs.Places.{part};
 ghost use Rattle.attribute_lines.specs.Sofar.{Tested, AttributeRefusal, AttributeLine, CountIs, shapeOf};
 ghost use Rattle.attribute_lines.specs.Steps.{InFile, EndedLine, beginning, AttributeStep};
@@ -51,7 +51,7 @@ pub fn start() -> State
 
 // The most values that an attribute may have.
 fn most_values(several: bool) -> usize
-    ensures { λ r. ⌜ ((a : Attribute) → a .several ≡ several → r ≡ mostValues a) ⌝ }
+    ensures { λ r. ⌜ r ≡ mostValues several ⌝ }
 {
     if several { 12 } else { 16 }
 }

@@ -9,7 +9,7 @@ ghost use mathlib.Core.Path.{_≡_};
 ghost use Prim.Native.Nat.{_+_, _≤_, _<_};
 ghost use lib.ListN.{getD};
 ghost use Rattle.meaning.specs.Deciding.{decisionNumber, matches, combined, firstDecision};
-ghost use Rattle.requests.specs.Values.{valuesOf, lettersOf};
+ghost use Rattle.requests.specs.Values.{valuesOf, severalsOf};
 ghost use Rattle.table.specs.Rows.{algorithmAt};
 ghost use Rattle.table.specs.Tree.{left, Room};
 ghost use Rattle.decisions.specs.Replies.{replyOf, nextOf, stepOf, repliesFrom, replyAt};
@@ -105,7 +105,7 @@ fn step(algorithm: usize, so_far: Reply, child: Reply) -> Reply
 // Decides element `at`: behind it stand its children, and what comes after them.
 fn decide_at(table: &[u16], struck: &[u8], n: usize, at: usize, q: Request) -> Reply
     requires { ⌜ Room (now table) (now struck) n (at + 1) × (q .len ≤ 6) ⌝ }
-    ensures { λ r. ⌜ replyOf r ≡ replyAt (matches (lettersOf q) (valuesOf q)) (now (table .entry)) (now (struck .entry)) n at ⌝ }
+    ensures { λ r. ⌜ replyOf r ≡ replyAt (matches (severalsOf q) (valuesOf q)) (now (table .entry)) (now (struck .entry)) n at ⌝ }
 {
     if !table::matches(table, at, q) {
         return Reply {
@@ -145,7 +145,7 @@ fn fold(
     q: Request,
 ) -> Decision
     requires { ⌜ Room (now table) (now struck) n from × (q .len ≤ 6) ⌝ }
-    ensures { λ r. ⌜ r ≡ combined (algorithmAt algorithm) (repliesFrom (matches (lettersOf q) (valuesOf q)) (now (table .entry)) (now (struck .entry)) n depth from) ⌝ }
+    ensures { λ r. ⌜ r ≡ combined (algorithmAt algorithm) (repliesFrom (matches (severalsOf q) (valuesOf q)) (now (table .entry)) (now (struck .entry)) n depth from) ⌝ }
 {
     let mut so_far = Reply {
         matched: false,
@@ -167,7 +167,7 @@ fn fold(
 // The decision of the policy: of its first element, which is not struck.
 pub fn decide(table: &[u16], struck: &[u8], n: usize, q: Request) -> Decision
     requires { ⌜ Room (now table) (now struck) n 1 × (q .len ≤ 6) × (getD (now struck) 0 0 ≡ 0) ⌝ }
-    ensures { λ r. ⌜ r ≡ firstDecision (matches (lettersOf q) (valuesOf q)) (left (now (table .entry)) (now (struck .entry)) 0 n) ⌝ }
+    ensures { λ r. ⌜ r ≡ firstDecision (matches (severalsOf q) (valuesOf q)) (left (now (table .entry)) (now (struck .entry)) 0 n) ⌝ }
 {
     let first = decide_at(table, struck, n, 0, q);
     first.decision

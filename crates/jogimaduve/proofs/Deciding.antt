@@ -11,7 +11,7 @@ use Rattle.meaning.specs.Reading.{read}
 use Rattle.meaning.specs.Deciding.{Request, requestLine, decisionNumber, matches, firstDecision, decide, decideFile}
 use Rattle.meaning.specs.Operations.{answered, decideAnswer}
 use Rattle.laws.proofs.Bools.{contradiction}
-use Rattle.requests.specs.Values.{valuesOf, lettersOf}
+use Rattle.requests.specs.Values.{valuesOf, severalsOf}
 use Rattle.requests.proofs.Laid.{values-with}
 use Rattle.table.specs.Tree.{left}
 use Rattle.layout.specs.Places.{attributesOf}
@@ -62,7 +62,7 @@ module _ (f table places : List ℕ) (r : Reading) (is-read : ReadAs f table pla
         go (refused n m) t = contradiction g (ap (λ x. x .good) (t .is))
         go (given q) t = rw (t .is, t .count) (file-read f table places r is-read z .2 .spaced .standing .few)
 
-    pub request-decided : a .good ≡ true → (struck : List ℕ) → ((k : ℕ) → k < r .elements → getD struck k 0 ≡ 0) → (d : Decision) → d ≡ firstDecision (matches (lettersOf (a .request)) (valuesOf (a .request))) (left table struck 0 (r .elements))
+    pub request-decided : a .good ≡ true → (struck : List ℕ) → ((k : ℕ) → k < r .elements → getD struck k 0 ≡ 0) → (d : Decision) → d ≡ firstDecision (matches (severalsOf (a .request)) (valuesOf (a .request))) (left table struck 0 (r .elements))
         → (n : ℕ) → n ≡ decisionNumber d → told 0 n ≡ decideAnswer f request
     request-decided g struck zeros d is n numbered = go (requestLine (file-read f table places r is-read z .0 .attributes) request) asked-policy ∙ sym answer-is
       where
@@ -71,7 +71,7 @@ module _ (f table places : List ℕ) (r : Reading) (is-read : ReadAs f table pla
         go (given q) t =
             let p = file-read f table places r is-read z .0 in
             let holds = file-read f table places r is-read z .2 in
-            let letters : lettersOf (a .request) ≡ severals (p .attributes) = ap (λ x. lettersOf (x .request)) (t .is) ∙ ap (λ k. take k (r .attributes .several)) (t .count) ∙ letters-are f table places r p (file-read f table places r is-read z .1) holds in
+            let letters : severalsOf (a .request) ≡ severals (p .attributes) = ap (λ x. severalsOf (x .request)) (t .is) ∙ ap (λ k. take k (r .attributes .several)) (t .count) ∙ letters-are f table places r p (file-read f table places r is-read z .1) holds in
             let values : valuesOf (a .request) ≡ q = ap (λ x. valuesOf (x .request)) (t .is) ∙ values-with (r .attributes .several) q in
             let same : d ≡ decide p q = is ∙ ap₂ (λ bs vs. firstDecision (matches bs vs) (left table struck 0 (r .elements))) letters values ∙ decided f table places struck (r .elements) p q (holds .elements) zeros in
             λ i. told 0 ((numbered ∙ ap decisionNumber same) i)

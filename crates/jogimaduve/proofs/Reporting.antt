@@ -12,9 +12,9 @@ use Rattle.table.specs.declared.Shape.{Shape}
 use Rattle.reporting.specs.Found.{none-struck}
 use Rattle.reporting.specs.Held.{PolicyHeld}
 use Rattle.reader.specs.declared.Reading.{Reading}
-use Rattle.reader.specs.Told.{ReadPolicy, ReadAs}
+use Rattle.reader.specs.Told.{policyShape, ReadPolicy, ReadAs}
 use Rattle.reader.proofs.FileRead.{file-refused, naming}
-use Rattle.jogimaduve.specs.Told.{told, shapeOf}
+use Rattle.jogimaduve.specs.Told.{told}
 use Rattle.jogimaduve.proofs.Shaping.{ready, hits-are, space-is}
 
 -- A file that is refused
@@ -28,7 +28,7 @@ module _ (f table places : List ℕ) (r : Reading) (is-read : ReadAs f table pla
   refusal-lent = rw (file-refused f table places r is-read h)
 
 -- A file that was read
-pub held : (f table places : List ℕ) (r : Reading) (p : Policy) (h : read f ≡ given p) (holds : ReadPolicy f table places r p) (s : Shape) → s ≡ shapeOf r → PolicyHeld f table places s
+pub held : (f table places : List ℕ) (r : Reading) (p : Policy) (h : read f ≡ given p) (holds : ReadPolicy f table places r p) (s : Shape) → s ≡ policyShape r → PolicyHeld f table places s
 held f table places r p h holds s shaped = subst (PolicyHeld f table places) (sym shaped)
     (record {
       policy = p;
@@ -36,6 +36,6 @@ held f table places r p h holds s shaped = subst (PolicyHeld f table places) (sy
       elements = holds .elements;
       hits-are = hits-are f table places r p h holds;
       space-is = space-is f table places r p h holds;
-      ready = ready f table places r p h holds (shapeOf r) refl none-struck (omega arith) refl;
+      ready = ready f table places r p h holds (policyShape r) refl none-struck (omega arith) refl;
       naming = naming f table places r p h holds;
     })

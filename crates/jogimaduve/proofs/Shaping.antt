@@ -14,18 +14,17 @@ use Rattle.laws.proofs.Requests.{product-pos}
 use Rattle.laws.proofs.Answers.{positive}
 use Rattle.table.specs.Tree.{Leaves}
 use Rattle.table.specs.declared.Shape.{Shape}
-use Rattle.table.specs.Shape.{countsOf, lettersOf, hitOf}
+use Rattle.table.specs.Shape.{countsOf, severalsOf, hitOf}
 use Rattle.table.proofs.Children.{none-struck}
 use Rattle.outcomes.specs.PolicyTable.{PolicyTable}
-use Rattle.layout.specs.Places.{lineStart, placed}
+use Rattle.layout.specs.Places.{FewValues, lineStart, placed}
 use Rattle.layout.proofs.Laws.{attributes-length}
 use Rattle.layout.proofs.Counts.{sizes-are, severals-are, sets-counted}
 use Rattle.reader.specs.declared.Reading.{Reading}
-use Rattle.reader.specs.Told.{ReadPolicy}
+use Rattle.reader.specs.Told.{policyShape, ReadPolicy}
 use Rattle.reader.proofs.FileRead.{elements-are, few}
 use Rattle.trimmed_text.specs.Copied.{Copies}
 use Rattle.trimmed_text.proofs.Tabled.{root-word, leaves as rules-are-leaves}
-use Rattle.jogimaduve.specs.Told.{Sizable, shapeOf}
 
 -- Lines start one behind the other
 start-rises : (f : Bytes) (k : ℕ) → lineStart f k ≤ lineStart f (suc k)
@@ -48,19 +47,19 @@ module _ (f table places : List ℕ) (r : Reading) (p : Policy) (h : read f ≡ 
   pub attributes-are : length (p .attributes) ≡ r .attributes .len
   attributes-are = ap length (holds .attributes) ∙ attributes-length f (r .attributes)
 
-  counts-are : countsOf (shapeOf r) ≡ sizes (p .attributes)
+  counts-are : countsOf (policyShape r) ≡ sizes (p .attributes)
   counts-are = sizes-are f (r .attributes) (holds .spaced .standing) ∙ ap sizes (sym (holds .attributes))
 
-  pub letters-are : lettersOf (shapeOf r) ≡ severals (p .attributes)
+  pub letters-are : severalsOf (policyShape r) ≡ severals (p .attributes)
   letters-are =
       let room : length (r .attributes .several) ≡ 6 = ap (λ a. length (a .several)) (holds .places-are) ∙ letter-places f (r .attributes .len) in
       sym (severals-are f (r .attributes) (omega (arith, holds .spaced .standing .few))) ∙ ap severals (sym (holds .attributes))
 
-  pub sizable : Sizable r
-  sizable = record { few = holds .spaced .standing .few; few-values = holds .spaced .few-values }
+  pub sizable : (r .attributes .len ≤ 6) × FewValues (r .attributes)
+  sizable = (holds .spaced .standing .few, holds .spaced .few-values)
 
   -- its requests are those of the policy, and so many
-  pub hits-are : (m : ℕ) → hitOf (shapeOf r) m ≡ hits p m
+  pub hits-are : (m : ℕ) → hitOf (policyShape r) m ≡ hits p m
   unfolding hitOf
   hits-are m = ap₂ (λ bs c. matches bs (requestOf c m)) letters-are counts-are
 
@@ -68,16 +67,16 @@ module _ (f table places : List ℕ) (r : Reading) (p : Policy) (h : read f ≡ 
   space-is = holds .space-is ∙ ap space (sym (holds .attributes))
 
   leaves : Leaves table (r .elements)
-  leaves = rules-are-leaves f p h table places (r .elements) (holds .elements) (elements-are f table places r p h holds) (hitOf (shapeOf r)) (r .space) hits-are space-is
+  leaves = rules-are-leaves f p h table places (r .elements) (holds .elements) (elements-are f table places r p h holds) (hitOf (policyShape r)) (r .space) hits-are space-is
 
-  pub ready : (s : Shape) → s ≡ shapeOf r → (struck : List ℕ) → 64 ≤ length struck → struck ≡ replicate 64 0 → PolicyTable table struck s
+  pub ready : (s : Shape) → s ≡ policyShape r → (struck : List ℕ) → 64 ≤ length struck → struck ≡ replicate 64 0 → PolicyTable table struck s
   ready s shaped struck room none = subst (PolicyTable table struck) (sym shaped)
       (record {
         rows = omega (arith, holds .rooms .rows, few f table places r p h holds);
         flags = omega (arith, few f table places r p h holds);
         some = holds .some;
         few = few f table places r p h holds;
-        root = root-word f p h table places (r .elements) (holds .elements) (elements-are f table places r p h holds) (hitOf (shapeOf r)) (r .space) hits-are space-is (holds .some);
+        root = root-word f p h table places (r .elements) (holds .elements) (elements-are f table places r p h holds) (hitOf (policyShape r)) (r .space) hits-are space-is (holds .some);
         stays = ap (λ flags. getD flags 0 0) none;
         leaves = leaves;
         rules = none-struck table struck (r .elements) (λ k l. ap (λ flags. getD flags k 0) none ∙ getD-replicate 64 k 0 0 (omega (arith, few f table places r p h holds)));

@@ -22,11 +22,11 @@ use Rattle.trimmed_text.proofs.Trimmed.{trimmed-flags}
 use Rattle.trimmed_text.proofs.Tabled.{trimming-is}
 use Rattle.trimmed_text.proofs.Placed.{text-copied}
 use Rattle.reader.specs.declared.Reading.{Reading}
-use Rattle.reader.specs.Told.{ReadPolicy, ReadAs}
+use Rattle.reader.specs.Told.{policyShape, ReadPolicy, ReadAs}
 use Rattle.reader.proofs.FileRead.{file-refused, elements-are, few}
 use Rattle.reporting.specs.Found.{none-struck}
 use Rattle.reporting.proofs.StruckText.{none-clear}
-use Rattle.jogimaduve.specs.Told.{told, shapeOf}
+use Rattle.jogimaduve.specs.Told.{told}
 use Rattle.jogimaduve.proofs.Shaping.{attributes-are, hits-are, space-is}
 
 -- A file that is refused
@@ -44,7 +44,7 @@ pub small-text : (f : Bytes) (p : Policy) (h : read f ≡ given p) (needed : ℕ
 small-text f p h needed l = omega (arith, accepted f p h .size)
 
 -- The flags that striking leaves
-module _ (f table places : List ℕ) (r : Reading) (p : Policy) (h : read f ≡ given p) (holds : ReadPolicy f table places r p) (s : Shape) (shaped : s ≡ shapeOf r)
+module _ (f table places : List ℕ) (r : Reading) (p : Policy) (h : read f ≡ given p) (holds : ReadPolicy f table places r p) (s : Shape) (shaped : s ≡ policyShape r)
     (flags : List ℕ) (struck : flags ≡ table-level.trimmingAt table (s .n) (hitOf s) (s .space) (s .n) none-struck .flags) where
   abbrev text : Bytes
   text = copied f places flags (r .elements)
@@ -55,7 +55,7 @@ module _ (f table places : List ℕ) (r : Reading) (p : Policy) (h : read f ≡ 
       let n = r .elements in
       let size = elements-are f table places r p h holds in
       let here = subst (λ s. flags ≡ table-level.trimmingAt table (s .n) (hitOf s) (s .space) (s .n) none-struck .flags) shaped struck in
-      let same-flags = ap (λ t. t .flags) (trimming-is f p h table places n (holds .elements) size (hitOf (shapeOf r)) (r .space) (hits-are f table places r p h holds) (space-is f table places r p h holds) n none-struck) in
+      let same-flags = ap (λ t. t .flags) (trimming-is f p h table places n (holds .elements) size (hitOf (policyShape r)) (r .space) (hits-are f table places r p h holds) (space-is f table places r p h holds) n none-struck) in
       ap (λ t. t .text) (trimmed-flags f p h n none-struck none-clear (omega (arith, size, few f table places r p h holds)) (omega (arith, size)))
       ∙ ap (textLeft f p) (sym same-flags ∙ sym here)
       ∙ text-copied f p h places flags (r .attributes .len) n (attributes-are f table places r p h holds) size (holds .lined) (holds .some)

@@ -1,27 +1,7 @@
 // The operations for C callers.
 use meaning::Answer;
-use reader::Reading;
-use table::Shape;
 ghost use mathlib.Core.Path.{_≡_};
 ghost use Rattle.meaning.specs.Operations.{decideAnswer, trimAnswer, trimLent, reportAnswer, reportLent};
-ghost use Rattle.jogimaduve.specs.Told.{Sizable, shapeOf};
-
-// The shape of the policy that was read.
-pub fn shape_of(reading: Reading) -> Shape
-    requires { ⌜ Sizable reading ⌝ }
-    ensures { λ r. ⌜ r ≡ shapeOf reading ⌝ }
-{
-    let attributes = reading.attributes;
-    let several = attributes.several;
-    let counts = layout::sizes(attributes);
-    Shape {
-        n: reading.elements,
-        several,
-        counts,
-        len: attributes.len,
-        space: reading.space,
-    }
-}
 
 // What a policy file decides on a request line.
 #[no_mangle]
@@ -65,7 +45,7 @@ pub extern "C" fn jogimaduve_trim(file: &[u8], out: &mut [u8]) -> Answer
     }
     let n = reading.elements;
     let mut struck = [0u8; 64];
-    trimming::strike(&table, &mut struck, shape_of(reading));
+    trimming::strike(&table, &mut struck, reader::policy_shape(reading));
     let mut none = [0u8; 0];
     let needed = trimmed_text::put_text(file, &places, &struck, n, &mut none);
     let room = out.len();
@@ -86,5 +66,5 @@ pub extern "C" fn jogimaduve_report(file: &[u8], out: &mut [u8]) -> Answer
     if reading.number != 0 {
         return reader::refusal(reading);
     }
-    reporting::report(file, &table, &places, shape_of(reading), out)
+    reporting::report(file, &table, &places, reader::policy_shape(reading), out)
 }

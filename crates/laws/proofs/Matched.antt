@@ -3,7 +3,7 @@ use mathlib.Core.Path.{_≡_, refl, sym, ap, _∙_}
 use Prim.Native.Nat.{ℕ, zero, suc, _+_, _*_, _/_, _%_, _≤_}
 use native.Mathlib.Omega.{arith}
 use mathlib.Core.Bool.{Bool, true, false, cond}
-use mathlib.Core.List.{List, [], _∷_, List·Memᴰ, List·Memᴰ·head, List·Memᴰ·tail, List·Memᴰ·eq-of-singleton}
+use mathlib.Core.List.{List, [], _∷_, List·Memᴰ, List·Memᴰ·head, List·Memᴰ·eq-of-singleton}
 use lib.ListN.{length, getD}
 use lib.Pow.{pow-pos}
 use borrow.Author.Tests.{eq-eqb, ne-eqb}
@@ -11,14 +11,12 @@ use Rattle.meaning.specs.Text.{Bytes}
 use Rattle.meaning.specs.Model.{Attribute, Policy, severals, sizes, given, full}
 use Rattle.meaning.specs.Reading.{badMasks, read}
 use Rattle.meaning.specs.Deciding.{Request, requestOf, bit, members, inField, within}
-use Rattle.meaning.specs.Claims.Texts.{All}
 use Rattle.meaning.specs.Claims.PolicyFile.{marksMask}
 use Rattle.meaning.specs.Claims.Requests.{Fits, InField, Shares, InTarget, Matched}
 use Rattle.laws.proofs.Bounds.{GoodElement}
-use Rattle.laws.proofs.Types.{Element}
 use Rattle.laws.proofs.Bools.{contradiction, and-true}
 use Rattle.laws.proofs.Search.{any-has, any-only}
-use Rattle.laws.proofs.Bounds.{masks-good, bounded}
+use Rattle.laws.proofs.Bounds.{masks-good, all-has, bounded}
 use Rattle.laws.proofs.Bits.{bit-zero, bit-down}
 use Rattle.laws.proofs.Marks.{marksOf, marks-mask}
 use Rattle.laws.proofs.RequestLines.{numbered}
@@ -76,12 +74,8 @@ in-target (a ∷ attrs) (m ∷ ms) (v ∷ vs) f b h =
     let (own, others) = and-true (inField (a .several) m v) (within (severals attrs) ms vs) h in
     (in-shares a m v (g .no-high-bit) own, in-target attrs ms vs (f .1) (g .others) others)
 
-one-good : (attrs : List Attribute) (e : Element) {es : List Element} → List·Memᴰ e es → All (GoodElement attrs) es → badMasks attrs (e .masks) ≡ false
-one-good attrs e (List·Memᴰ·head {x = x} {xs = xs} i) g = ap (λ y. badMasks attrs (y .masks)) i ∙ g .0 .masked
-one-good attrs e (List·Memᴰ·tail {x = x} {xs = xs} m) g = one-good attrs e m (g .1)
-
 pub matched : (f : Bytes) (p : Policy) → read f ≡ given p → Matched p
 matched f p h =
     let b = bounded f p h in
     let numbers = numbered (p .attributes) (b .some-attribute) (b .attributes-good) in
-    λ n l e m. (λ t. in-target (p .attributes) (e .masks) (requestOf (sizes (p .attributes)) n) (numbers .number-again n l .0) (one-good (p .attributes) e m (b .elements-good)) t, target-in (p .attributes) (e .masks) (requestOf (sizes (p .attributes)) n))
+    λ n l e m. (λ t. in-target (p .attributes) (e .masks) (requestOf (sizes (p .attributes)) n) (numbers .number-again n l .0) (all-has (GoodElement (p .attributes)) e m (b .elements-good) .masked) t, target-in (p .attributes) (e .masks) (requestOf (sizes (p .attributes)) n))

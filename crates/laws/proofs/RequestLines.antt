@@ -22,6 +22,7 @@ use Rattle.laws.proofs.Reading.{refused-given, given-given}
 use Rattle.laws.proofs.Requests.{Fits, number-request, request-number, next-request, earlier-lower}
 use Rattle.laws.proofs.Bounds.{bounded}
 use Rattle.laws.proofs.Chosen.{field-free, named-chosen, chosen-named, value-chosen, none-chosen}
+use Rattle.laws.proofs.Choices.{counted}
 use Rattle.laws.proofs.Answers.{positive, line-fits}
 
 paired-length : {A B : Type 0} (R : A → B → Type 0) (xs : List A) (ys : List B) → Paired R xs ys → length xs ≡ length ys
@@ -106,8 +107,10 @@ module _ (attrs : List Attribute) (some-attribute : 1 ≤ length attrs) (good : 
       let ss = sizes attrs in
       let some-values = positive attrs good in
       record {
+        counted = counted attrs good;
         number-again = λ n l. let (a, b) = number-request ss n some-values l in (b, a);
         request-again = λ q f. let (a, b) = request-number ss q some-values f in (b, a);
+        next-fits = λ q. next-request ss q some-values .1;
         rising = λ q r f g e. earlier-lower ss q r some-values f g e;
         next-number = λ q. next-request ss q some-values .0;
         to-line = λ q f. from-names (requestText attrs q) q f (own-names q f);

@@ -112,7 +112,7 @@ sum-below i n (v ∷ vs) l r low h =
     let later = sum-below (suc v) n vs (h .0) (r .1) (above v vs r) (h .1) in
     omega (arith, later, pow-succ' 2 v, pow-mono (low .0))
 
-number-of : (n : ℕ) (vs : List ℕ) → n ≤ 12 → SetOf n vs → (setNumber vs < 2 ^ n - 1) × (members (setNumber vs) ≡ vs)
+pub number-of : (n : ℕ) (vs : List ℕ) → n ≤ 12 → SetOf n vs → (setNumber vs < 2 ^ n - 1) × (members (setNumber vs) ≡ vs)
 number-of n vs few s =
     let below = sum-below 0 n vs zero-le (s .rising) (all-of (λ v. 0 ≤ v) vs (λ v m. zero-le)) (s .declared) in
     let most : 2 ^ n ≤ 4096 = pow-mono few in
@@ -123,7 +123,7 @@ number-of n vs few s =
     filled [] l = absurd (omega arith)
     filled (v ∷ vs) l = omega (arith, pow-pos v)
 
-set-of : (n v : ℕ) → n ≤ 12 → v < 2 ^ n - 1 → SetOf n (members v) × (setNumber (members v) ≡ v)
+pub set-of : (n v : ℕ) → n ≤ 12 → v < 2 ^ n - 1 → SetOf n (members v) × (setNumber (members v) ≡ v)
 set-of n v few l =
     let most : 2 ^ n ≤ 4096 = pow-mono few in
     let sum = members-sum v (omega arith) in
@@ -180,5 +180,4 @@ pub sets-numbered : SetsNumbered
 sets-numbered = record {
   number-of = number-of;
   set-of = set-of;
-  shared = λ m v. (any-only (bit m) (members v), λ s. any-has (bit m) (s .0) (s .1) (s .2));
 }

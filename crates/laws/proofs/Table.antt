@@ -82,7 +82,7 @@ module _ (s : Sofar) where
       on-attribute (Used attrs) (λ k d n w ts. Among n (map nameOf before)) _ a (either _ _ _ _ (among (a .name) (attributeNames attrs)) (some-twice (a .values))),
       (
         refl,
-        on-attribute (TooMany attrs) (λ k d n w ts. 64 ≤ length before) _ a (either-of-three _ _ _ _ _ _ (at-least 6 (length attrs)) (more-than (mostValues a) (length (a .values))) (more-than 4096 (space (attrs ++ (a ∷ []))))),
+        on-attribute (TooMany attrs) (λ k d n w ts. 64 ≤ length before) _ a (either-of-three _ _ _ _ _ _ (at-least 6 (length attrs)) (more-than (mostValues (a .several)) (length (a .values))) (more-than 4096 (space (attrs ++ (a ∷ []))))),
         (
           refl,
           on-attribute (λ a. 1 ≤ length before) (λ k d n w ts. BadPlace attrs before k d) _ a (not-nothing before),

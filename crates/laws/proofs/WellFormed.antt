@@ -82,7 +82,7 @@ module _ (tests : Sofar → Line → Tests) (numbered : (s : Sofar) (l : Line) �
       let few : length attrs < 6 = omega (arith, l, length-append attrs (a ∷ bs)) in
       let small : space (attrs ++ (a ∷ [])) ≤ 4096 = omega (arith, s, ap space split, space-grows (attrs ++ (a ∷ [])) bs (g .1)) in
       let own : Passes (attributeTests (only attrs) a) =
-      (rw (g .0 .named, g .0 .values-named), (rw (new, names-distinct (a .values) (g .0 .distinct)), (rw (lt-leb 6 (length attrs) few, le-ltb (mostValues a) (length (a .values)) (g .0 .few-values), le-ltb 4096 (space (attrs ++ (a ∷ []))) small), (refl, tt)))) in
+      (rw (g .0 .named, g .0 .values-named), (rw (new, names-distinct (a .values) (g .0 .distinct)), (rw (lt-leb 6 (length attrs) few, le-ltb (mostValues (a .several)) (length (a .values)) (g .0 .few-values), le-ltb 4096 (space (attrs ++ (a ∷ []))) small), (refl, tt)))) in
       let passes : PassesLine tests numbered (only attrs) (attributeFields a) (attributeLine a) = (rw (fields-good a (g .0)), subst Passes (sym (alike (only attrs) a)) own) in
       let later = attributes-read rest bs (attrs ++ (a ∷ [])) (suc n) m more (omega arith) (g .1) (subst (λ x. DistinctNames (attributeNames x)) (sym split) d) (subst (λ x. length x ≤ 6) (sym split) l) (subst (λ x. space x ≤ 4096) (sym split) s) in
       read-step⁻ tests numbered rest n (only attrs) (attributeText a) (map attributeText bs ++ more) (subst (λ x. PassesLine tests numbered (only attrs) x (lineOf x)) (sym (text-cut a (g .0))) (subst (PassesLine tests numbered (only attrs) (attributeFields a)) (sym (is-attribute a (g .0))) passes))

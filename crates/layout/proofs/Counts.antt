@@ -1,5 +1,5 @@
--- The attributes by their places: how many values each has, how many choices in the space, and where it has several in a
--- request.
+-- The attributes by their places: how many values each has, how many choices in the space, and where it may have
+-- several in a request.
 use mathlib.Core.Path.{_≡_, refl, sym, ap, ap₂, _∙_}
 use Prim.Native.Nat.{ℕ, zero, suc, _+_, _-_, _^_, _≤_, _<_}
 use native.Mathlib.Nat.{sub-zero}
@@ -11,10 +11,10 @@ use lib.ListN.{length, take, drop, getD, set, replicate, length-replicate, List�
 use lib.Pow.{pow-pos}
 use lib.Seq.{sets, sets-eq, drop-cons, take-append-seam}
 use Rattle.meaning.specs.Text.{Bytes, tab}
-use Rattle.meaning.specs.Model.{padded, sizes, severals}
+use Rattle.meaning.specs.Model.{padded, sizes, severals, choicesOf}
 use Rattle.laws.proofs.Text.{Some, one-or-more, cut-some}
 use Rattle.layout.specs.declared.Attributes.{Attributes}
-use Rattle.layout.specs.Places.{part, attributesFrom, attributesOf, AllStanding, valueCounts, sizeOf, sizesFrom, sizesOf}
+use Rattle.layout.specs.Places.{part, attributesFrom, attributesOf, AllStanding, valueCounts, sizesFrom, sizesOf}
 
 some-piece : {ps : List Bytes} → Some ps → 1 ≤ length ps
 some-piece (one-or-more p ps) = omega arith
@@ -45,24 +45,24 @@ module _ (several : List Bool) (counts : List ℕ) where
   pub sizes-start : (n : ℕ) → n ≤ 6 → sets (replicate 6 0) 0 (sizesFrom several counts 0 (n - 0)) ≡ padded 6 (sizesFrom several counts 0 n)
   sizes-start n few = rw (sub-zero n) (laid-padded 6 (sizesFrom several counts 0 n) (omega (arith, sizes-length 0 n)))
 
-  pub sizes-more : (laid : List ℕ) (n i : ℕ) → i < n → sets (set laid i (sizeOf (getD several i false) (getD counts i 0))) (i + 1) (sizesFrom several counts (i + 1) (n - (i + 1))) ≡ sets laid i (sizesFrom several counts i (n - i))
+  pub sizes-more : (laid : List ℕ) (n i : ℕ) → i < n → sets (set laid i (choicesOf (getD several i false) (getD counts i 0))) (i + 1) (sizesFrom several counts (i + 1) (n - (i + 1))) ≡ sets laid i (sizesFrom several counts i (n - i))
   unfolding sizesFrom
   sizes-more laid n i l =
       let more : n - i ≡ suc (n - (i + 1)) = omega arith in
-      let size = sizeOf (getD several i false) (getD counts i 0) in
+      let size = choicesOf (getD several i false) (getD counts i 0) in
       ap (λ m. sets (set laid i size) m (sizesFrom several counts (i + 1) (n - (i + 1)))) (add-one i) ∙ ap (λ m. sets laid i (sizesFrom several counts i m)) (sym more)
 
   pub sizes-end : (laid : List ℕ) (n i : ℕ) → n ≤ i → sets laid i (sizesFrom several counts i (n - i)) ≡ laid
   unfolding sizesFrom
   sizes-end laid n i l = let none-left : n - i ≡ 0 = omega arith in rw none-left
 
-  size-at : (i n k : ℕ) → k < n → getD (sizesFrom several counts i n) k 0 ≡ sizeOf (getD several (i + k) false) (getD counts (i + k) 0)
+  size-at : (i n k : ℕ) → k < n → getD (sizesFrom several counts i n) k 0 ≡ choicesOf (getD several (i + k) false) (getD counts (i + k) 0)
   unfolding sizesFrom
   size-at i zero k l = absurd (omega arith)
   size-at i (suc n) zero l = let here : i + 0 ≡ i = omega arith in rw here
   size-at i (suc n) (suc k) l = let there : (i + 1) + k ≡ i + suc k = omega arith in rw (size-at (i + 1) n k (omega arith), there)
 
--- Where an attribute has several values in a request, it counts their sets but the empty one
+-- Where an attribute may have several values in a request, it counts their sets but the empty one
 pub sets-counted : (a : Attributes) (i : ℕ) → i < a .len → getD (a .several) i false ≡ true → getD (sizesOf a) i 0 + 1 ≡ 2 ^ getD (a .counts) i 0
 unfolding sizesOf
 sets-counted a i l several =
@@ -101,7 +101,7 @@ module _ (f : Bytes) (a : Attributes) (standing : AllStanding f a) where
   sizes-from : (i k : ℕ) → i + k ≤ a .len → sizesFrom (a .several) (a .counts) i k ≡ sizes (attributesFrom f a i k)
   unfolding attributesFrom sizesFrom
   sizes-from i zero l = refl
-  sizes-from i (suc k) l = ap₂ (λ n ns. sizeOf (getD (a .several) i false) n ∷ ns) (standing .each i (omega arith) .count) (sizes-from (i + 1) k (omega arith))
+  sizes-from i (suc k) l = ap₂ (λ n ns. choicesOf (getD (a .several) i false) n ∷ ns) (standing .each i (omega arith) .count) (sizes-from (i + 1) k (omega arith))
 
   pub sizes-are : take (a .len) (sizesOf a) ≡ sizes (attributesOf f a)
   unfolding sizesOf

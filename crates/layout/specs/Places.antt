@@ -1,5 +1,5 @@
 -- Where attributes and elements stand in a file, and what the definitions make of the places.
-use Prim.Native.Nat.{ℕ, zero, suc, _+_, _-_, _*_, _^_, _≤_, _<_}
+use Prim.Native.Nat.{ℕ, zero, suc, _+_, _-_, _*_, _≤_, _<_}
 use mathlib.Core.Bool.{Bool, true, false, cond}
 use mathlib.Core.List.{List, [], _∷_, map}
 use mathlib.Core.Path.{_≡_}
@@ -9,7 +9,7 @@ use Rattle.meaning.specs.declared.Kind.{Kind}
 use Rattle.meaning.specs.declared.Kind.the-variants.{Set, Policy, Rule}
 use Rattle.meaning.specs.declared.Element.{Element}
 use Rattle.meaning.specs.Text.{Bytes, same, cut, tab, newline}
-use Rattle.meaning.specs.Model.{Attribute, padded, letterText}
+use Rattle.meaning.specs.Model.{Attribute, padded, letterText, choicesOf}
 use Rattle.table.specs.Rows.{elementAt}
 use Rattle.layout.specs.declared.Attributes.{Attributes}
 
@@ -17,7 +17,7 @@ use Rattle.layout.specs.declared.Attributes.{Attributes}
 abbrev pub part : Bytes → ℕ → ℕ → Bytes
 part f a b = take (b - a) (drop a f)
 
--- Attribute i: whether it has several values in a request, its name, which a tab ends, and its values up to the line's end
+-- Attribute i: whether it may have several values in a request, its name, which a tab ends, and its values up to the line's end
 abbrev pub attributeAt : Bytes → Attributes → ℕ → Attribute
 attributeAt f a i =
     record {
@@ -49,14 +49,14 @@ pub record AllStanding (f : Bytes) (a : Attributes) : Type 0 where
 abbrev pub valueCounts : List Attribute → List ℕ
 valueCounts attrs = map (λ a. length (a .values)) attrs
 
--- how many choices an attribute of n values has in the space: the values, or their non-empty sets; those of n attributes from
--- i on; and all, with zeros behind them
-abbrev pub sizeOf : (several : Bool) → ℕ → ℕ
-sizeOf several n = cond several (2 ^ n - 1) n
+-- at most 16 each
+abbrev pub FewValues : Attributes → Type 0
+FewValues a = (i : ℕ) → i < a .len → getD (a .counts) i 0 ≤ 16
 
+-- how many choices n attributes from i on have in the space; and all, with zeros behind them
 unfoldable pub sizesFrom : List Bool → List ℕ → ℕ → ℕ → List ℕ
 sizesFrom several counts i zero = []
-sizesFrom several counts i (suc n) = sizeOf (getD several i false) (getD counts i 0) ∷ sizesFrom several counts (i + 1) n
+sizesFrom several counts i (suc n) = choicesOf (getD several i false) (getD counts i 0) ∷ sizesFrom several counts (i + 1) n
 
 unfoldable pub sizesOf : Attributes → List ℕ
 sizesOf a = padded 6 (sizesFrom (a .several) (a .counts) 0 (a .len))

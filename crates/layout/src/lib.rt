@@ -8,12 +8,13 @@ ghost use lib.ListN.{length, getD};
 ghost use lib.Seq.{sets};
 ghost use Rattle.meaning.specs.declared.Element.{Element};
 ghost use Rattle.meaning.specs.Text.{amongNames};
+ghost use Rattle.meaning.specs.Model.{choicesOf};
 ghost use Rattle.meaning.specs.Reading.{wellPlaced};
 ghost use Rattle.table.specs.Rows.{Rows, withRow};
-ghost use Rattle.layout.specs.Places.{attributesOf, AllStanding, sizeOf, sizesOf, noAttributes, added, namesTo, Named};
+ghost use Rattle.layout.specs.Places.{attributesOf, AllStanding, FewValues, sizesOf, noAttributes, added, namesTo, Named};
 ghost use Rattle.layout.specs.Nearest.{kindNumber, parentNumber, grown, Stands};
 
-// Whether each attribute has several values in a request, and where it stands: the start of its name, of its first value, the
+// Whether each attribute may have several values in a request, and where it stands: the start of its name, of its first value, the
 // end of its line; and its value count.
 pub struct Attributes {
     pub several: [bool; 6],
@@ -48,7 +49,7 @@ pub fn no_attributes() -> Attributes
 // How many choices an attribute of so many values has in the space: its values, or their non-empty sets.
 pub fn choices(several: bool, values: usize) -> usize
     requires { ⌜ values ≤ 16 ⌝ }
-    ensures { λ r. ⌜ r ≡ sizeOf several values ⌝ }
+    ensures { λ r. ⌜ r ≡ choicesOf several values ⌝ }
 {
     if several {
         return (1usize << values) - 1;
@@ -58,7 +59,7 @@ pub fn choices(several: bool, values: usize) -> usize
 
 // How many choices each attribute has in the space; zeros behind the last.
 pub fn sizes(a: Attributes) -> [usize; 6]
-    requires { ⌜ (a .len ≤ 6) × ((i : ℕ) → i < a .len → getD (a .counts) i 0 ≤ 16) ⌝ }
+    requires { ⌜ (a .len ≤ 6) × FewValues a ⌝ }
     ensures { λ r. ⌜ r ≡ sizesOf a ⌝ }
 {
     let several = a.several;

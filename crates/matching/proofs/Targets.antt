@@ -18,7 +18,7 @@ use Rattle.requests.proofs.Laws.{rest-cons, rest-none, counts-positive, positiv
 use Rattle.requests.proofs.Targets.{letters-cons}
 use Rattle.table.specs.Rows.{elementAt, masksAt}
 use Rattle.table.specs.declared.Shape.{Shape}
-use Rattle.table.specs.Shape.{countsOf, lettersOf, hitOf}
+use Rattle.table.specs.Shape.{countsOf, severalsOf, hitOf}
 use Rattle.matching.specs.Hits.{Hits}
 use Rattle.matching.specs.Planes.{laid, Clear, Plane}
 use Rattle.matching.proofs.Copying.{PlaneCopied}
@@ -114,13 +114,13 @@ module _ (t : List ℕ) (s : Shape) where
   hits-none hits i m l k = absurd (omega arith)
 
   pub hits-next : {i words : ℕ} {masks plane old new : List ℕ} → words ≤ 64 → s .space ≤ 64 * words → Hits t i (hitOf s) (s .space) old → masks ≡ masksAt t i
-      → ((m : ℕ) → m < s .space → laid plane m ≡ within (lettersOf s) masks (requestOf (countsOf s) m))
+      → ((m : ℕ) → m < s .space → laid plane m ≡ within (severalsOf s) masks (requestOf (countsOf s) m))
       → PlaneCopied plane words (64 * i) old new → Hits t (i + 1) (hitOf s) (s .space) new
   unfolding elementAt hitOf
   hits-next {i} {words} {masks} {plane} {old} {new} few enough so-far own here copied j m l k = go (test (eqb j i))
     where
       go : Test (eqb j i) → bit (getD new (64 * j + m / 64) 0) (m % 64) ≡ hitOf s m (elementAt t j)
-      go (passed e) = rw (eqb-true j i e) (ap (λ x. bit x (m % 64)) (copied .here (m / 64) (omega arith)) ∙ here m k ∙ ap (λ ms. within (lettersOf s) ms (requestOf (countsOf s) m)) own)
+      go (passed e) = rw (eqb-true j i e) (ap (λ x. bit x (m % 64)) (copied .here (m / 64) (omega arith)) ∙ here m k ∙ ap (λ ms. within (severalsOf s) ms (requestOf (countsOf s) m)) own)
       go (failed e) =
           let other = eqb-false j i e in
           ap (λ x. bit x (m % 64)) (copied .others (64 * j + m / 64) (λ a. omega (arith, other))) ∙ so-far j m (omega (arith, other)) k

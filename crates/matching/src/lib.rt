@@ -76,8 +76,8 @@ fn spread_values(plane: &[u64; 64], size: usize, mask: u16, count: usize) -> [u6
     to
 }
 
-// The sets of k values, `sets`, and those with the next value too: all of these match if it is taken into the mask, else those
-// that match without it. `all` has the plane 2^k times, which are `width` bits.
+// The sets of k values, `sets`, and those that have the next value too: if it is in the mask (`taken`) all of these match,
+// else those that match without it. `all` has the plane 2^k times, which are `width` bits.
 fn with_value(
     sets: &[u64; 64],
     all: &[u64; 64],

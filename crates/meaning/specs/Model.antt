@@ -12,7 +12,7 @@ pub use Rattle.meaning.specs.declared.Decision.the-variants.{NotApplicab
 pub use Rattle.meaning.specs.declared.Element.{Element}
 use Rattle.meaning.specs.Text.{Bytes, bytes}
 
--- In a request, an attribute of an `A` line has one value, one of an `M` line a set of several
+-- In a request, an attribute of an `A` line has one value, one of an `M` line a set of one or several
 pub record Attribute : Type 0 where
   pub several : Bool
   pub name : Bytes
@@ -33,12 +33,15 @@ pub record Policy : Type 0 where
 abbrev pub full : List Bytes → ℕ
 full vs = (2 ^ length vs) - 1
 
--- The space: the product of the counts. An `A` counts its values, at most 16; an `M` of n values, at most 12, counts 2^n - 1
-abbrev pub choices : Attribute → ℕ
-choices a = cond (a .several) (full (a .values)) (length (a .values))
+-- The space: the product of the counts. An `A` of n values, at most 16, counts n; an `M`, at most 12, counts 2^n - 1
+abbrev pub choicesOf : (several : Bool) → ℕ → ℕ
+choicesOf several n = cond several (2 ^ n - 1) n
 
-abbrev pub mostValues : Attribute → ℕ
-mostValues a = cond (a .several) 12 16
+abbrev pub choices : Attribute → ℕ
+choices a = choicesOf (a .several) (length (a .values))
+
+abbrev pub mostValues : (several : Bool) → ℕ
+mostValues several = cond several 12 16
 
 abbrev pub sizes : List Attribute → List ℕ
 sizes attrs = map choices attrs

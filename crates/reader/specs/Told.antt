@@ -8,7 +8,8 @@ use lib.ListN.{length, drop, getD}
 use Rattle.meaning.specs.Text.{Bytes, cut, tab, newline}
 use Rattle.meaning.specs.Model.{Policy, space, Result, refused, given}
 use Rattle.meaning.specs.Reading.{read}
-use Rattle.layout.specs.Places.{part, attributesOf, noAttributes, elementsTo, lineStart, placed, Lined}
+use Rattle.table.specs.declared.Shape.{Shape}
+use Rattle.layout.specs.Places.{part, attributesOf, sizesOf, noAttributes, elementsTo, lineStart, placed, Lined}
 use Rattle.attribute_lines.specs.declared.State.{State}
 use Rattle.reader.specs.declared.Reading.{Reading}
 use Rattle.attribute_lines.specs.Sofar.{CountIs}
@@ -26,6 +27,10 @@ pub record LineAt (f : Bytes) (at end fields : ℕ) : Type 0 where
 -- A file: its refusal, with small numbers and nothing read; or the policy, by the places and the table
 abbrev pub refusedWith : ℕ → ℕ → Reading
 refusedWith n m = record { number = n; second = m; attributes = noAttributes; space = 1; elements = 0 }
+
+-- the shape of a policy that was read
+abbrev pub policyShape : Reading → Shape
+policyShape r = record { n = r .elements; several = r .attributes .several; counts = sizesOf (r .attributes); len = r .attributes .len; space = r .space }
 
 -- what is told behind the last newline, of a file that ends at `end`
 abbrev pub endedAt : State → ℕ → Reading

@@ -4,16 +4,17 @@ use attribute_lines::Step;
 use layout::Attributes;
 use meaning::Answer;
 use syntax::LineKind;
+use table::Shape;
 use text::Counted;
 ghost use mathlib.Core.Path.{_≡_};
 ghost use Prim.Native.Nat.{_≤_};
 ghost use lib.ListN.{length};
 ghost use Rattle.meaning.specs.Text.{cut, tab};
 ghost use Rattle.table.specs.Rows.{Rows};
-ghost use Rattle.layout.specs.Places.{part};
+ghost use Rattle.layout.specs.Places.{part, FewValues};
 ghost use Rattle.attribute_lines.specs.Sofar.{CountIs};
 ghost use Rattle.attribute_lines.specs.Steps.{BeforeLine, EndedLine, StepIs};
-ghost use Rattle.reader.specs.Told.{LineAt, refusedWith, endedAt, ReadIs};
+ghost use Rattle.reader.specs.Told.{LineAt, refusedWith, policyShape, endedAt, ReadIs};
 
 // A file as it was read: a refusal's two numbers and nothing read, or 0, 0 and what was read.
 pub struct Reading {
@@ -134,5 +135,22 @@ pub fn refusal(reading: Reading) -> Answer
     Answer {
         number: reading.number as u32,
         second: reading.second as u32,
+    }
+}
+
+// The shape of the policy that was read.
+pub fn policy_shape(reading: Reading) -> Shape
+    requires { ⌜ (reading .attributes .len ≤ 6) × FewValues (reading .attributes) ⌝ }
+    ensures { λ r. ⌜ r ≡ policyShape reading ⌝ }
+{
+    let attributes = reading.attributes;
+    let several = attributes.several;
+    let counts = layout::sizes(attributes);
+    Shape {
+        n: reading.elements,
+        several,
+        counts,
+        len: attributes.len,
+        space: reading.space,
     }
 }

@@ -1,21 +1,14 @@
 -- What a request line gives, as code returns it.
-use Prim.Native.Nat.{ℕ, _≤_, _<_}
+use Prim.Native.Nat.{ℕ, _≤_}
 use mathlib.Core.Bool.{true, false}
 use mathlib.Core.Path.{_≡_}
 use mathlib.Core.List.{[]}
-use lib.ListN.{length, getD, replicate}
-use Rattle.meaning.specs.Text.{Bytes}
+use lib.ListN.{length, replicate}
 use Rattle.meaning.specs.Model.{Result, refused, given}
 use Rattle.meaning.specs.Deciding.{Request}
 use Rattle.requests.specs.Values.{requestWith}
 use Rattle.layout.specs.declared.Attributes.{Attributes}
-use Rattle.layout.specs.Places.{AllStanding}
 use Rattle.request_lines.specs.declared.Asked.{Asked}
-
--- the attributes lie in the file, with at most 16 values each
-pub record FewValues (f : Bytes) (a : Attributes) : Type 0 where
-  pub standing : AllStanding f a
-  pub few-values : (i : ℕ) → i < a .len → getD (a .counts) i 0 ≤ 16
 
 -- a refusal has number 10, its place and no request; a request has the attributes' letters, a number for each of them, and
 -- zeros behind

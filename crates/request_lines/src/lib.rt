@@ -4,13 +4,13 @@ use names::Found;
 use requests::Request;
 ghost use mathlib.Core.Path.{_≡_};
 ghost use mathlib.Core.Bool.{cond};
-ghost use Prim.Native.Nat.{ℕ, _≤_, _<_};
-ghost use lib.ListN.{length, getD};
+ghost use Prim.Native.Nat.{_≤_};
+ghost use lib.ListN.{length};
 ghost use Rattle.meaning.specs.Text.{cut, tab};
 ghost use Rattle.meaning.specs.Deciding.{valueOf, setOf, valuesOf, requestLine};
 ghost use Rattle.names.specs.Places.{foundOf};
-ghost use Rattle.layout.specs.Places.{attributesOf};
-ghost use Rattle.request_lines.specs.Asked.{FewValues, Refused, AskedAs};
+ghost use Rattle.layout.specs.Places.{attributesOf, AllStanding, FewValues};
+ghost use Rattle.request_lines.specs.Asked.{Refused, AskedAs};
 
 // The request, or the place of the field that refuses the line: 0 for a wrong count of fields.
 pub struct Asked {
@@ -52,7 +52,7 @@ fn choose(several: bool, values: &[u8], field: &[u8]) -> Found
 
 // The request of a line that has a field for each attribute, or the place of the first field that is no value and no set.
 fn read_fields(file: &[u8], a: Attributes, line: &[u8]) -> Asked
-    requires { ⌜ FewValues (now file) a × (length (cut tab (now line)) ≡ a .len) ⌝ }
+    requires { ⌜ AllStanding (now file) a × FewValues a × (length (cut tab (now line)) ≡ a .len) ⌝ }
     ensures { λ r. ⌜ AskedAs a r (valuesOf 1 (attributesOf (now (file .entry)) a) (cut tab (now (line .entry)))) ⌝ }
 {
     let several = a.several;
@@ -88,7 +88,7 @@ fn read_fields(file: &[u8], a: Attributes, line: &[u8]) -> Asked
 
 // What a request line asks of a file with these attributes. The fields are counted first.
 pub fn request_line(file: &[u8], a: Attributes, line: &[u8]) -> Asked
-    requires { ⌜ FewValues (now file) a ⌝ }
+    requires { ⌜ AllStanding (now file) a × FewValues a ⌝ }
     ensures { λ r. ⌜ AskedAs a r (requestLine (attributesOf (now (file .entry)) a) (now (line .entry))) ⌝ }
 {
     if text::count_pieces(line, b'\t') != a.len {

@@ -1,4 +1,4 @@
--- From a request to the next and from a number to its request, by the last attribute first: one value set at a time.
+-- From a request to the next and from a number to its request, by the last attribute first: one number changed at a time.
 use Prim.Native.Nat.{ℕ, zero, suc, _+_, _*_, _/_, _%_, _≤_, _<_}
 use mathlib.Core.Path.{_≡_, refl, sym, _∙_}
 use mathlib.Core.List.{List, [], _∷_}

@@ -4,7 +4,7 @@ ghost use Prim.Native.Nat.{_+_, _≤_, _<_};
 ghost use lib.ListN.{length, take, drop};
 ghost use Rattle.meaning.specs.Model.{product};
 ghost use Rattle.meaning.specs.Deciding.{numberOf, requestOf, nextRequest, bit, inField, within};
-ghost use Rattle.requests.specs.Values.{valuesOf, lettersOf, requestWith, revalued, Fitting};
+ghost use Rattle.requests.specs.Values.{valuesOf, severalsOf, requestWith, revalued, Fitting};
 
 // The numbers of `len` attributes, each that of a value or, where `several` says so, that of a set of values; the places
 // behind them don't matter.
@@ -82,7 +82,7 @@ impl Request {
     // Whether each value, or set of values, matches the field of its attribute; the masks stand from `at` on.
     pub fn matches(self, masks: &[u16], at: usize) -> bool
         requires { ⌜ (at + 6 ≤ length (now masks)) × (self .len ≤ 6) ⌝ }
-        ensures { λ r. ⌜ r ≡ within (lettersOf self) (take 6 (drop at (now (masks .entry)))) (valuesOf self) ⌝ }
+        ensures { λ r. ⌜ r ≡ within (severalsOf self) (take 6 (drop at (now (masks .entry)))) (valuesOf self) ⌝ }
     {
         let several = self.several;
         let values = self.values;

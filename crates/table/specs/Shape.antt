@@ -13,8 +13,8 @@ use Rattle.table.specs.declared.Shape.{Shape}
 abbrev pub countsOf : Shape → List ℕ
 countsOf s = take (s .len) (s .counts)
 
-abbrev pub lettersOf : Shape → List Bool
-lettersOf s = take (s .len) (s .several)
+abbrev pub severalsOf : Shape → List Bool
+severalsOf s = take (s .len) (s .several)
 
 -- as many as there are non-empty sets of some values
 abbrev pub CountsSets : ℕ → Type 0
@@ -28,4 +28,4 @@ pub record Counted (s : Shape) : Type 0 where
 
 -- request number m matches an element's own target
 unfoldable pub hitOf : Shape → ℕ → Element → Bool
-hitOf s m = matches (lettersOf s) (requestOf (countsOf s) m)
+hitOf s m = matches (severalsOf s) (requestOf (countsOf s) m)

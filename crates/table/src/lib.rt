@@ -4,7 +4,7 @@ ghost use mathlib.Core.Path.{_≡_};
 ghost use Prim.Native.Nat.{_+_, _≤_, _<_};
 ghost use lib.ListN.{length};
 ghost use Rattle.meaning.specs.Deciding.{matches};
-ghost use Rattle.requests.specs.Values.{valuesOf, lettersOf};
+ghost use Rattle.requests.specs.Values.{valuesOf, severalsOf};
 ghost use Rattle.table.specs.Rows.{Rows, wordNumber, depthOf, masksAt, elementAt, withRow};
 ghost use Rattle.table.specs.Tree.{parentOf, placeOr, overOf, Over, ruleLeft, nextChild, Room};
 
@@ -65,7 +65,7 @@ pub fn masks_at(table: &[u16], i: usize) -> [u16; 6]
 // Whether a request matches element i's own target.
 pub fn matches(table: &[u16], i: usize, q: Request) -> bool
     requires { ⌜ Rows (now table) (i + 1) × (q .len ≤ 6) ⌝ }
-    ensures { λ r. ⌜ r ≡ matches (lettersOf q) (valuesOf q) (elementAt (now (table .entry)) i) ⌝ }
+    ensures { λ r. ⌜ r ≡ matches (severalsOf q) (valuesOf q) (elementAt (now (table .entry)) i) ⌝ }
 {
     q.matches(table, 8 * i + 2)
 }

@@ -2,11 +2,11 @@
 use layout::Attributes;
 ghost use mathlib.Core.Path.{_≡_};
 ghost use mathlib.Core.List.{[]};
-ghost use Prim.Native.Nat.{_≤_, ℕ, _+_, _<_};
+ghost use Prim.Native.Nat.{_+_, _≤_};
 ghost use lib.ListN.{length, drop, getD};
 ghost use Rattle.meaning.specs.Text.{cut, tab};
 ghost use Rattle.tree_fields.specs.Headed.{endsOf, Headed};
-ghost use Rattle.layout.specs.Places.{attributesOf, AllStanding};
+ghost use Rattle.layout.specs.Places.{attributesOf, AllStanding, FewValues};
 ghost use Rattle.tree_fields.specs.Masks.{masksIn};
 
 // Where the letter, the depth, the name and the word end.
@@ -78,7 +78,7 @@ pub fn target_fields(line: &[u8], e: FieldEnds) -> &[u8]
 
 // The masks of a tree line, one for each attribute.
 pub fn line_masks(file: &[u8], a: Attributes, line: &[u8], e: FieldEnds) -> Masks
-    requires { ⌜ AllStanding (now file) a × ((i : ℕ) → i < a .len → getD (a .counts) i 0 ≤ 16) × (1 ≤ a .len) × (length (cut tab (now line)) ≡ 4 + a .len) × Headed (now line) e ⌝ }
+    requires { ⌜ AllStanding (now file) a × FewValues a × (1 ≤ a .len) × (length (cut tab (now line)) ≡ 4 + a .len) × Headed (now line) e ⌝ }
     ensures { λ r. ⌜ r ≡ masksIn (attributesOf (now (file .entry)) a) (drop 4 (cut tab (now (line .entry)))) ⌝ }
 {
     let targets = target_fields(line, e);

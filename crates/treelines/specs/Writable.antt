@@ -4,7 +4,7 @@ use lib.ListN.{length, getD}
 use Rattle.meaning.specs.declared.Element.{Element}
 use Rattle.meaning.specs.Text.{Bytes}
 use Rattle.layout.specs.declared.Attributes.{Attributes}
-use Rattle.layout.specs.Places.{AllStanding}
+use Rattle.layout.specs.Places.{AllStanding, FewValues}
 use Rattle.elements.specs.declared.Elements.{Elements}
 use Rattle.elements.specs.Listed.{blank}
 
@@ -12,7 +12,7 @@ use Rattle.elements.specs.Listed.{blank}
 pub record Headed (header : Bytes) (a : Attributes) : Type 0 where
   pub short : length header ≤ 16384
   pub standing : AllStanding header a
-  pub few-values : (i : ℕ) → i < a .len → getD (a .counts) i 0 ≤ 16
+  pub few-values : FewValues a
 
 -- an element's name has at most 16 bytes, and its depth is one digit
 pub record Small (e : Element) : Type 0 where

@@ -149,7 +149,7 @@ pub(crate) fn stepped(file: &[u8], report: &[u8]) -> bool {
     if reading.number != 0 {
         return true;
     }
-    let shape = jogimaduve::shape_of(reading);
+    let shape = reader::policy_shape(reading);
     let struck = [0u8; 64];
     let mut told = [4u8; 4096];
     lay_decisions(report, &mut told);

@@ -1,7 +1,7 @@
 -- `attribute_refusal` meets its contract. What each test found is said once, where it has passed; a law for each number
 -- does the rest.
 use Prim.Native.Nat.{_-_, _*_, _≤_}
-use mathlib.Core.Path.{_≡_, refl, sym, ap, _∙_}
+use mathlib.Core.Path.{_≡_, sym, ap, _∙_}
 use mathlib.Core.Bool.{true, false, not}
 use mathlib.Core.List.{[]}
 use native.Mathlib.Nat.{mul-le-mul-right}
@@ -10,9 +10,7 @@ use borrow.Author.Needs.{needs}
 use borrow.Author.Tests.{not-true, not-false}
 use lib.ListN.{drop, getD}
 use Rattle.meaning.specs.Text.{all, amongNames, repeated, cut, tab, isName}
-use Rattle.meaning.specs.Model.{mostValues}
-use Rattle.layout.specs.Places.{sizeOf}
-use Rattle.attribute_lines.specs.Sofar.{attributeIn}
+use Rattle.meaning.specs.Model.{mostValues, choicesOf}
 use Rattle.attribute_lines.proofs.AttributeLines.{names, most-sixteen, size-small, GoodNames, bad-name, known-name, twice-value, many-attributes, many-values, large-space, behind-elements, good-attribute}
 use Rattle.attribute_lines.proofs.attribute_refusal.Statement.{statement}
 use Rattle.attribute_lines.proofs.attribute_refusal.Tie as tie
@@ -44,11 +42,8 @@ good c =
     }
 
 -- and behind the test of the values
-most-is : (c : tie.After-most-values) → let a = c .before .before .before .before .before .before .before .before .before .before .before .before .before .before .args in c .most-values .result ≡ mostValues (attributeIn (a .several) (cut tab (a .line .now)))
-most-is c = let a = c .before .before .before .before .before .before .before .before .before .before .before .before .before .before .args in c .most-values .ensures (attributeIn (a .several) (cut tab (a .line .now))) refl
-
-few-values : (c : tie.Else5) → let a = c .before .before .before .before .before .before .before .before .before .before .before .before .before .before .before .args in a .fields - 2 ≤ mostValues (attributeIn (a .several) (cut tab (a .line .now)))
-few-values c = omega (arith, most-is (c .before), c .if5 .left)
+few-values : (c : tie.Else5) → let a = c .before .before .before .before .before .before .before .before .before .before .before .before .before .before .before .args in a .fields - 2 ≤ mostValues (a .several)
+few-values c = omega (arith, c .before .most-values .ensures, c .if5 .left)
 
 returns : tie.Need-returns
 returns c =
@@ -75,7 +70,7 @@ returns-4 c =
 returns-5 : tie.Need-returns-5
 returns-5 c =
     let start = c .before .before .before .before .before .before .before .before .before .before .before .before .before .before .before in
-    many-values (start .args .elements) (start .args .several) (start .pre) (good (c .before .before .before .before)) (omega arith) (omega (arith, most-is (c .before), c .if5 .taken))
+    many-values (start .args .elements) (start .args .several) (start .pre) (good (c .before .before .before .before)) (omega arith) (omega (arith, c .before .most-values .ensures, c .if5 .taken))
 
 choices-requires : tie.Need-choices-requires
 choices-requires c κs = omega (arith, few-values c, most-sixteen (c .before .before .before .before .before .before .before .before .before .before .before .before .before .before .before .args .several) [])
@@ -87,7 +82,7 @@ mul-if6 c =
     omega (arith, c .choices .ensures, small, mul-le-mul-right (c .choices .result) (start .pre .small))
 
 -- behind all of test 5
-small-space : (c : tie.Else6) → let a = c .before .before .before .before .before .before .before .before .before .before .before .before .before .before .before .before .before .args in a .space * sizeOf (a .several) (a .fields - 2) ≤ 4096
+small-space : (c : tie.Else6) → let a = c .before .before .before .before .before .before .before .before .before .before .before .before .before .before .before .before .before .args in a .space * choicesOf (a .several) (a .fields - 2) ≤ 4096
 small-space c = rw (← c .before .choices .ensures) (omega arith)
 
 returns-6 : tie.Need-returns-6

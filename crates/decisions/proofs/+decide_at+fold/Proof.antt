@@ -8,7 +8,7 @@ use native.Mathlib.Omega.{arith}
 use borrow.Author.Needs.{needs}
 use borrow.Author.Tests.{not-true, not-false}
 use Rattle.meaning.specs.Deciding.{matches, combined}
-use Rattle.requests.specs.Values.{valuesOf, lettersOf}
+use Rattle.requests.specs.Values.{valuesOf, severalsOf}
 use Rattle.table.specs.Rows.{algorithmAt, wordAt, depthOf, wordNumber, elementAt}
 use Rattle.decisions.specs.Replies.{replyOf, repliesFrom}
 use Rattle.decisions.proofs.Combining.{Settled, neutral, start-settled, step-settled}
@@ -61,8 +61,8 @@ decide-at-matches-requires t c κs = search needs
 decide-at-returns : (t : ℕ) → decide-at-lts.Need-returns (decide-at-claims t) (decide-at-at t) decide-at.Post
 decide-at-returns t c =
     let args = c .before .before .before .before .args in
-    let tested : matches (lettersOf (args .q)) (valuesOf (args .q)) (elementAt (args .table .now) (args .at)) ≡ false = sym (c .before .matches .ensures) ∙ not-true _ (c .if1 .taken) in
-    let given = reply-off (matches (lettersOf (args .q)) (valuesOf (args .q))) (args .table .now) (args .struck .now) (args .n) (args .at) tested in
+    let tested : matches (severalsOf (args .q)) (valuesOf (args .q)) (elementAt (args .table .now) (args .at)) ≡ false = sym (c .before .matches .ensures) ∙ not-true _ (c .if1 .taken) in
+    let given = reply-off (matches (severalsOf (args .q)) (valuesOf (args .q))) (args .table .now) (args .struck .now) (args .n) (args .at) tested in
     sym given
 
 decide-at-word-at-requires : (t : ℕ) → decide-at-lts.Need-word-at-requires (decide-at-claims t) (decide-at-at t) decide-at.Post
@@ -71,15 +71,15 @@ decide-at-word-at-requires t c κs = search needs
 decide-at-returns-2 : (t : ℕ) → decide-at-lts.Need-returns-2 (decide-at-claims t) (decide-at-at t) decide-at.Post
 decide-at-returns-2 t c =
     let args = c .before .before .before .before .before .before .args in
-    let tested : matches (lettersOf (args .q)) (valuesOf (args .q)) (elementAt (args .table .now) (args .at)) ≡ true = sym (c .before .before .before .matches .ensures) ∙ not-false _ (c .before .before .if1 .left) in
-    let given = reply-on (matches (lettersOf (args .q)) (valuesOf (args .q))) (args .table .now) (args .struck .now) (args .n) (args .at) tested in
+    let tested : matches (severalsOf (args .q)) (valuesOf (args .q)) (elementAt (args .table .now) (args .at)) ≡ true = sym (c .before .before .before .matches .ensures) ∙ not-false _ (c .before .before .if1 .left) in
+    let given = reply-on (matches (severalsOf (args .q)) (valuesOf (args .q))) (args .table .now) (args .struck .now) (args .n) (args .at) tested in
     sym (given ∙ rw (← c .before .word-at .ensures, c .if2 .taken))
 
 decide-at-returns-3 : (t : ℕ) → decide-at-lts.Need-returns-3 (decide-at-claims t) (decide-at-at t) decide-at.Post
 decide-at-returns-3 t c =
     let args = c .before .before .before .before .before .before .before .args in
-    let tested : matches (lettersOf (args .q)) (valuesOf (args .q)) (elementAt (args .table .now) (args .at)) ≡ true = sym (c .before .before .before .before .matches .ensures) ∙ not-false _ (c .before .before .before .if1 .left) in
-    let given = reply-on (matches (lettersOf (args .q)) (valuesOf (args .q))) (args .table .now) (args .struck .now) (args .n) (args .at) tested in
+    let tested : matches (severalsOf (args .q)) (valuesOf (args .q)) (elementAt (args .table .now) (args .at)) ≡ true = sym (c .before .before .before .before .matches .ensures) ∙ not-false _ (c .before .before .before .if1 .left) in
+    let given = reply-on (matches (severalsOf (args .q)) (valuesOf (args .q))) (args .table .now) (args .struck .now) (args .n) (args .at) tested in
     sym (given ∙ rw (← c .before .before .word-at .ensures, c .if3 .taken))
 
 decide-at-depth-at-requires : (t : ℕ) → decide-at-lts.Need-depth-at-requires (decide-at-claims t) (decide-at-at t) decide-at.Post
@@ -100,19 +100,19 @@ decide-at-fold-requires t c κs = search needs
 decide-at-returns-4 : (t : ℕ) → decide-at-lts.Need-returns-4 (decide-at-claims t) (decide-at-at t) decide-at.Post
 decide-at-returns-4 t c =
     let args = c .before .before .before .before .before .before .before .before .before .args in
-    let tested : matches (lettersOf (args .q)) (valuesOf (args .q)) (elementAt (args .table .now) (args .at)) ≡ true = sym (c .before .before .before .before .before .before .matches .ensures) ∙ not-false _ (c .before .before .before .before .before .if1 .left) in
-    let given = reply-on (matches (lettersOf (args .q)) (valuesOf (args .q))) (args .table .now) (args .struck .now) (args .n) (args .at) tested in
+    let tested : matches (severalsOf (args .q)) (valuesOf (args .q)) (elementAt (args .table .now) (args .at)) ≡ true = sym (c .before .before .before .before .before .before .matches .ensures) ∙ not-false _ (c .before .before .before .before .before .if1 .left) in
+    let given = reply-on (matches (severalsOf (args .q)) (valuesOf (args .q))) (args .table .now) (args .struck .now) (args .n) (args .at) tested in
     let word = c .before .before .before .before .word-at in
     let algorithm : wordAt (word .result) ≡ algorithmAt (word .result - 2) = algorithm-word (word .result) (omega arith) in
-    let asked : c .fold .result ≡ combined (wordAt (wordNumber (args .table .now) (args .at))) (repliesFrom (matches (lettersOf (args .q)) (valuesOf (args .q))) (args .table .now) (args .struck .now) (args .n) (suc (depthOf (args .table .now) (args .at))) (args .at + 1)) =
+    let asked : c .fold .result ≡ combined (wordAt (wordNumber (args .table .now) (args .at))) (repliesFrom (matches (severalsOf (args .q)) (valuesOf (args .q))) (args .table .now) (args .struck .now) (args .n) (suc (depthOf (args .table .now) (args .at))) (args .at + 1)) =
     rw (← word .ensures, algorithm, ← add-one (depthOf (args .table .now) (args .at)), ← c .before .depth-at .ensures .0) (c .fold .ensures) in
     sym (given ∙ λ i. record { matched = true; decision = sym asked i })
 
 abbrev fold-Inv-loop : fold-lts.InvT-loop
 fold-Inv-loop t struck n from depth algorithm q so-far₀ at₀ so-far at =
     (from ≤ at) × (at ≤ n) × Settled algorithm (replyOf so-far)
-    × (combined (algorithmAt algorithm) (repliesFrom (matches (lettersOf q) (valuesOf q)) t struck n depth from)
-    ≡ combined (algorithmAt algorithm) (replyOf so-far ∷ repliesFrom (matches (lettersOf q) (valuesOf q)) t struck n depth at))
+    × (combined (algorithmAt algorithm) (repliesFrom (matches (severalsOf q) (valuesOf q)) t struck n depth from)
+    ≡ combined (algorithmAt algorithm) (replyOf so-far ∷ repliesFrom (matches (severalsOf q) (valuesOf q)) t struck n depth at))
 
 abbrev fold-μ-loop : fold-lts.MeasureT-loop
 fold-μ-loop t struck n from depth algorithm q so-far₀ at₀ so-far at = n - at
@@ -129,7 +129,7 @@ fold-returns : (t : ℕ) → fold-lts.Need-returns (fold-claims t) (fold-at t) f
 fold-returns t c =
     let args = c .before .before .before .before .before .before .args in
     let turn = c .before .before .before .loop in
-    sym (turn .inv .3 ∙ rw (children-end (matches (lettersOf (args .q)) (valuesOf (args .q))) (args .table .now) (args .struck .now) (args .n) (args .depth) (turn .at) _ (omega arith) (c .before .next-child .ensures .0) (c .if1 .taken)) (turn .inv .2))
+    sym (turn .inv .3 ∙ rw (children-end (matches (severalsOf (args .q)) (valuesOf (args .q))) (args .table .now) (args .struck .now) (args .n) (args .depth) (turn .at) _ (omega arith) (c .before .next-child .ensures .0) (c .if1 .taken)) (turn .inv .2))
 
 fold-decide-at-requires : (t : ℕ) → fold-lts.Need-decide-at-requires (fold-claims t) (fold-at t) fold.Post fold-Inv-loop fold-μ-loop
 fold-decide-at-requires t c κs = search needs
@@ -152,14 +152,14 @@ fold-loop-again t c =
       omega arith,
       omega arith,
       step-settled (args .algorithm) (replyOf (turn .so-far)) (replyOf (child .result)) (replyOf (c .step .result)) (c .step .ensures),
-      turn .inv .3 ∙ child-step (matches (lettersOf (args .q)) (valuesOf (args .q))) (args .table .now) (args .struck .now) (args .n) (args .depth) (turn .at) _ (omega arith) (next .ensures .0) (args .algorithm) (omega arith) (replyOf (turn .so-far)) (replyOf (child .result)) (replyOf (c .step .result)) (child .ensures) (c .step .ensures),
+      turn .inv .3 ∙ child-step (matches (severalsOf (args .q)) (valuesOf (args .q))) (args .table .now) (args .struck .now) (args .n) (args .depth) (turn .at) _ (omega arith) (next .ensures .0) (args .algorithm) (omega arith) (replyOf (turn .so-far)) (replyOf (child .result)) (replyOf (c .step .result)) (child .ensures) (c .step .ensures),
     )
 
 fold-returns-2 : (t : ℕ) → fold-lts.Need-returns-2 (fold-claims t) (fold-at t) fold.Post fold-Inv-loop fold-μ-loop
 fold-returns-2 t c =
     let args = c .before .before .before .before .args in
     let turn = c .before .loop in
-    sym (turn .inv .3 ∙ rw (children-none (matches (lettersOf (args .q)) (valuesOf (args .q))) (args .table .now) (args .struck .now) (args .n) (args .depth) (turn .at) (omega arith)) (turn .inv .2))
+    sym (turn .inv .3 ∙ rw (children-none (matches (severalsOf (args .q)) (valuesOf (args .q))) (args .table .now) (args .struck .now) (args .n) (args .depth) (turn .at) (omega arith)) (turn .inv .2))
 
 pub +decide-at+fold-spec : {M : Type 1} → statement M
 +decide-at+fold-spec = close μ-decide-at μ-fold (λ t. decide-at-lts.spec (decide-at-claims t)

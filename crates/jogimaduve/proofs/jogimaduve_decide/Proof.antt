@@ -26,7 +26,7 @@ returns c = c .refusal .ensures ∙ refusal-answered _ _ _ _ (c .before .before 
 request-line-requires : tie.Need-request-line-requires
 request-line-requires c κs =
     let spaced = file-read _ _ _ _ (c .before .before .before .before .before .read .ensures .answer) (c .before .if1 .left) .2 .spaced in
-    record { standing = spaced .standing; few-values = spaced .few-values }
+    (spaced .standing, spaced .few-values)
 
 cast-t16 : tie.Need-cast-t16
 cast-t16 c =

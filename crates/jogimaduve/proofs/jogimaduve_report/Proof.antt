@@ -16,15 +16,15 @@ returns c =
     let out = c .before .before .before .before .before .before .before .before .before .before .args .out .now in
     (c .refusal .ensures ∙ refusal-answered _ _ _ _ is-read out (c .before .if1 .taken), refusal-lent _ _ _ _ is-read out (c .before .if1 .taken))
 
-shape-of-requires : tie.Need-shape-of-requires
-shape-of-requires c κs =
+policy-shape-requires : tie.Need-policy-shape-requires
+policy-shape-requires c κs =
     let (p, h, holds) = file-read _ _ _ _ (c .before .before .before .before .before .before .read .ensures .answer) (c .before .before .if1 .left) in
     sizable _ _ _ _ p h holds
 
 report-requires : tie.Need-report-requires
 report-requires c κs =
     let (p, h, holds) = file-read _ _ _ _ (c .before .before .before .before .before .before .before .before .read .ensures .answer) (c .before .before .before .before .if1 .left) in
-    held _ _ _ _ p h holds _ (c .before .shape-of .ensures)
+    held _ _ _ _ p h holds _ (c .before .policy-shape .ensures)
 
 pub jogimaduve-report-spec : {M : Type 1} → statement M
 jogimaduve-report-spec =
@@ -37,7 +37,7 @@ jogimaduve-report-spec =
     returns
     (λ c. search needs)
     (λ c. search needs)
-    shape-of-requires
+    policy-shape-requires
     report-requires
     (λ c. search needs)
     (λ c. search needs))

@@ -19,15 +19,15 @@ returns c =
     let out = c .before .before .before .before .before .before .before .before .before .before .args .out .now in
     (c .refusal .ensures ∙ refusal-answered _ _ _ _ is-read out (c .before .if1 .taken), refusal-lent _ _ _ _ is-read out (c .before .if1 .taken))
 
-shape-of-requires : tie.Need-shape-of-requires
-shape-of-requires c κs =
+policy-shape-requires : tie.Need-policy-shape-requires
+policy-shape-requires c κs =
     let (p, h, holds) = file-read _ _ _ _ (c .before .before .before .before .before .before .read .ensures .answer) (c .before .before .if1 .left) in
     sizable _ _ _ _ p h holds
 
 strike-requires : tie.Need-strike-requires
 strike-requires c κs =
     let (p, h, holds) = file-read _ _ _ _ (c .before .before .before .before .before .before .before .read .ensures .answer) (c .before .before .before .if1 .left) in
-    ready _ _ _ _ p h holds _ (c .shape-of .ensures) _ (omega arith) refl
+    ready _ _ _ _ p h holds _ (c .policy-shape .ensures) _ (omega arith) refl
 
 put-text-requires : tie.Need-put-text-requires
 put-text-requires c κs =
@@ -50,7 +50,7 @@ text-answer-requires c κs =
 returns-2 : tie.Need-returns-2
 returns-2 c =
     let (p, h, holds) = file-read _ _ _ _ (c .before .before .before .before .before .before .before .before .before .before .before .before .before .before .before .before .before .before .before .before .before .before .read .ensures .answer) (c .before .before .before .before .before .before .before .before .before .before .before .before .before .before .before .before .before .before .if1 .left) in
-    trim-fitted _ _ _ _ p h holds _ (c .before .before .before .before .before .before .before .before .before .before .before .before .before .before .before .shape-of .ensures) _ (c .before .before .before .before .before .before .before .before .before .before .before .before .before .before .strike .ensures)
+    trim-fitted _ _ _ _ p h holds _ (c .before .before .before .before .before .before .before .before .before .before .before .before .before .before .before .policy-shape .ensures) _ (c .before .before .before .before .before .before .before .before .before .before .before .before .before .before .strike .ensures)
     (written (c .before .before .before .before .before .before .before .before .before .put-text .ensures .0) (c .before .before .before .before .before .before .before .before .before .before .before .before .before .before .before .before .before .before .before .before .before .before .before .before .before .before .before .args .out .now) _ (c .before .before .before .before .before .before .before .lend .ensures .0) (c .before .before .before .put-text2 .ensures .0) (c .text-answer .ensures))
 
 pub jogimaduve-trim-spec : {M : Type 1} → statement M
@@ -64,7 +64,7 @@ jogimaduve-trim-spec =
     returns
     (λ c. search needs)
     (λ c. search needs)
-    shape-of-requires
+    policy-shape-requires
     strike-requires
     (λ c. search needs)
     (λ c. search needs)

@@ -6,7 +6,7 @@ use mathlib.Core.Bool.{Bool, true, false, cond}
 use mathlib.Core.List.{List, [], _∷_, _++_, map, List·Memᴰ}
 use lib.ListN.{length}
 use Rattle.meaning.specs.Text.{Bytes, bytes, all, gathered, join, comma, line, isName}
-use Rattle.meaning.specs.Model.{Kind, set, policy, rule, Word, deny-overrides, permit-overrides, first-applicable, only-one-applicable, Attribute, Element, padded, nameOf, Policy, space, Result, given, letterText, kindText, wordText}
+use Rattle.meaning.specs.Model.{Kind, set, policy, rule, Word, deny-overrides, permit-overrides, first-applicable, only-one-applicable, Decision, not-applicable, indeterminate, decisionText, Attribute, Element, padded, nameOf, Policy, space, Result, given, letterText, kindText, wordText}
 use Rattle.meaning.specs.Claims.Texts.{All, Each, Paired, Among, DistinctNames}
 
 -- Attribute line: `A`, name, then 1 to 16 value names; or `M`, with at most 12
@@ -16,6 +16,15 @@ pub record GoodAttribute (a : Attribute) : Type 0 where
   pub distinct : DistinctNames (a .values)
   pub some-value : 1 ≤ length (a .values)
   pub few-values : length (a .values) ≤ cond (a .several) 12 16
+
+-- The letters and the words of a file, and the words that a report has for decisions
+pub record Spelled : Type 0 where
+  pub attributes : map letterText (false ∷ true ∷ []) ≡ bytes "A" ∷ bytes "M" ∷ []
+  pub kinds : map kindText (set ∷ policy ∷ rule ∷ []) ≡ bytes "S" ∷ bytes "P" ∷ bytes "R" ∷ []
+  pub effects : map wordText (Word.Permit ∷ Word.Deny ∷ []) ≡ bytes "permit" ∷ bytes "deny" ∷ []
+  pub algorithms : map wordText (deny-overrides ∷ permit-overrides ∷ first-applicable ∷ only-one-applicable ∷ [])
+      ≡ bytes "deny-overrides" ∷ bytes "permit-overrides" ∷ bytes "first-applicable" ∷ bytes "only-one-applicable" ∷ []
+  pub decisions : map decisionText (Decision.Permit ∷ Decision.Deny ∷ not-applicable ∷ indeterminate ∷ []) ≡ bytes "permit" ∷ bytes "deny" ∷ bytes "not-applicable" ∷ bytes "indeterminate" ∷ []
 
 abbrev pub attributeFields : Attribute → List Bytes
 attributeFields a = letterText (a .several) ∷ a .name ∷ a .values

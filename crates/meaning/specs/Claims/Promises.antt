@@ -1,11 +1,12 @@
 -- All claims together, that whoever meets them gives what is defined, and the tools that they shut out.
 use mathlib.Core.Path.{_≡_}
 use mathlib.Core.Logic.{_≢_, _↔_}
-use Prim.Native.Nat.{ℕ, _<_}
+use Prim.Native.Nat.{ℕ, _≤_, _<_}
 use mathlib.Core.Bool.{not}
 use mathlib.Core.List.{List, [], List·Memᴰ}
+use lib.ListN.{length}
 use Rattle.meaning.specs.Text.{Bytes, keep, join, newline}
-use Rattle.meaning.specs.Model.{Word, Element, Policy, space, Result, refused, given}
+use Rattle.meaning.specs.Model.{Word, Attribute, Element, Policy, space, Result, refused, given}
 use Rattle.meaning.specs.Reading.{read}
 use Rattle.meaning.specs.Deciding.{Reply, combined, Outcome, outcome, decideFile}
 use Rattle.meaning.specs.Trimming.{lines, ruleLine, strike, Trimmed, trimmed}
@@ -13,7 +14,7 @@ use Rattle.meaning.specs.Segments.{segments, segmentSize, Conflict, conf
 use Rattle.meaning.specs.Report.{report}
 use Rattle.meaning.specs.Writing.{writeFile}
 use Rattle.meaning.specs.Claims.Texts.{All, Texts}
-use Rattle.meaning.specs.Claims.PolicyFile.{WellFormed, Reads}
+use Rattle.meaning.specs.Claims.PolicyFile.{GoodAttribute, Spelled, WellFormed, Reads}
 use Rattle.meaning.specs.Claims.Refusals.{Refuses}
 use Rattle.meaning.specs.Claims.Writing.{Shaped, RoundTrips, Made}
 use Rattle.meaning.specs.Claims.WriterRefusals.{RefusesToWrite}
@@ -51,13 +52,14 @@ pub record ShutOut : Type 0 where
 -- All of it, of every file, or of every accepted one
 pub record Promises : Type 0 where
   pub texts : Texts
+  pub spelled : Spelled
   pub acceptance : Reads read
   pub refusals : (f : Bytes) (n m : ℕ) → read f ≡ refused n m ↔ Refuses f n m
   pub round-trips : RoundTrips
   pub writing : (room : ℕ) (header : Bytes) (es : List Element) (t : Bytes) → All Shaped es → writeFile room header es ≡ given t ↔ Made room header es t
   pub writer-refusals : (room : ℕ) (header : Bytes) (es : List Element) (n m : ℕ) → All Shaped es → writeFile room header es ≡ refused n m ↔ RefusesToWrite room header es n m
   pub sets : SetsNumbered
-  pub numbers : (f : Bytes) (p : Policy) → read f ≡ given p → Numbered (p .attributes)
+  pub numbers : (attrs : List Attribute) → 1 ≤ length attrs → All GoodAttribute attrs → Numbered attrs
   pub targets : (f : Bytes) (p : Policy) → read f ≡ given p → Matched p
   pub appendix-C : (w : Word) (rs : List Reply) → combined w rs ≡ standard w rs
   pub parents : (f : Bytes) (p : Policy) → read f ≡ given p → Parented p

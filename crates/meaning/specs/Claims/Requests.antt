@@ -10,6 +10,7 @@ use Rattle.meaning.specs.Model.{Attribute, Element, Policy, choices, siz
 use Rattle.meaning.specs.Deciding.{Request, numberOf, requestOf, nextRequest, requestLine, members, hits}
 use Rattle.meaning.specs.Claims.Texts.{Paired, EqualNames}
 use Rattle.meaning.specs.Claims.PolicyFile.{marksMask}
+use Rattle.meaning.specs.Claims.Sets.{SetOf, setNumber}
 
 -- One number for each attribute, counted from 0, below its count
 abbrev pub Fits : List ℕ → Request → Type 0
@@ -18,6 +19,12 @@ Fits ss vs = Paired (λ s v. v < s) ss vs
 -- the values that a request has at an attribute, by its number there: one at an `A`, a set at an `M`
 abbrev pub held : Attribute → ℕ → List ℕ
 held a v = cond (a .several) (members v) (v ∷ [])
+
+-- v is the number of these values at an attribute: of one value at an `A`, of a set at an `M`
+pub record Numbers (a : Attribute) (v : ℕ) (vs : List ℕ) : Type 0 where
+  pub of-values : SetOf (length (a .values)) vs
+  pub one-value : a .several ≡ false → vs ≡ v ∷ []
+  pub a-set : a .several ≡ true → setNumber vs ≡ v
 
 -- As a line: for each attribute the names of its values, parted by commas; the fields parted by tabs
 abbrev pub valueText : Attribute → ℕ → Bytes
@@ -35,7 +42,7 @@ requestText attrs q = join tab (requestFields attrs q)
 abbrev pub NamesRequest : List Attribute → Bytes → Request → Type 0
 NamesRequest attrs r q = Paired EqualNames (cut tab r) (requestFields attrs q)
 
--- one request before another: a lower value in the first attribute that differs
+-- one request before another: a lower number at the first attribute at which they differ
 abbrev pub Earlier : Request → Request → Type 0
 Earlier [] r = ⊥
 Earlier (v ∷ vs) [] = ⊥
@@ -51,12 +58,15 @@ ValueAt (a ∷ attrs) [] i = ⊥
 ValueAt (a ∷ attrs) (f ∷ fs) zero = IsValue a f
 ValueAt (a ∷ attrs) (f ∷ fs) (suc i) = ValueAt attrs fs i
 
--- Numbers below the space and requests, one for the other, in order; the lines that name each of them, and 10 for any other
+-- An attribute counts just the numbers of its values, or of their sets. Numbers below the space and requests, one for the
+-- other, in order; the lines that name each of them, and 10 for any other
 pub record Numbered (attrs : List Attribute) : Type 0 where
+  pub counted : (a : Attribute) → List·Memᴰ a attrs → (v : ℕ) → (v < choices a) ↔ ((vs : List ℕ) × Numbers a v vs)
   pub number-again : (n : ℕ) → n < space attrs → Fits (sizes attrs) (requestOf (sizes attrs) n) × (numberOf (sizes attrs) (requestOf (sizes attrs) n) ≡ n)
   pub request-again : (q : Request) → Fits (sizes attrs) q → (numberOf (sizes attrs) q < space attrs) × (requestOf (sizes attrs) (numberOf (sizes attrs) q) ≡ q)
   pub rising : (q r : Request) → Fits (sizes attrs) q → Fits (sizes attrs) r → Earlier q r → numberOf (sizes attrs) q < numberOf (sizes attrs) r
   pub next-number : (q : Request) → numberOf (sizes attrs) (nextRequest (sizes attrs) q) ≡ (numberOf (sizes attrs) q + 1) % space attrs
+  pub next-fits : (q : Request) → Fits (sizes attrs) (nextRequest (sizes attrs) q)
   pub to-line : (q : Request) → Fits (sizes attrs) q → requestLine attrs (requestText attrs q) ≡ given q
   pub by-line : (r : Bytes) (q : Request) → requestLine attrs r ≡ given q ↔ (Fits (sizes attrs) q × NamesRequest attrs r q)
   pub wrong-count : (r : Bytes) → length (cut tab r) ≢ length attrs → requestLine attrs r ≡ refused 10 0

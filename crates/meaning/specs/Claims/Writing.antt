@@ -1,12 +1,12 @@
 -- The writer: which files it makes, and that reading and writing undo each other.
 use mathlib.Core.Path.{_≡_}
 use Prim.Native.Nat.{ℕ, _≤_}
-use mathlib.Core.Bool.{Bool}
+use mathlib.Core.Bool.{Bool, true, false, _||_}
 use mathlib.Core.List.{List, [], _∷_, _++_}
 use lib.ListN.{length}
-use Rattle.meaning.specs.Text.{Bytes, keep, front, gathered, newline}
-use Rattle.meaning.specs.Model.{Element, Policy, given, _then_}
-use Rattle.meaning.specs.Reading.{attributeLetter, read}
+use Rattle.meaning.specs.Text.{Bytes, keep, front, gathered, same, newline}
+use Rattle.meaning.specs.Model.{Element, Policy, given, _then_, letterText}
+use Rattle.meaning.specs.Reading.{read}
 use Rattle.meaning.specs.Trimming.{lines, fieldOf}
 use Rattle.meaning.specs.Report.{fitted}
 use Rattle.meaning.specs.Writing.{writeFile}
@@ -20,7 +20,7 @@ pub record Shaped (e : Element) : Type 0 where
 
 -- a text's attribute lines
 abbrev pub attributeLine : Bytes → Bool
-attributeLine l = attributeLetter (fieldOf 0 l)
+attributeLine l = same (fieldOf 0 l) (letterText false) || same (fieldOf 0 l) (letterText true)
 
 abbrev pub attributeLines : Bytes → Bytes
 attributeLines f = gathered (λ l. l ++ (newline ∷ [])) (keep attributeLine (front (lines f)))

@@ -15,13 +15,13 @@ abbrev μ-loop : tie.MeasureT-loop
 
 -- the places of the attribute at hand
 standing : (c : tie.At-loop Inv-loop μ-loop) → let args = c .before .before .before .before .before .before .args in Standing (args .file .now) (args .a) (c .loop .i)
-standing c = c .before .before .before .before .before .before .pre .0 .standing .each (c .loop .i) (c .loop .inv .here)
+standing c = c .before .before .before .before .before .before .pre .0 .each (c .loop .i) (c .loop .inv .here)
 
 below-six : (c : tie.At-loop Inv-loop μ-loop) → c .loop .i < 6
 below-six c = omega (arith, c .loop .inv .here, c .loop .inv .few)
 
 loop-holds : tie.Need-loop-holds Inv-loop μ-loop
-loop-holds c = walk-starts (c .before .before .before .before .before .pre .1) (c .before .before .before .before .before .pre .0 .standing .few)
+loop-holds c = walk-starts (c .before .before .before .before .before .pre .2) (c .before .before .before .before .before .pre .0 .few)
 
 end-of-requires : tie.Need-end-of-requires Inv-loop μ-loop
 end-of-requires c κs = c .loop .inv .within
@@ -53,7 +53,7 @@ part-choose-end c = let here = standing (c .before) in search needs
 choose-requires : tie.Need-choose-requires Inv-loop μ-loop
 choose-requires c κs =
     let here = c .before .before .before in
-    let few = here .before .before .before .before .before .before .pre .0 .few-values (here .loop .i) (here .loop .inv .here) in
+    let few = here .before .before .before .before .before .before .pre .1 (here .loop .i) (here .loop .inv .here) in
     omega (arith, few, standing here .count)
 
 add-refuse : tie.Need-add-refuse Inv-loop μ-loop

@@ -6,15 +6,15 @@ use borrow.Author.Needs.{needs}
 use Rattle.vectors.proofs.stepping.stepped.Statement.{statement}
 use Rattle.vectors.proofs.stepping.stepped.Tie as tie
 
-shape-of-requires : tie.Need-shape-of-requires
-shape-of-requires c κs =
+policy-shape-requires : tie.Need-policy-shape-requires
+policy-shape-requires c κs =
     let (p, h, holds) = file-read _ _ _ _ (c .before .before .before .before .read .ensures .answer) (c .if1 .left) in
     sizable _ _ _ _ p h holds
 
 step-all-requires : tie.Need-step-all-requires
 step-all-requires c κs =
     let (p, h, holds) = file-read _ _ _ _ (c .before .before .before .before .before .before .before .before .before .before .before .before .before .before .read .ensures .answer) (c .before .before .before .before .before .before .before .before .before .before .if1 .left) in
-    (ready _ _ _ _ p h holds _ (c .before .before .before .before .before .before .before .before .before .shape-of .ensures) _ (omega arith) refl, omega arith)
+    (ready _ _ _ _ p h holds _ (c .before .before .before .before .before .before .before .before .before .policy-shape .ensures) _ (omega arith) refl, omega arith)
 
 pub stepped-spec : {M : Type 1} → statement M
 stepped-spec =
@@ -24,7 +24,7 @@ stepped-spec =
     (λ c. search needs)
     (λ c κs. search needs)
     (λ c. search needs)
-    shape-of-requires
+    policy-shape-requires
     (λ c. search needs)
     (λ c κs. search needs)
     (λ c κs. search needs)
