@@ -13,6 +13,7 @@ use lib.Seq.{sets, sets-eq, drop-cons, take-append-seam}
 use Rattle.meaning.specs.Text.{Bytes, tab}
 use Rattle.meaning.specs.Model.{padded, sizes, severals, choicesOf}
 use Rattle.laws.proofs.Text.{Some, one-or-more, cut-some}
+use Rattle.requests.proofs.Laid.{drop-zeros}
 use Rattle.layout.specs.declared.Attributes.{Attributes}
 use Rattle.layout.specs.Places.{part, attributesFrom, attributesOf, AllStanding, valueCounts, sizesFrom, sizesOf}
 
@@ -25,11 +26,6 @@ get-inside (x ∷ xs) zero l = omega arith
 get-inside (x ∷ xs) (suc i) l = let inside = get-inside xs i l in omega arith
 
 -- Numbers laid over zeros
-drop-zeros : (k n : ℕ) → drop k (replicate {A = ℕ} n 0) ≡ replicate (n - k) 0
-drop-zeros zero n = rw (sub-zero n)
-drop-zeros (suc k) zero = let none-left : 0 - suc k ≡ 0 = omega arith in rw none-left
-drop-zeros (suc k) (suc n) = let fewer : suc n - suc k ≡ n - k = omega arith in rw fewer (drop-zeros k n)
-
 pub laid-padded : (n : ℕ) (xs : List ℕ) → length xs ≤ n → sets (replicate n 0) 0 xs ≡ padded n xs
 laid-padded n xs few =
     let behind-none : 0 + length xs ≡ length xs = omega arith in

@@ -13,7 +13,7 @@ use Rattle.requests.specs.Values.{valuesOf, requestWith, revalued}
 pub by-parts : (n : ℕ) (vs first behind : List ℕ) → take n vs ≡ first → drop n vs ≡ behind → vs ≡ first ++ behind
 by-parts n vs first behind p q = sym (take-append-drop n vs) ∙ λ i. p i ++ q i
 
-drop-zeros : (n m : ℕ) → drop n (replicate {A = ℕ} m 0) ≡ replicate (m - n) 0
+pub drop-zeros : (n m : ℕ) → drop n (replicate {A = ℕ} m 0) ≡ replicate (m - n) 0
 drop-zeros zero m = rw sub-zero
 drop-zeros (suc n) zero = let none : 0 - suc n ≡ 0 = omega arith in rw none
 drop-zeros (suc n) (suc m) = let less : suc m - suc n ≡ m - n = omega arith in rw less (drop-zeros n m)
