@@ -47,7 +47,7 @@ map-map f g [] = refl
 map-map f g (x ∷ xs) = ap (λ ys. f (g x) ∷ ys) (map-map f g xs)
 
 pub standardly : (f : Bytes) (p : Policy) → read f ≡ given p → Standardly p
-standardly f p h = record { each-element = each; of-first = λ n. refl }
+standardly f p h = record { each-element = each; of-first = λ n. refl; gets = λ n. refl }
   where
     replies : (n i : ℕ) → i < length (p .elements) → childReplies (hits p n) (suc (depthAt (p .elements) i)) (drop (suc i) (p .elements)) ≡ map (replyAt p n) (childrenOf (p .elements) i)
     replies n i l =

@@ -14,6 +14,7 @@ use Rattle.meaning.specs.Model.{Result, refused, given, _then_}
 use Rattle.meaning.specs.Reading.{read, short, readText, finished}
 use Rattle.meaning.specs.Trimming.{trimmed}
 use Rattle.meaning.specs.Report.{report, fitted, trimFile, reportFile, program}
+use Rattle.meaning.specs.ValuePairs.{pairsNamed, valuePairsFile}
 use Rattle.meaning.specs.Writing.{headerTests, readElements, elementFields, listFile, writeFile}
 use Rattle.meaning.specs.Deciding.{decisionNumber, decideFile}
 use Rattle.meaning.specs.Operations.{answered, lent}
@@ -21,7 +22,7 @@ use Rattle.meaning.specs.Claims.Operations.{Writes, Operations, Prints}
 use Rattle.laws.proofs.Types.{Element}
 use Rattle.laws.proofs.Bools.{Test, passed, failed, test}
 use Rattle.laws.proofs.Reading.{refused-given, given-given}
-use Rattle.laws.proofs.Refusals.{Numbered, read-numbered, write-numbered}
+use Rattle.laws.proofs.Refusals.{Numbered, then-numbered, read-numbered, pairs-numbered, write-numbered}
 use Rattle.laws.proofs.RequestLines.{decides}
 use Rattle.laws.proofs.Settled.{fields-settle}
 
@@ -99,7 +100,7 @@ write-room room header es =
     (λ p. short-room room (h ++ gathered (λ e. line (elementFields (p .attributes) e)) (p .elements)))))
 
 pub operations : Operations
-unfolding trimFile reportFile listFile decideFile
+unfolding trimFile reportFile valuePairsFile listFile decideFile
 operations = record {
   decision-numbers = refl;
   decides-no-file = λ f r n m h. rw h;
@@ -107,6 +108,7 @@ operations = record {
   decides = λ f r p q h e. ap (answered decisionNumber) (decides f p h .each-line r q e);
   trims = λ f buffer. writes 11 buffer (lit≤ tt) (read f then λ p. given (trimmed f .text)) (given-numbered (read f) _ (read-numbered f)) (trimFile (length buffer) f) (given-then (read f) (λ p. trimmed f .text) (fitted (length buffer)));
   reports = λ f buffer. writes 11 buffer (lit≤ tt) (read f then λ p. given (report f p)) (given-numbered (read f) _ (read-numbered f)) (reportFile (length buffer) f) (given-then (read f) (report f) (fitted (length buffer)));
+  tells-pairs = λ f name buffer. writes 11 buffer (lit≤ tt) (read f then λ p. pairsNamed p name) (then-numbered (read f) (λ p. pairsNamed p name) (read-numbered f) (λ p. pairs-numbered p name)) (valuePairsFile (length buffer) f name) (then-through (read f) _ _ (fitted (length buffer)) (λ p. refl));
   reads = λ f list. writes 12 list (lit≤ tt) (read f then λ p. given (p .elements)) (given-numbered (read f) _ (read-numbered f)) (listFile (length list) f) (given-then (read f) (λ p. p .elements) (fit 12 list));
   writes = λ header es buffer. writes 11 buffer (lit≤ tt) (writeFile 16384 header es) (write-numbered 16384 header es) (writeFile (length buffer) header es) (write-room (length buffer) header es);
 }

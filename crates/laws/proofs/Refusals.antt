@@ -1,14 +1,15 @@
 -- A refusal's number is not 0: a C caller can tell it from a result.
 use Prim.Native.Nat.{ℕ, zero, suc, _≤_}
 use native.Mathlib.Omega.{arith}
-use mathlib.Core.Bool.{Bool, true, false, cond}
+use mathlib.Core.Bool.{Bool, true, false, cond, _&&_}
 use mathlib.Core.List.{List, [], _∷_, _++_}
 use lib.Dec.{ltb}
 use lib.ListN.{length}
-use Rattle.meaning.specs.Text.{Bytes, empty, gathered, cut, tab, front, last, newline, line}
-use Rattle.meaning.specs.Model.{Result, refused, given, _then_, unless, wordText}
+use Rattle.meaning.specs.Text.{Bytes, empty, gathered, sameName, cut, tab, front, last, newline, line}
+use Rattle.meaning.specs.Model.{Attribute, Policy, Result, refused, given, _then_, unless, wordText}
 use Rattle.meaning.specs.Reading.{Sofar, Line, Tests, lineOf, lowest, wrongFields, lineTests, elementTests, withElement, extended, readLines, nothing, short, finished, readText, read}
 use Rattle.meaning.specs.Report.{report, fitted, reportFile}
+use Rattle.meaning.specs.ValuePairs.{severalAt, pairsText, pairsNamed}
 use Rattle.meaning.specs.Writing.{headerTests, readElements, elementFields, writeFile}
 use Rattle.laws.proofs.Types.{Element}
 
@@ -17,7 +18,7 @@ Numbered (refused n m) = 1 ≤ n
 Numbered (given a) = Unit {0}
 
 module _ {A : Type 0} where
-  then-numbered : {B : Type 0} (r : Result B) (f : B → Result A) → Numbered r → ((b : B) → Numbered (f b)) → Numbered (r then f)
+  pub then-numbered : {B : Type 0} (r : Result B) (f : B → Result A) → Numbered r → ((b : B) → Numbered (f b)) → Numbered (r then f)
   then-numbered (refused n m) f h g = h
   then-numbered (given b) f h g = g b
 
@@ -51,6 +52,14 @@ read-numbered f =
 pub report-numbered : (room : ℕ) (f : Bytes) → Numbered (reportFile room f)
 unfolding reportFile
 report-numbered room f = then-numbered (read f) (λ p. fitted room (report f p)) (read-numbered f) (λ p. either-numbered (ltb room (length (report f p))) (refused 11 (length (report f p))) (given (report f p)) (omega arith) tt)
+
+pub pairs-numbered : (p : Policy) (name : Bytes) → Numbered (pairsNamed p name)
+unfolding pairsNamed
+pairs-numbered p name = then-numbered (severalAt 0 name (p .attributes)) (λ i. given (pairsText p i)) (place-numbered 0 (p .attributes)) (λ i. tt)
+  where
+    place-numbered : (i : ℕ) (attrs : List Attribute) → Numbered (severalAt i name attrs)
+    place-numbered i [] = omega arith
+    place-numbered i (a ∷ attrs) = either-numbered (a .several && sameName name (a .name)) (given i) (severalAt (suc i) name attrs) tt (place-numbered (suc i) attrs)
 
 elements-numbered : (n : ℕ) (s : Sofar) (es : List Element) → Numbered (readElements n s es)
 elements-numbered n s [] = tt

@@ -7,7 +7,7 @@ use mathlib.Core.List.{List, [], _∷_, map}
 use lib.ListN.{length, getD}
 use Rattle.meaning.specs.Text.{Bytes, bytes, keep, counting, decimal}
 use Rattle.meaning.specs.Model.{nameOf, Policy, decisionText}
-use Rattle.meaning.specs.Deciding.{hits, outcome}
+use Rattle.meaning.specs.Deciding.{hits, decisionOn}
 use Rattle.meaning.specs.Segments.{applyingTo, segmentSize}
 use Rattle.meaning.specs.Report.{marked, orDash, segmentFields}
 use Rattle.meaning.specs.Claims.ReportLines.{nameOn, byCommas, segmentRow}
@@ -40,7 +40,7 @@ by-commas (n ∷ ns) = refl
 segment-row : (p : Policy) (n : ℕ) → segmentFields p n ≡ segmentRow p (segmentSize p) n
 segment-row p n =
     let names = applying-named (applyingTo p n) (p .elements) (each-applies (hits p n) [] (p .elements)) in
-    ap (λ t. bytes "G" ∷ decimal n ∷ decimal (segmentSize p n) ∷ decisionText (outcome p n) ∷ t ∷ []) (ap orDash names ∙ by-commas (applyingNames (applyingTo p n) (p .elements)))
+    ap (λ t. bytes "G" ∷ decimal n ∷ decimal (segmentSize p n) ∷ decisionText (decisionOn p n) ∷ t ∷ []) (ap orDash names ∙ by-commas (applyingNames (applyingTo p n) (p .elements)))
 
 pub segment-rows : (p : Policy) (ns : List ℕ) → map (segmentFields p) ns ≡ map (segmentRow p (segmentSize p)) ns
 segment-rows p [] = refl

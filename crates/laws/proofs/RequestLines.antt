@@ -25,7 +25,7 @@ use Rattle.laws.proofs.Chosen.{field-free, named-chosen, chosen-named, 
 use Rattle.laws.proofs.Choices.{counted}
 use Rattle.laws.proofs.Answers.{positive, line-fits}
 
-paired-length : {A B : Type 0} (R : A → B → Type 0) (xs : List A) (ys : List B) → Paired R xs ys → length xs ≡ length ys
+pub paired-length : {A B : Type 0} (R : A → B → Type 0) (xs : List A) (ys : List B) → Paired R xs ys → length xs ≡ length ys
 paired-length R [] [] p = refl
 paired-length R [] (y ∷ ys) p = absurd p
 paired-length R (x ∷ xs) [] p = absurd p

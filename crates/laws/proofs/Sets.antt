@@ -1,15 +1,15 @@
 -- Sets of values by their numbers: each non-empty set has one number, each number below 2^n - 1 is that of one set.
-use mathlib.Core.Path.{_≡_, refl, sym, ap, _∙_}
+use mathlib.Core.Path.{_≡_, refl, sym, ap, ap₂, _∙_}
 use mathlib.Core.Logic.{_≢_}
 use Prim.Native.Nat.{ℕ, zero, suc, _+_, _-_, _*_, _/_, _%_, _^_, _≤_, _<_, zero-le, suc-le-suc}
-use native.Mathlib.Nat.{pow-succ', add-mul, one-mul, mul-assoc, mul-comm, mul-div-cancel, zero-mul, div-one, mod-lt, lt-of-le-of-lt}
+use native.Mathlib.Nat.{pow-succ', add-mul, one-mul, mul-assoc, mul-comm, mul-div-cancel, zero-mul, div-one, mod-lt, mod-self, lt-of-le-of-lt}
 use native.Mathlib.Numerals.{add-one}
 use native.Mathlib.Omega.{arith}
 use mathlib.Core.Bool.{true, false, not, _&&_}
 use mathlib.Core.List.{List, [], _∷_, map, List·Memᴰ, List·Memᴰ·head, List·Memᴰ·tail}
 use lib.ListN.{length}
 use lib.Dec.{eqb, ltb}
-use lib.Bits.{bitAnd, and-le-r}
+use lib.Bits.{bitAnd, and-le-r, and-block, and-self, and-mask}
 use lib.Pow.{pow-pos, pow-mono, pow-add, shr-shr}
 use borrow.Author.Tests.{eqb-true, eqb-false, ltb-true, ltb-false}
 use Rattle.meaning.specs.Text.{any, keep, counting}
@@ -104,6 +104,19 @@ by-sum (v ∷ vs) (w ∷ ws) r s e = go (test (ltb v w)) (test (ltb w v)) (by-su
         let same : v ≡ w = omega arith in
         let rest = later (let power : 2 ^ v ≡ 2 ^ w = ap (λ n. 2 ^ n) same in omega (arith, e, power)) in
         cc
+
+-- Its sum, and one less, share all bits but the lowest: the sum of all values but the first
+pub without-first : (v : ℕ) (vs : List ℕ) → Rising (v ∷ vs) → bitAnd (sumOf (v ∷ vs)) (sumOf (v ∷ vs) - 1) ≡ sumOf vs
+without-first v vs r =
+    let (t, e) = multiple (suc v) vs (above v vs r) in
+    let high : t * 2 ^ suc v ≡ sumOf vs = mul-comm t (2 ^ suc v) ∙ sym e in
+    let whole : sumOf (v ∷ vs) ≡ t * 2 ^ suc v + 2 ^ v = omega (arith, high) in
+    let less : sumOf (v ∷ vs) - 1 ≡ t * 2 ^ suc v + (2 ^ v - 1) = omega (arith, high, pow-pos v) in
+    let twice = pow-succ' 2 v in
+    ap₂ bitAnd whole less
+    ∙ and-block (suc v) t t (2 ^ v) (2 ^ v - 1) (omega (arith, twice, pow-pos v)) (omega (arith, twice, pow-pos v))
+    ∙ ap₂ (λ x y. x * 2 ^ suc v + y) (and-self t) (and-mask (2 ^ v) v ∙ mod-self (2 ^ v))
+    ∙ omega (arith, high)
 
 -- its sum is below 2 to the power of every bound of its values
 sum-below : (i n : ℕ) (vs : List ℕ) → i ≤ n → Rising vs → All (λ v. i ≤ v) vs → All (λ v. v < n) vs → sumOf vs + 2 ^ i ≤ 2 ^ n

@@ -28,7 +28,7 @@ use Rattle.laws.proofs.Demand3.{trims-soundly}
 
 -- Ordered lists that have the same elements are equal
 module _ {A : Type 0} (before : A → A → Type 0) (one-way : (x y : A) → before x y → before y x → ⊥) where
-  ordered-same : (xs ys : List A) → Ordered before xs → Ordered before ys → ((z : A) → List·Memᴰ z xs ↔ List·Memᴰ z ys) → xs ≡ ys
+  pub ordered-same : (xs ys : List A) → Ordered before xs → Ordered before ys → ((z : A) → List·Memᴰ z xs ↔ List·Memᴰ z ys) → xs ≡ ys
   ordered-same [] [] a b h = refl
   ordered-same [] (y ∷ ys) a b h = absurd (List·Memᴰ·not-nil (h y .1 (List·Memᴰ·head refl)))
   ordered-same (x ∷ xs) [] a b h = absurd (List·Memᴰ·not-nil (h x .0 (List·Memᴰ·head refl)))

@@ -4,3 +4,4 @@ pub mod Rows
 pub mod Capitals
 pub mod Conflicts
 pub mod Sets
+pub mod ValuePairs

@@ -12,5 +12,6 @@ pub mod Deciding
 pub mod Segments
 pub mod ReportLines
 pub mod Trimming
+pub mod ValuePairs
 pub mod Operations
 pub mod Promises

@@ -7,7 +7,7 @@ use lib.Dec.{ltb}
 use Rattle.meaning.specs.Text.{Bytes, bytes, gathered, ifSome, join, comma, line, decimal}
 use Rattle.meaning.specs.Model.{Element, nameOf, Policy, Result, refused, given, _then_, decisionText}
 use Rattle.meaning.specs.Reading.{read}
-use Rattle.meaning.specs.Deciding.{outcome}
+use Rattle.meaning.specs.Deciding.{decisionOn}
 use Rattle.meaning.specs.Trimming.{nameAt, ruleLines, firstChange, trimmed}
 use Rattle.meaning.specs.Segments.{applyingTo, segments, segmentSize, Conflict, conflicts}
 
@@ -22,7 +22,7 @@ orDash [] = bytes "-"
 orDash (n ∷ ns) = join comma (n ∷ ns)
 
 abbrev pub segmentFields : Policy → ℕ → List Bytes
-segmentFields p n = bytes "G" ∷ decimal n ∷ decimal (segmentSize p n) ∷ decisionText (outcome p n) ∷ orDash (marked (applyingTo p n) (p .elements)) ∷ []
+segmentFields p n = bytes "G" ∷ decimal n ∷ decimal (segmentSize p n) ∷ decisionText (decisionOn p n) ∷ orDash (marked (applyingTo p n) (p .elements)) ∷ []
 
 -- `C`: parent, earlier child, later child, request
 abbrev pub nameIn : List Element → ℕ → Bytes

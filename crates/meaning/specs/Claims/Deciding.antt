@@ -8,7 +8,7 @@ use mathlib.Core.Option.{Option, none, some}
 use lib.ListN.{length, getD}
 use Rattle.meaning.specs.Text.{Bytes}
 use Rattle.meaning.specs.Model.{Word, not-applicable, Element, Policy, sizes, space, Result, refused, given}
-use Rattle.meaning.specs.Deciding.{Request, numberOf, requestOf, requestLine, Reply, hits, Outcome, outcome}
+use Rattle.meaning.specs.Deciding.{Request, numberOf, requestOf, requestLine, Reply, hits, Outcome, outcome, decisionOn}
 use Rattle.meaning.specs.Segments.{applyingTo, depthAt, parentOf, childrenOf, decisionAt}
 use Rattle.meaning.specs.Claims.Texts.{Rising}
 use Rattle.meaning.specs.Claims.Requests.{requestText}
@@ -34,14 +34,15 @@ pub record Parented (p : Policy) : Type 0 where
       getD (applyingTo p n) i false ≡ (getD (map (hits p n) (p .elements)) i false && parentApplies (applyingTo p n) (parentOf (p .elements) i))
 
 -- Decisions are those of XACML 2.0: an element whose target does not match gives not-applicable, another what the standard's
--- algorithm gives on its children's replies; the file's decision is that of its first element
+-- algorithm gives on its children's replies; the file's decision is that of its first element, and a request gets it
 abbrev pub replyAt : Policy → ℕ → ℕ → Reply
 replyAt p n j = record { matched = getD (map (hits p n) (p .elements)) j false; decision = decisionAt p n j }
 
 pub record Standardly (p : Policy) : Type 0 where
   pub each-element : (n i : ℕ) → i < length (p .elements) → decisionAt p n i
       ≡ cond (getD (map (hits p n) (p .elements)) i false) (standard (getD (map (λ e. e .word) (p .elements)) i Word.Permit) (map (replyAt p n) (childrenOf (p .elements) i))) not-applicable
-  pub of-first : (n : ℕ) → outcome p n ≡ decisionAt p n 0
+  pub of-first : (n : ℕ) → decisionOn p n ≡ decisionAt p n 0
+  pub gets : (n : ℕ) → outcome p n ≡ decisionOn p n
 
 -- A tool that decides: every line that names a request gets that request's outcome, and what is refused is refused with its place
 pub record Decides (tool : Bytes → Bytes → Result Outcome) (f : Bytes) (p : Policy) : Type 0 where

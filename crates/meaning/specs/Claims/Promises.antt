@@ -12,6 +12,7 @@ use Rattle.meaning.specs.Deciding.{Reply, combined, Outcome, outcome, de
 use Rattle.meaning.specs.Trimming.{lines, ruleLine, strike, Trimmed, trimmed}
 use Rattle.meaning.specs.Segments.{segments, segmentSize, Conflict, conflicts}
 use Rattle.meaning.specs.Report.{report}
+use Rattle.meaning.specs.ValuePairs.{pairsNamed}
 use Rattle.meaning.specs.Writing.{writeFile}
 use Rattle.meaning.specs.Claims.Texts.{All, Texts}
 use Rattle.meaning.specs.Claims.PolicyFile.{GoodAttribute, Spelled, WellFormed, Reads}
@@ -24,6 +25,7 @@ use Rattle.meaning.specs.Claims.Standard.{standard}
 use Rattle.meaning.specs.Claims.Deciding.{Parented, Standardly, Decides}
 use Rattle.meaning.specs.Claims.Segments.{Segmented, Opens, Conflicting, ConflictsListed}
 use Rattle.meaning.specs.Claims.Trimming.{Lines, Needless, ReportOf, Meets}
+use Rattle.meaning.specs.Claims.ValuePairs.{NamedAttribute, PairsNamed}
 use Rattle.meaning.specs.Claims.Operations.{Operations, Prints}
 
 -- Whoever meets these claims gives just what is defined: every wrong tool is shut out
@@ -73,6 +75,9 @@ pub record Promises : Type 0 where
   pub trimming : Meets trimmed report
   -- the report has no free field
   pub reporting : (f : Bytes) (p : Policy) → read f ≡ given p → (r : Bytes) → ReportOf f p r ↔ (r ≡ report f p)
+  -- value pairs: which text a name gets is settled; 13 with 0 comes exactly if no `M` attribute has that name
+  pub pairing : (f : Bytes) (p : Policy) → read f ≡ given p → (name t : Bytes) → pairsNamed p name ≡ given t ↔ PairsNamed p name t
+  pub no-such-attribute : (f : Bytes) (p : Policy) → read f ≡ given p → (name : Bytes) (n m : ℕ) → pairsNamed p name ≡ refused n m ↔ ((NamedAttribute (p .attributes) name → ⊥) × (n ≡ 13) × (m ≡ 0))
   pub settled : Settled
   pub shut-out : ShutOut
   pub operations : Operations

@@ -5,7 +5,7 @@ use mathlib.Core.List.{List, [], _∷_, map}
 use lib.ListN.{length, getD}
 use Rattle.meaning.specs.Text.{Bytes, bytes, keep, counting, cut, join, tab, comma, line, decimal}
 use Rattle.meaning.specs.Model.{Element, nameOf, Policy, decisionText}
-use Rattle.meaning.specs.Deciding.{outcome}
+use Rattle.meaning.specs.Deciding.{decisionOn}
 use Rattle.meaning.specs.Trimming.{lines}
 use Rattle.meaning.specs.Segments.{applyingTo, Conflict}
 
@@ -19,7 +19,7 @@ byCommas (n ∷ ns) = join comma (n ∷ ns)
 
 -- `G`, first request, how many requests, decision, names of the applying elements in file order by commas, or `-`
 abbrev pub segmentRow : Policy → (ℕ → ℕ) → ℕ → List Bytes
-segmentRow p size n = bytes "G" ∷ decimal n ∷ decimal (size n) ∷ decisionText (outcome p n)
+segmentRow p size n = bytes "G" ∷ decimal n ∷ decimal (size n) ∷ decisionText (decisionOn p n)
     ∷ byCommas (map (nameOn (p .elements)) (keep (λ i. getD (applyingTo p n) i false) (counting 0 (length (p .elements))))) ∷ []
 
 -- `C`, parent, earlier child, later child, request
