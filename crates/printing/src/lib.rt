@@ -5,7 +5,9 @@ ghost use Prim.Native.Nat.{_+_, _/_, _≤_, _<_, _^_, min};
 ghost use mathlib.Core.List.{[], _∷_, _++_};
 ghost use lib.ListN.{length};
 ghost use Rattle.meaning.specs.Text.{decimal};
+ghost use Rattle.meaning.specs.Model.{decisionText};
 ghost use Rattle.printing.specs.Wrote.{Wrote};
+ghost use Rattle.printing.specs.Decisions.{decisionFrom};
 ghost use Rattle.printing.specs.Fitted.{lendable, textTold};
 
 // Stores a byte.
@@ -75,6 +77,23 @@ pub fn put_number(out: &mut [u8], at: usize, number: usize, end: u8) -> usize
 {
     let behind = put_decimal(out, at, number);
     put(out, behind, end)
+}
+
+// Stores the decision of that number and the byte that ends it.
+pub fn put_decision(out: &mut [u8], at: usize, decided: u8, end: u8) -> usize
+    requires { ⌜ at + 15 < 2 ^ 64 ⌝ }
+    ensures { λ r. ⌜ Wrote (now (out .entry)) at (decisionText (decisionFrom decided) ++ (end ∷ [])) (now (out .exit)) r × (r ≤ at + 15) ⌝ }
+{
+    if decided == 0 {
+        return put_field(out, at, b"permit", end);
+    }
+    if decided == 1 {
+        return put_field(out, at, b"deny", end);
+    }
+    if decided == 2 {
+        return put_field(out, at, b"not-applicable", end);
+    }
+    put_field(out, at, b"indeterminate", end)
 }
 
 // How many bytes of a buffer to lend for a text: all, or none where the text does not fit. What is laid into that part is the whole text, or nothing.

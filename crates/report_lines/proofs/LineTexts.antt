@@ -1,33 +1,22 @@
 -- The lines, field by field.
-use mathlib.Core.Path.{_≡_, ap, _∙_, subst}
+use mathlib.Core.Path.{_≡_, subst}
 use mathlib.Core.Logic.{_≢_}
 use Prim.Native.Nat.{ℕ, _+_, _/_, _≤_, _<_}
 use native.Mathlib.Omega.{arith}
-use mathlib.Core.List.{List, [], _∷_, _++_}
+use mathlib.Core.List.{List, []}
 use lib.ListN.{getD}
 use borrow.Author.Tests.{ne-eqb, lt-ltb, le-ltb}
-use Rattle.meaning.specs.Text.{Bytes, bytes, tab, newline, line, decimal}
+use Rattle.meaning.specs.Text.{Bytes, bytes, line, decimal}
 use Rattle.meaning.specs.Model.{decisionText}
 use Rattle.meaning.specs.Report.{orDash}
 use Rattle.layout.specs.Places.{nameIn}
 use Rattle.printing.specs.Wrote.{Wrote}
+use Rattle.printing.specs.Decisions.{decisionFrom}
 use Rattle.printing.proofs.Laws.{then, nothing, line-next}
+use Rattle.printing.proofs.LineFields.{field, last, three, five}
 use Rattle.report_lines.specs.declared.segment_lines.Segment.{Segment}
 use Rattle.report_lines.specs.declared.conflict_lines.Conflict.{Conflict}
-use Rattle.report_lines.specs.Lines.{decisionFrom, namesOf, segmentRow, segmentLine, conflictRow, struckLine, keptLine}
-
--- fields one behind the other make a line
-abbrev field : Bytes → Bytes
-field a = a ++ (tab ∷ [])
-
-abbrev last : Bytes → Bytes
-last a = a ++ (newline ∷ [])
-
-pub three : (a b c : Bytes) → field a ++ (field b ++ last c) ≡ line (a ∷ b ∷ c ∷ [])
-three a b c = ap (λ t. field a ++ t) (line-next b c []) ∙ line-next a b (c ∷ [])
-
-five : (a b c d e : Bytes) → field a ++ (field b ++ (field c ++ (field d ++ last e))) ≡ line (a ∷ b ∷ c ∷ d ∷ e ∷ [])
-five a b c d e = ap (λ t. field a ++ (field b ++ t)) (three c d e) ∙ ap (λ t. field a ++ t) (line-next b c (d ∷ e ∷ [])) ∙ line-next a b (c ∷ d ∷ e ∷ [])
+use Rattle.report_lines.specs.Lines.{namesOf, segmentRow, segmentLine, conflictRow, struckLine, keptLine}
 
 module _ (f : Bytes) (places : List ℕ) {x : List ℕ} {at : ℕ} where
   -- `G`

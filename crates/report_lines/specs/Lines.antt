@@ -1,24 +1,17 @@
 -- The report's text, from what was found of a policy: its names stand in the file, at their places.
-use Prim.Native.Nat.{ℕ, zero, suc, _+_, _-_, _*_}
+use Prim.Native.Nat.{ℕ, _+_, _-_, _*_}
 use mathlib.Core.Bool.{Bool, cond}
 use mathlib.Core.List.{List, [], _∷_, map}
 use lib.Dec.{eqb, ltb}
 use lib.ListN.{getD}
-use Rattle.meaning.specs.declared.Decision.{Decision}
 use Rattle.meaning.specs.Text.{Bytes, bytes, keep, gathered, counting, comma, line, decimal}
 use Rattle.meaning.specs.Model.{decisionText}
 use Rattle.meaning.specs.Deciding.{bit}
 use Rattle.meaning.specs.Report.{orDash}
 use Rattle.layout.specs.Places.{nameIn}
+use Rattle.printing.specs.Decisions.{decisionFrom}
 use Rattle.report_lines.specs.declared.segment_lines.Segment.{Segment}
 use Rattle.report_lines.specs.declared.conflict_lines.Conflict.{Conflict}
-
--- a decision, by its number
-abbrev pub decisionFrom : ℕ → Decision
-decisionFrom zero = Decision.Permit
-decisionFrom (suc zero) = Decision.Deny
-decisionFrom (suc (suc zero)) = Decision.NotApplicable
-decisionFrom (suc (suc (suc n))) = Decision.Indeterminate
 
 -- A file, and the places of its elements' names
 module _ (f : Bytes) (places : List ℕ) where

@@ -1,12 +1,11 @@
-// The fields of lines: names of elements, one or several, and decisions.
+// The fields of lines: names of elements, one or several.
 ghost use mathlib.Core.List.{[], _∷_, _++_};
 ghost use Prim.Native.Nat.{_+_, _*_, _-_, _≤_};
-ghost use Rattle.meaning.specs.Text.{tab, newline};
-ghost use Rattle.meaning.specs.Model.{decisionText};
+ghost use Rattle.meaning.specs.Text.{newline};
 ghost use Rattle.meaning.specs.Report.{orDash};
 ghost use Rattle.layout.specs.Places.{nameIn, NameAt, Naming};
 ghost use Rattle.printing.specs.Wrote.{Wrote};
-ghost use Rattle.report_lines.specs.Lines.{decisionFrom, namesOf, laterNames};
+ghost use Rattle.report_lines.specs.Lines.{namesOf, laterNames};
 
 // The name of element i.
 fn put_name(file: &[u8], places: &[usize], i: usize, out: &mut [u8], at: usize) -> usize
@@ -32,23 +31,6 @@ pub(crate) fn put_named(
 {
     let n = put_name(file, places, i, out, at);
     printing::put(out, n, end)
-}
-
-// The decision of that number, and a tab.
-pub(crate) fn put_decision(decided: u8, out: &mut [u8], at: usize) -> usize
-    requires { ⌜ at ≤ 4294967296 ⌝ }
-    ensures { λ r. ⌜ Wrote (now (out .entry)) at (decisionText (decisionFrom decided) ++ (tab ∷ [])) (now (out .exit)) r × (r ≤ at + 15) ⌝ }
-{
-    if decided == 0 {
-        return printing::put_field(out, at, b"permit", 9);
-    }
-    if decided == 1 {
-        return printing::put_field(out, at, b"deny", 9);
-    }
-    if decided == 2 {
-        return printing::put_field(out, at, b"not-applicable", 9);
-    }
-    printing::put_field(out, at, b"indeterminate", 9)
 }
 
 // The names of the elements from `from` on whose bits are set, a comma before each.
