@@ -5,9 +5,16 @@ use mathlib.Core.List.{List, _++_, map}
 use native.Mathlib.Nat.{zero-add, add-zero}
 use native.Mathlib.Numerals.{add-one}
 use native.Mathlib.Omega.{arith}
-use lib.ListN.{length, drop, getD, set, length-set}
+use lib.ListN.{length, drop, getD, set, length-set, List·getD-append}
 use lib.Seq.{sets, sets-eq}
 use Rattle.meaning.specs.Text.{counting}
+use Rattle.meaning.specs.Deciding.{decisionNumber}
+use Rattle.laws.proofs.Search.{counting-only}
+use Rattle.laws.proofs.Decided.{map-each}
+use Rattle.table.specs.declared.Shape.{Shape}
+use Rattle.table.specs.Shape.{hitOf}
+use Rattle.outcomes.specs.Decided.{none-struck, outcomeAt, decidedAt}
+use Rattle.outcomes.specs.PolicyTable.{OutcomesLaid}
 
 module _ (f : ℕ → ℕ) where
   pub length-counted : (m k : ℕ) → length (map f (counting m k)) ≡ k
@@ -44,3 +51,17 @@ module _ (f : ℕ → ℕ) where
       let count : length (map f (counting 0 n)) ≡ n = length-counted 0 n in
       let over : laid old n 0 ≡ map f (counting 0 n) ++ drop (0 + length (map f (counting 0 n))) old = rw whole (sets-eq (map f (counting 0 n)) old 0 (omega arith)) in
       rw none at (so-far .rest) ∙ rw (count, zero-add) at over
+
+-- what stands at the places of a list laid down
+pub laid-at : (F : ℕ → ℕ) (k : ℕ) (behind : List ℕ) {l : List ℕ} → l ≡ map F (counting 0 k) ++ behind → (m : ℕ) → m < k → getD l m 0 ≡ F m
+laid-at F k behind {l} e m h =
+    ap (λ xs. getD xs m 0) e
+    ∙ List·getD-append (map F (counting 0 k)) behind 0 m (omega (arith, length-counted F 0 k))
+    ∙ counted-at F 0 k m h
+    ∙ ap F (zero-add m)
+
+-- the numbers of what words tell are those of what each request gets
+pub numbers-laid : (t outcomes : List ℕ) (s : Shape) → OutcomesLaid t none-struck outcomes s → (behind : List ℕ)
+    → map (λ m. decisionNumber (outcomeAt outcomes m)) (counting 0 (s .space)) ++ behind ≡ map (λ m. decisionNumber (decidedAt t (s .n) (hitOf s) none-struck m)) (counting 0 (s .space)) ++ behind
+numbers-laid t outcomes s holds behind =
+    ap (λ xs. xs ++ behind) (map-each _ _ (counting 0 (s .space)) (λ m i. ap decisionNumber (holds .outcomes-are m (omega (arith, counting-only 0 (s .space) m i .1)))))

@@ -2,11 +2,15 @@
 use Prim.Native.Nat.{ℕ, _+_, _/_, _%_}
 use mathlib.Core.Bool.{Bool, not}
 use mathlib.Core.List.{List}
-use lib.ListN.{getD}
+use lib.ListN.{getD, replicate}
 use Rattle.meaning.specs.Deciding.{Outcome, bit, firstDecision, sameOutcome}
 use Rattle.meaning.specs.declared.Element.{Element}
 use Rattle.table.specs.Tree.{left}
 use Rattle.blocks.specs.Bits.{decisionBy}
+
+-- no element is struck
+abbrev pub none-struck : List ℕ
+none-struck = replicate 64 0
 
 -- what two words tell of request m, those permitted and 64 places on those denied
 abbrev pub outcomeAt : List ℕ → ℕ → Outcome

@@ -9,7 +9,7 @@ ghost use Rattle.meaning.specs.Text.{counting};
 ghost use Rattle.meaning.specs.Deciding.{decisionNumber};
 ghost use Rattle.table.specs.Shape.{hitOf};
 ghost use Rattle.matching.specs.Hits.{Rest, HitsLaid};
-ghost use Rattle.outcomes.specs.Decided.{outcomeAt, differsAt};
+ghost use Rattle.outcomes.specs.Decided.{none-struck, outcomeAt, decidedAt, differsAt};
 ghost use Rattle.outcomes.specs.PolicyTable.{PolicyTable, OutcomesLaid};
 ghost use Rattle.outcomes.specs.Changes.{Other, InBlock};
 
@@ -58,6 +58,18 @@ pub fn number_all(outcomes: &[u64], space: usize, decided: &mut [u8])
         decided[m] = blocks::outcome_number(given, m % 64) as u8;
         m += 1;
     }
+}
+
+// Lays down the number of what each request gets where no element is struck. What lies behind them stays.
+pub fn decide_requests(table: &[u16], shape: Shape, decided: &mut [u8])
+    requires { ⌜ PolicyTable (now table) none-struck shape × (shape .space ≤ length (now decided)) ⌝ }
+    ensures { λ _. ⌜ now (decided .exit) ≡ map (λ m. decisionNumber (decidedAt (now (table .entry)) (shape .n) (hitOf shape) none-struck m)) (counting 0 (shape .space)) ++ drop (shape .space) (now (decided .entry)) ⌝ }
+{
+    let struck = [0u8; 64];
+    let mut hits = [0u64; 4096];
+    let mut outcomes = [0u64; 128];
+    find_outcomes(table, &struck, shape, &mut hits, &mut outcomes);
+    number_all(&outcomes, shape.space, decided);
 }
 
 // The first request from `from` on, of 64 at most, whose bits in the two tell another decision, or the number of requests.

@@ -14,8 +14,9 @@ use Rattle.meaning.specs.declared.Element.{Element}
 use Rattle.table.specs.Tree.{parentOf, placeOr}
 use Rattle.table.specs.declared.Shape.{Shape}
 use Rattle.table.specs.Shape.{hitOf}
-use Rattle.outcomes.specs.Decided.{outcomeAt}
+use Rattle.outcomes.specs.Decided.{none-struck, outcomeAt}
 use Rattle.outcomes.specs.PolicyTable.{OutcomesLaid}
+use Rattle.outcomes.proofs.Laying.{laid-at}
 use Rattle.trimming.specs.Decided.{onward, shownAt, nextAt, trimmingAt}
 use Rattle.trimming.specs.Trims.{Trims}
 use Rattle.layout.specs.Places.{Naming}
@@ -26,8 +27,7 @@ use Rattle.segments.proofs.Columns.{across-applying}
 use Rattle.conflicts.specs.Pairs.{shownBy, Pairs}
 use Rattle.conflicts.proofs.Showing.{pairs-by-table}
 use Rattle.report_lines.specs.Ready.{Ordered}
-use Rattle.reporting.specs.Found.{none-struck, trimmedAt, SegmentsFound, ConflictsFound, RulesFound}
-use Rattle.reporting.proofs.Searched.{laid-at}
+use Rattle.reporting.specs.Found.{trimmedAt, SegmentsFound, ConflictsFound, RulesFound}
 use Rattle.reporting.proofs.StruckText.{order-below}
 
 -- striking takes no more steps than there are

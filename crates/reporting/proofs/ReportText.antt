@@ -14,7 +14,8 @@ use Rattle.conflicts.specs.Pairs.{shownFor}
 use Rattle.printing.specs.Fitted.{Fitted}
 use Rattle.printing.proofs.Walks.{taken}
 use Rattle.report_lines.specs.Lines.{segmentText, conflictText, struckLine, struckText, keptText}
-use Rattle.reporting.specs.Found.{none-struck, trimmedAt, SegmentsFound, ConflictsFound, RulesFound}
+use Rattle.outcomes.specs.Decided.{none-struck}
+use Rattle.reporting.specs.Found.{trimmedAt, SegmentsFound, ConflictsFound, RulesFound}
 use Rattle.reporting.specs.Held.{PolicyHeld}
 use Rattle.reporting.proofs.SegmentText.{segments-are}
 use Rattle.reporting.proofs.ConflictText.{conflicts-are}

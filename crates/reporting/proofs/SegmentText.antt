@@ -9,10 +9,9 @@ use lib.Dec.{eqb}
 use lib.ListN.{length, getD}
 use borrow.Author.Tests.{eqb-true, eq-eqb}
 use Rattle.meaning.specs.declared.Element.{Element}
-use Rattle.meaning.specs.declared.Decision.{Decision}
 use Rattle.meaning.specs.Text.{Bytes, any, keep, gathered, counting, line}
 use Rattle.meaning.specs.Model.{nameOf, Policy, sizes, space as spaceOf}
-use Rattle.meaning.specs.Deciding.{requestOf, bit, decisionNumber, hits, outcome, firstDecision}
+use Rattle.meaning.specs.Deciding.{requestOf, bit, decisionNumber, hits, decisionOn, firstDecision}
 use Rattle.meaning.specs.Segments.{applying, applyingTo, together, segments, segmentSize}
 use Rattle.meaning.specs.Report.{marked, segmentFields}
 use Rattle.laws.proofs.Bools.{Test, passed, failed, test, contradiction}
@@ -27,16 +26,11 @@ use Rattle.trimmed_text.proofs.Table.{name-at}
 use Rattle.rows.specs.Words.{marks, applyingAt}
 use Rattle.rows.proofs.Marks.{bit-mark, same-marks}
 use Rattle.segments.specs.Sizes.{alike, opensAt, sizeAt}
-use Rattle.report_lines.specs.Lines.{decisionFrom, namesOf, segmentLine, segmentText}
+use Rattle.printing.specs.Decisions.{decisionFrom}
+use Rattle.printing.proofs.Decisions.{decision-again}
+use Rattle.report_lines.specs.Lines.{namesOf, segmentLine, segmentText}
 use Rattle.reporting.proofs.Applying.{word-is}
 use Rattle.reporting.proofs.ChildPlaces.{count-is}
-
--- a decision is that of its number
-decision-again : (d : Decision) → decisionFrom (decisionNumber d) ≡ d
-decision-again Decision.Permit = refl
-decision-again Decision.Deny = refl
-decision-again Decision.NotApplicable = refl
-decision-again Decision.Indeterminate = refl
 
 -- as many tests as elements
 tests-length : (hit : Element → Bool) (front es : List Element) → length (applying hit front es) ≡ length es
@@ -88,7 +82,7 @@ module _ (f : Bytes) (table places : List ℕ) (n : ℕ) (p : Policy) (is : p .e
       (λ k. rw zero-add (bit-mark (applyingTo p m) k))
 
   -- the decision
-  decision-is : (struck : List ℕ) → ((k : ℕ) → k < n → getD struck k 0 ≡ 0) → (m : ℕ) → decidedAt table n hit struck m ≡ outcome p m
+  decision-is : (struck : List ℕ) → ((k : ℕ) → k < n → getD struck k 0 ≡ 0) → (m : ℕ) → decidedAt table n hit struck m ≡ decisionOn p m
   unfolding decidedAt
   decision-is struck live m =
       ap (λ test. firstDecision test (left table struck 0 n)) (hits-are m) ∙ layout-laws.decided f table places struck n p (requestOf (sizes (p .attributes)) m) is live
@@ -128,7 +122,7 @@ module _ (f : Bytes) (table places : List ℕ) (n : ℕ) (p : Policy) (is : p .e
     unfolding segmentLine
     line-is m l = go (test (opens m)) (counted m l ∙ size-is words worded m l)
       where
-        shown : decisionFrom (getD decided m 0) ≡ outcome p m
+        shown : decisionFrom (getD decided m 0) ≡ decisionOn p m
         shown = ap decisionFrom (numbered m l) ∙ decision-again (decidedAt table n hit struck m) ∙ decision-is struck live m
 
         named : namesOf f places n (getD words m 0) ≡ marked (applyingTo p m) (p .elements)

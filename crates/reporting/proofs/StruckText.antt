@@ -29,7 +29,8 @@ use Rattle.trimmed_text.proofs.Trimmed.{trimmed-flags, kept-flags}
 use Rattle.trimmed_text.proofs.Table.{name-at}
 use Rattle.trimmed_text.proofs.Tabled.{first-change-is, rule-is, trimming-is}
 use Rattle.report_lines.specs.Lines.{struckLine, keptLine, keptText}
-use Rattle.reporting.specs.Found.{none-struck, trimmedAt}
+use Rattle.outcomes.specs.Decided.{none-struck}
+use Rattle.reporting.specs.Found.{trimmedAt}
 use Rattle.reporting.proofs.Searched.{first-or}
 use Rattle.reporting.proofs.ChildPlaces.{count-is}
 

@@ -2,20 +2,16 @@
 use Prim.Native.Nat.{ℕ, _≤_, _<_}
 use mathlib.Core.Path.{_≡_}
 use mathlib.Core.List.{List}
-use lib.ListN.{length, take, getD, replicate}
+use lib.ListN.{length, take, getD}
 use mathlib.Core.Bool.{Bool}
 use Rattle.meaning.specs.Deciding.{decisionNumber}
 use Rattle.meaning.specs.declared.Element.{Element}
 use Rattle.table.specs.Tree.{parentOf, placeOr}
-use Rattle.outcomes.specs.Decided.{decidedAt}
+use Rattle.outcomes.specs.Decided.{none-struck, decidedAt}
 use Rattle.trimming.specs.Decided.{Struck, shownAt, trimmingAt}
 use Rattle.rows.specs.Words.{applyingAt}
 use Rattle.segments.specs.Sizes.{sizeAt}
 use Rattle.conflicts.specs.Pairs.{showsAt, Pairs}
-
--- no element is struck
-abbrev pub none-struck : List ℕ
-none-struck = replicate 64 0
 
 -- what striking gives, from there on
 abbrev pub trimmedAt : List ℕ → ℕ → (ℕ → Element → Bool) → ℕ → Struck

@@ -10,7 +10,7 @@ use Rattle.table.specs.declared.Shape.{Shape}
 use Rattle.table.specs.Shape.{hitOf}
 use Rattle.outcomes.specs.PolicyTable.{PolicyTable}
 use Rattle.layout.specs.Places.{elementsTo, Naming}
-use Rattle.reporting.specs.Found.{none-struck}
+use Rattle.outcomes.specs.Decided.{none-struck}
 
 -- they hold the policy that reading f gives, which has this shape
 pub record PolicyHeld (f : Bytes) (table places : List ℕ) (s : Shape) : Type 0 where

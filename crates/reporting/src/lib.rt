@@ -12,7 +12,8 @@ ghost use Rattle.meaning.specs.Operations.{reportAnswer, reportLent};
 ghost use Rattle.table.specs.Shape.{hitOf};
 ghost use Rattle.matching.specs.Hits.{HitsLaid};
 ghost use Rattle.outcomes.specs.PolicyTable.{PolicyTable, OutcomesLaid};
-ghost use Rattle.reporting.specs.Found.{none-struck, SegmentsFound, ConflictsFound, RulesFound};
+ghost use Rattle.outcomes.specs.Decided.{none-struck};
+ghost use Rattle.reporting.specs.Found.{SegmentsFound, ConflictsFound, RulesFound};
 ghost use Rattle.reporting.specs.Held.{PolicyHeld};
 
 // Lays down which requests match each element, and what each request gets.
