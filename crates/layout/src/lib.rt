@@ -3,15 +3,15 @@ use meaning::Kind;
 use table::Row;
 ghost use mathlib.Core.Path.{_≡_};
 ghost use mathlib.Core.List.{List, [], _∷_, map};
-ghost use Prim.Native.Nat.{ℕ, _+_, _*_, _≤_, _<_};
-ghost use lib.ListN.{length, getD};
+ghost use Prim.Native.Nat.{_+_, _*_, _≤_, _<_};
+ghost use lib.ListN.{length};
 ghost use lib.Seq.{sets};
 ghost use Rattle.meaning.specs.declared.Element.{Element};
-ghost use Rattle.meaning.specs.Text.{amongNames};
+ghost use Rattle.meaning.specs.Text.{sameName, amongNames};
 ghost use Rattle.meaning.specs.Model.{choicesOf};
 ghost use Rattle.meaning.specs.Reading.{wellPlaced};
 ghost use Rattle.table.specs.Rows.{Rows, withRow};
-ghost use Rattle.layout.specs.Places.{attributesOf, AllStanding, FewValues, sizesOf, noAttributes, added, namesTo, Named};
+ghost use Rattle.layout.specs.Places.{attributeAt, attributesOf, Standing, AllStanding, FewValues, sizesOf, noAttributes, added, namesTo, Named};
 ghost use Rattle.layout.specs.Nearest.{kindNumber, parentNumber, grown, Stands};
 
 // Whether each attribute may have several values in a request, and where it stands: the start of its name, of its first value, the
@@ -74,19 +74,27 @@ pub fn sizes(a: Attributes) -> [usize; 6]
     sizes
 }
 
+// Whether attribute i has this name.
+pub fn has_name(file: &[u8], a: Attributes, i: usize, name: &[u8]) -> bool
+    requires { ⌜ (i < 6) × Standing (now file) a i ⌝ }
+    ensures { λ r. ⌜ r ≡ sameName (now (name .entry)) (attributeAt (now (file .entry)) a i .name) ⌝ }
+{
+    let names = a.names;
+    let values = a.values;
+    let start = names[i];
+    let end = values[i] - 1;
+    names::same_name(name, &file[start..end])
+}
+
 // Whether an attribute has this name.
 pub fn known_attribute(file: &[u8], a: Attributes, name: &[u8]) -> bool
     requires { ⌜ AllStanding (now file) a ⌝ }
     ensures { λ r. ⌜ r ≡ amongNames (now (name .entry)) (map (λ b. b .name) (attributesOf (now (file .entry)) a)) ⌝ }
 {
-    let names = a.names;
-    let values = a.values;
     let len = a.len;
     let mut i = 0;
     while i < len {
-        let start = names[i];
-        let end = values[i] - 1;
-        if names::same_name(name, &file[start..end]) {
+        if has_name(file, a, i, name) {
             return true;
         }
         i += 1;
