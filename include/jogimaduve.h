@@ -2,7 +2,7 @@
  *
  * Every operation takes a policy file as bytes and relies on no earlier call. It keeps nothing, allocates nothing and
  * may be called from several threads at once. Pointers must not be NULL, also where a length is 0. The buffer must not
- * overlap the file: a text that is written over its own file comes out wrong, with no sign of it.
+ * overlap the file or a name: a text that is written over its own file comes out wrong, with no sign of it.
  *
  * Each answers two numbers. `number` is 0 where the operation did its work; `second` is then its result. Any other
  * `number` is a refusal, so test it first: the `second` of a refusal can be JOGIMADUVE_PERMIT. A refused operation
@@ -14,7 +14,7 @@
 #include <stddef.h>
 #include <stdint.h>
 
-#define JOGIMADUVE_VERSION "1.2.0"
+#define JOGIMADUVE_VERSION "1.3.0"
 
 #ifdef __cplusplus
 extern "C" {
@@ -28,17 +28,18 @@ typedef struct {
 /* `number`, and what `second` is then. Lines and places count from 1. */
 enum {
     JOGIMADUVE_DONE = 0,
-    JOGIMADUVE_TOO_LONG = 1,     /* 0: the file exceeds JOGIMADUVE_LONGEST_FILE bytes */
-    JOGIMADUVE_BAD_LINE = 2,     /* line: empty line or field, other byte, no last newline, wrong first field or field count */
-    JOGIMADUVE_BAD_NAME = 3,     /* line: a name not of 1 to 16 of a-z, A-Z, 0-9 and hyphen, or with a hyphen first */
-    JOGIMADUVE_NAME_USED = 4,    /* line: name used before, letter case aside */
-    JOGIMADUVE_TOO_MANY = 5,     /* line: attribute 7, value 17 (of an M line: 13), space over 4,096, element 65 */
-    JOGIMADUVE_BAD_PLACE = 6,    /* line: attribute behind a tree line, tree line before any, bad depth, place or parent */
-    JOGIMADUVE_BAD_WORD = 7,     /* line: word not allowed for its kind */
-    JOGIMADUVE_BAD_TARGET = 8,   /* line: bad target; its values are spelled as on the attribute line */
-    JOGIMADUVE_NO_ELEMENT = 9,   /* 0: no tree line */
-    JOGIMADUVE_BAD_REQUEST = 10, /* place of the first request field that is no value, or no set of values; 0 if the field count is wrong */
-    JOGIMADUVE_SHORT_BUFFER = 11 /* bytes: so many are needed */
+    JOGIMADUVE_TOO_LONG = 1,      /* 0: the file exceeds JOGIMADUVE_LONGEST_FILE bytes */
+    JOGIMADUVE_BAD_LINE = 2,      /* line: empty line or field, other byte, no last newline, wrong first field or field count */
+    JOGIMADUVE_BAD_NAME = 3,      /* line: a name not of 1 to 16 of a-z, A-Z, 0-9 and hyphen, or with a hyphen first */
+    JOGIMADUVE_NAME_USED = 4,     /* line: name used before, letter case aside */
+    JOGIMADUVE_TOO_MANY = 5,      /* line: attribute 7, value 17 (of an M line: 13), space over 4,096, element 65 */
+    JOGIMADUVE_BAD_PLACE = 6,     /* line: attribute behind a tree line, tree line before any, bad depth, place or parent */
+    JOGIMADUVE_BAD_WORD = 7,      /* line: word not allowed for its kind */
+    JOGIMADUVE_BAD_TARGET = 8,    /* line: bad target; its values are spelled as on the attribute line */
+    JOGIMADUVE_NO_ELEMENT = 9,    /* 0: no tree line */
+    JOGIMADUVE_BAD_REQUEST = 10,  /* place of the first request field that is no value, or no set of values; 0 if the field count is wrong */
+    JOGIMADUVE_SHORT_BUFFER = 11, /* bytes: so many are needed */
+    JOGIMADUVE_NO_M_LINE = 13     /* 0: the name given is not that of an attribute of an M line; told before 11 */
 };
 
 /* What a request gets: `second` of jogimaduve_decide. */
@@ -52,7 +53,8 @@ enum {
     JOGIMADUVE_REPORT_BUFFER = 65536,
     JOGIMADUVE_DECIDE_STACK = 16384,
     JOGIMADUVE_TRIM_STACK = 65536,
-    JOGIMADUVE_REPORT_STACK = 262144
+    JOGIMADUVE_REPORT_STACK = 262144,
+    JOGIMADUVE_VALUE_PAIRS_STACK = 65536
 };
 
 /* Decides a request: one field for each attribute of the file, in order, parted by tabs, no newline. For an attribute of an
@@ -70,6 +72,16 @@ jogimaduve_answer jogimaduve_trim(const uint8_t *file, size_t file_length, uint8
  * lines of fields parted by tabs. Every build gives the same bytes for the same file. The text goes into the buffer and
  * `second` is its length, which can be some millions of bytes. Bytes behind the text stay as they were. */
 jogimaduve_answer jogimaduve_report(const uint8_t *file, size_t file_length, uint8_t *buffer, size_t buffer_length);
+
+/* Tells where two values of an attribute of an M line get another decision than one of them alone. The attribute is given by
+ * its name, in any letter case. For each pair of its values and each choice of the other attributes there is a line (D) if
+ * the decision with both values differs from that with the earlier alone or with the later alone: the number of the request
+ * with both, the decision with both, with the earlier, with the later, as fields parted by tabs; the lines rise by that
+ * number. The text goes into the buffer and `second` is its length, 0 where there is no such pair. Bytes behind the text
+ * stay as they were. */
+jogimaduve_answer jogimaduve_value_pairs(const uint8_t *file, size_t file_length,
+                                         const uint8_t *attribute, size_t attribute_length,
+                                         uint8_t *buffer, size_t buffer_length);
 
 #ifdef __cplusplus
 }

@@ -5,4 +5,6 @@ mod Trimming
 mod Operate
 mod Demand3
 mod SameReports
+mod TellsPairs
 mod Reporting
+mod Pairing

@@ -8,7 +8,8 @@ use Rattle.meaning.specs.Model.{given, _then_}
 use Rattle.meaning.specs.Reading.{read}
 use Rattle.meaning.specs.Trimming.{trimmed}
 use Rattle.meaning.specs.Report.{report}
-use Rattle.meaning.specs.Operations.{decideAnswer, trimAnswer, trimLent, reportAnswer, reportLent}
+use Rattle.meaning.specs.ValuePairs.{pairsNamed}
+use Rattle.meaning.specs.Operations.{decideAnswer, trimAnswer, trimLent, reportAnswer, reportLent, valuePairsAnswer, valuePairsLent}
 use Rattle.meaning.specs.Claims.Operations.{Writes}
 use Rattle.laws.proofs.Operations.{operations}
 
@@ -29,12 +30,17 @@ Trim = TextOperation trimAnswer trimLent
 abbrev pub Report : Type 0
 Report = TextOperation reportAnswer reportLent
 
--- All three
+-- of the attribute that has a name
+abbrev pub ValuePairs : Bytes → Type 0
+ValuePairs name = TextOperation (λ file buffer. valuePairsAnswer file name buffer) (λ file buffer. valuePairsLent file name buffer)
+
+-- All four
 pub record Operate : Type 0 where
   pub decide : (file request : Bytes) → Answer
   pub decide-is : (f r : Bytes) → decide f r ≡ decideAnswer f r
   pub trim : Trim
   pub report : Report
+  pub value-pairs : (name : Bytes) → ValuePairs name
 
 -- what is defined meets them
 pub as-defined : Operate
@@ -43,6 +49,7 @@ as-defined = record {
   decide-is = λ f r. refl;
   trim = record { answer = trimAnswer; after = trimLent; answer-is = λ f b. refl; after-is = λ f b. refl };
   report = record { answer = reportAnswer; after = reportLent; answer-is = λ f b. refl; after-is = λ f b. refl };
+  value-pairs = λ name. record { answer = λ f b. valuePairsAnswer f name b; after = λ f b. valuePairsLent f name b; answer-is = λ f b. refl; after-is = λ f b. refl };
 }
 
 -- what they write
@@ -51,3 +58,6 @@ trims o f b = rw (o .answer-is f b, o .after-is f b) (operations .trims f b)
 
 pub reports : (o : Report) (f b : Bytes) → Writes 11 (read f then λ p. given (report f p)) (o .answer f b) b (o .after f b)
 reports o f b = rw (o .answer-is f b, o .after-is f b) (operations .reports f b)
+
+pub tells-pairs : (name : Bytes) (o : ValuePairs name) (f b : Bytes) → Writes 11 (read f then λ p. pairsNamed p name) (o .answer f b) b (o .after f b)
+tells-pairs name o f b = rw (o .answer-is f b, o .after-is f b) (operations .tells-pairs f name b)

@@ -9,7 +9,7 @@ use Rattle.meaning.specs.Reading.{read}
 use Rattle.meaning.specs.Report.{reportFile}
 use Rattle.meaning.specs.Operations.{reportAnswer, reportLent}
 use Rattle.table.specs.declared.Shape.{Shape}
-use Rattle.reporting.specs.Found.{none-struck}
+use Rattle.outcomes.specs.Decided.{none-struck}
 use Rattle.reporting.specs.Held.{PolicyHeld}
 use Rattle.reader.specs.declared.Reading.{Reading}
 use Rattle.reader.specs.Told.{policyShape, ReadPolicy, ReadAs}

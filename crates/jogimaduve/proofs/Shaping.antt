@@ -8,17 +8,18 @@ use lib.ListN.{length, getD, replicate, getD-replicate, length-set}
 use Rattle.meaning.specs.Text.{Bytes}
 use Rattle.meaning.specs.Model.{Policy, sizes, severals, product, given, space}
 use Rattle.meaning.specs.Reading.{read}
-use Rattle.meaning.specs.Deciding.{requestOf, matches, hits}
+use Rattle.meaning.specs.Deciding.{requestOf, matches, firstDecision, hits, decisionOn}
 use Rattle.laws.proofs.Bounds.{bounded}
 use Rattle.laws.proofs.Requests.{product-pos}
 use Rattle.laws.proofs.Answers.{positive}
-use Rattle.table.specs.Tree.{Leaves}
+use Rattle.table.specs.Tree.{left, Leaves}
 use Rattle.table.specs.declared.Shape.{Shape}
 use Rattle.table.specs.Shape.{countsOf, severalsOf, hitOf}
-use Rattle.table.proofs.Children.{none-struck}
+use Rattle.table.proofs.Children.{none-struck as no-rule-struck}
+use Rattle.outcomes.specs.Decided.{none-struck, decidedAt}
 use Rattle.outcomes.specs.PolicyTable.{PolicyTable}
 use Rattle.layout.specs.Places.{FewValues, lineStart, placed}
-use Rattle.layout.proofs.Laws.{attributes-length}
+use Rattle.layout.proofs.Laws.{attributes-length, decided}
 use Rattle.layout.proofs.Counts.{sizes-are, severals-are, sets-counted}
 use Rattle.reader.specs.declared.Reading.{Reading}
 use Rattle.reader.specs.Told.{policyShape, ReadPolicy}
@@ -47,7 +48,7 @@ module _ (f table places : List ℕ) (r : Reading) (p : Policy) (h : read f ≡ 
   pub attributes-are : length (p .attributes) ≡ r .attributes .len
   attributes-are = ap length (holds .attributes) ∙ attributes-length f (r .attributes)
 
-  counts-are : countsOf (policyShape r) ≡ sizes (p .attributes)
+  pub counts-are : countsOf (policyShape r) ≡ sizes (p .attributes)
   counts-are = sizes-are f (r .attributes) (holds .spaced .standing) ∙ ap sizes (sym (holds .attributes))
 
   pub letters-are : severalsOf (policyShape r) ≡ severals (p .attributes)
@@ -79,11 +80,18 @@ module _ (f table places : List ℕ) (r : Reading) (p : Policy) (h : read f ≡ 
         root = root-word f p h table places (r .elements) (holds .elements) (elements-are f table places r p h holds) (hitOf (policyShape r)) (r .space) hits-are space-is (holds .some);
         stays = ap (λ flags. getD flags 0 0) none;
         leaves = leaves;
-        rules = none-struck table struck (r .elements) (λ k l. ap (λ flags. getD flags k 0) none ∙ getD-replicate 64 k 0 0 (omega (arith, few f table places r p h holds)));
+        rules = no-rule-struck table struck (r .elements) (λ k l. ap (λ flags. getD flags k 0) none ∙ getD-replicate 64 k 0 0 (omega (arith, few f table places r p h holds)));
         counted = record { attributes = holds .spaced .standing .few; sets = λ i l several. (getD (r .attributes .counts) i 0, sets-counted (r .attributes) i l several); all = ap product counts-are ∙ sym space-is };
         positive = subst (λ m. 0 < m) (sym space-is) (product-pos (sizes (p .attributes)) (positive (p .attributes) (bounded f p h .attributes-good)));
         small = rw (holds .space-is) (holds .spaced .small);
       })
+
+  -- what the table decides is what the policy does
+  pub decided-are : (m : ℕ) → decidedAt table (r .elements) (hitOf (policyShape r)) none-struck m ≡ decisionOn p m
+  unfolding decidedAt
+  decided-are m =
+      ap (λ test. firstDecision test (left table none-struck 0 (r .elements))) (hits-are m)
+      ∙ decided f table places none-struck (r .elements) p (requestOf (sizes (p .attributes)) m) (holds .elements) (λ k l. getD-replicate 64 k 0 0 (omega (arith, few f table places r p h holds)))
 
   pub copies : (struck : List ℕ) → 64 ≤ length struck → Copies f places struck (r .elements)
   copies struck room =

@@ -24,7 +24,7 @@ use Rattle.trimmed_text.proofs.Placed.{text-copied}
 use Rattle.reader.specs.declared.Reading.{Reading}
 use Rattle.reader.specs.Told.{policyShape, ReadPolicy, ReadAs}
 use Rattle.reader.proofs.FileRead.{file-refused, elements-are, few}
-use Rattle.reporting.specs.Found.{none-struck}
+use Rattle.outcomes.specs.Decided.{none-struck}
 use Rattle.reporting.proofs.StruckText.{none-clear}
 use Rattle.jogimaduve.specs.Told.{told}
 use Rattle.jogimaduve.proofs.Shaping.{attributes-are, hits-are, space-is}

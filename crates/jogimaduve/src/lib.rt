@@ -1,7 +1,7 @@
 // The operations for C callers.
 use meaning::Answer;
 ghost use mathlib.Core.Path.{_≡_};
-ghost use Rattle.meaning.specs.Operations.{decideAnswer, trimAnswer, trimLent, reportAnswer, reportLent};
+ghost use Rattle.meaning.specs.Operations.{decideAnswer, trimAnswer, trimLent, reportAnswer, reportLent, valuePairsAnswer, valuePairsLent};
 
 // What a policy file decides on a request line.
 #[no_mangle]
@@ -67,4 +67,20 @@ pub extern "C" fn jogimaduve_report(file: &[u8], out: &mut [u8]) -> Answer
         return reader::refusal(reading);
     }
     reporting::report(file, &table, &places, reader::policy_shape(reading), out)
+}
+
+// The pairs of values of an `M` attribute that get another decision than one of the two alone, in a lent buffer.
+#[no_mangle]
+pub extern "C" fn jogimaduve_value_pairs(file: &[u8], attribute: &[u8], out: &mut [u8]) -> Answer
+    ensures { λ r. ⌜ r ≡ valuePairsAnswer (now (file .entry)) (now (attribute .entry)) (now (out .entry)) ⌝ }
+    ensures { λ r. ⌜ now (out .exit) ≡ valuePairsLent (now (file .entry)) (now (attribute .entry)) (now (out .entry)) ⌝ }
+{
+    let mut table = [0u16; 512];
+    let mut places = [0usize; 128];
+    let reading = reader::read(file, &mut table, &mut places);
+    if reading.number != 0 {
+        return reader::refusal(reading);
+    }
+    let shape = reader::policy_shape(reading);
+    value_pairs::tell(file, reading.attributes, &table, shape, attribute, out)
 }

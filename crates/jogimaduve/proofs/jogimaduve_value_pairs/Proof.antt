@@ -1,0 +1,42 @@
+-- `jogimaduve_value_pairs` meets its contract: the file's refusal, or what telling the pairs of a name gives.
+use mathlib.Core.Path.{_∙_}
+use Rattle.reader.proofs.FileRead.{small-numbers, file-read}
+use Rattle.jogimaduve.proofs.Shaping.{sizable}
+use Rattle.jogimaduve.proofs.Pairing.{refusal-answered, refusal-lent, held}
+use borrow.Author.Needs.{needs}
+use Rattle.jogimaduve.proofs.jogimaduve_value_pairs.Statement.{statement}
+use Rattle.jogimaduve.proofs.jogimaduve_value_pairs.Tie as tie
+
+refusal-requires : tie.Need-refusal-requires
+refusal-requires c κs = small-numbers _ _ _ _ (c .before .before .before .before .read .ensures .answer) (c .if1 .taken)
+
+returns : tie.Need-returns
+returns c =
+    let is-read = c .before .before .before .before .before .read .ensures .answer in
+    let args = c .before .before .before .before .before .before .before .before .before .before .before .args in
+    (c .refusal .ensures ∙ refusal-answered _ _ _ _ is-read (args .attribute .now) (args .out .now) (c .before .if1 .taken), refusal-lent _ _ _ _ is-read (args .attribute .now) (args .out .now) (c .before .if1 .taken))
+
+policy-shape-requires : tie.Need-policy-shape-requires
+policy-shape-requires c κs =
+    let (p, h, holds) = file-read _ _ _ _ (c .before .before .before .before .read .ensures .answer) (c .if1 .left) in
+    sizable _ _ _ _ p h holds
+
+tell-requires : tie.Need-tell-requires
+tell-requires c κs =
+    let (p, h, holds) = file-read _ _ _ _ (c .before .before .before .before .before .before .before .read .ensures .answer) (c .before .before .before .if1 .left) in
+    held _ _ _ _ p h holds _ (c .before .before .policy-shape .ensures)
+
+pub jogimaduve-value-pairs-spec : {M : Type 1} → statement M
+jogimaduve-value-pairs-spec =
+    tie.close
+    (tie.spec
+    (λ c. search needs)
+    (λ c. search needs)
+    (λ c κs. search needs)
+    refusal-requires
+    returns
+    policy-shape-requires
+    (λ c. search needs)
+    tell-requires
+    (λ c. search needs)
+    (λ c. search needs))

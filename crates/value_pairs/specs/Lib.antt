@@ -1,0 +1,3 @@
+-- What the contracts of value_pairs cite.
+pub mod Lines
+pub mod Held
