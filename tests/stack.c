@@ -30,6 +30,12 @@ static void *report(void *unused) {
     return unused;
 }
 
+static void *value_pairs(void *unused) {
+    jogimaduve_answer got = jogimaduve_value_pairs((const uint8_t *)file, size, TEXT("x"), buffer, sizeof buffer);
+    check(got.number == JOGIMADUVE_DONE && got.second > 0, "value pairs", __LINE__);
+    return unused;
+}
+
 /* How many bytes of a painted stack a thread changes. */
 static size_t used(void *run(void *)) {
     uint8_t *stack = mmap(NULL, STACK, PROT_READ | PROT_WRITE, MAP_PRIVATE | MAP_ANONYMOUS | MAP_STACK, -1, 0);
@@ -54,24 +60,29 @@ static void within(void *run(void *), size_t most, const char *what) {
     check(bytes <= most / 4 * 3, what, __LINE__);
 }
 
-/* Three attributes of 16 values, depth 7, 64 elements: the deepest calls and the most requests. */
-static void largest(void) {
-    for (char name = 'x'; name <= 'z'; name++) {
-        size += (size_t)sprintf(file + size, "A\t%c", name);
-        for (char value = 'a'; value <= 'p'; value++) size += (size_t)sprintf(file + size, "\t%c", value);
+/* Three attributes of so many values, the first by this letter, depth 7, 64 elements: the deepest calls. */
+static void largest(char letter, const int values[3]) {
+    size = 0;
+    for (int i = 0; i < 3; i++) {
+        size += (size_t)sprintf(file + size, "%c\t%c", i == 0 ? letter : 'A', 'x' + i);
+        for (int value = 0; value < values[i]; value++) size += (size_t)sprintf(file + size, "\t%c", 'a' + value);
         size += (size_t)sprintf(file + size, "\n");
     }
     for (int depth = 0; depth < 6; depth++) size += (size_t)sprintf(file + size, "S\t%d\ts%d\tfirst-applicable\t*\t*\t*\n", depth, depth);
     size += (size_t)sprintf(file + size, "P\t6\tp\tfirst-applicable\t*\t*\t*\n");
     for (int rule = 0; rule < 57; rule++) {
-        size += (size_t)sprintf(file + size, "R\t7\tr%d\t%s\t%c\t%c\t*\n", rule, rule % 2 == 0 ? "permit" : "deny", 'a' + rule % 16, 'a' + rule / 16);
+        const char *effect = rule % 2 == 0 ? "permit" : "deny";
+        size += (size_t)sprintf(file + size, "R\t7\tr%d\t%s\t%c\t%c\t*\n", rule, effect, 'a' + rule % values[0], 'a' + rule / values[0]);
     }
 }
 
 int main(void) {
-    largest();
+    /* the most requests there can be; and with sets, 255 times 16 */
+    largest('A', (const int[]){16, 16, 16});
     within(decide, JOGIMADUVE_DECIDE_STACK, "decide");
     within(trim, JOGIMADUVE_TRIM_STACK, "trim");
     within(report, JOGIMADUVE_REPORT_STACK, "report");
+    largest('M', (const int[]){8, 16, 1});
+    within(value_pairs, JOGIMADUVE_VALUE_PAIRS_STACK, "value pairs");
     return checks_done();
 }

@@ -4,6 +4,7 @@
 #define A "A\tx\ta\tb\n"
 #define P "P\t0\ttop\tfirst-applicable\t*\n"
 #define GOOD A P "R\t1\tr1\tpermit\ta\nR\t1\tr2\tdeny\tb\n"
+#define SETS "M\tx\ta\tb\n" P "R\t1\tr1\tpermit\ta\n"
 
 static uint8_t buffer[JOGIMADUVE_REPORT_BUFFER];
 static uint8_t long_file[JOGIMADUVE_LONGEST_FILE + 1];
@@ -51,6 +52,10 @@ int main(void) {
     jogimaduve_answer needed = jogimaduve_report(TEXT(GOOD), buffer, 0);
     check(needed.number == JOGIMADUVE_SHORT_BUFFER, "no buffer", __LINE__);
     answers(jogimaduve_report(TEXT(GOOD), buffer, needed.second), JOGIMADUVE_DONE, needed.second, "the bytes needed", __LINE__);
+    answers(jogimaduve_value_pairs(TEXT(GOOD), TEXT("x"), buffer, sizeof buffer), JOGIMADUVE_NO_M_LINE, 0, "an A line", __LINE__);
+    needed = jogimaduve_value_pairs(TEXT(SETS), TEXT("x"), buffer, 0);
+    check(needed.number == JOGIMADUVE_SHORT_BUFFER, "no buffer", __LINE__);
+    answers(jogimaduve_value_pairs(TEXT(SETS), TEXT("x"), buffer, needed.second), JOGIMADUVE_DONE, needed.second, "the bytes needed", __LINE__);
     DECIDED(GOOD, "a", JOGIMADUVE_PERMIT);
     DECIDED(GOOD, "b", JOGIMADUVE_DENY);
     DECIDED(A P, "a", JOGIMADUVE_NOT_APPLICABLE);

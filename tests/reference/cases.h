@@ -8,13 +8,19 @@
 
 /* cases.c */
 void decides(const char *what, const char *policy, const char *line, uint32_t number, uint32_t second);
-/* The text in a buffer of its size, and 11 in one that is a byte too short. */
+/* The text in a buffer of its size, and 11 in one that is a byte too short; none is too short for an empty text. */
 void gives_text(const char *what, struct answer operation(const uint8_t *, size_t, uint8_t *, size_t),
                 const char *policy, const char *text);
+/* Nothing is put into a buffer of `room` bytes. */
+void refuses_text(const char *what, struct answer operation(const uint8_t *, size_t, uint8_t *, size_t),
+                  const char *policy, size_t room, uint32_t number, uint32_t second);
 /* The list is a policy and a rule; `text` is all that is put into the buffer. */
 void writes(const char *lines, const struct record list[2], uint32_t number, uint32_t second, const char *text);
 
 /* cases_sets.c */
 void cases_of_sets(void);
+
+/* cases_pairs.c */
+void cases_of_pairs(void);
 
 #endif

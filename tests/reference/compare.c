@@ -1,29 +1,28 @@
 /* Compares libjogimaduve with the reference on generated inputs: valid files of many shapes, damaged ones, good and bad
- * request lines, buffers too short, exact and longer. Lent memory is compared byte for byte.
+ * request lines, names of attributes and others, buffers too short, exact and longer. Lent memory is compared byte for
+ * byte. Of stored files, whose reports are compared elsewhere, only the pairs of values are.
  *
- * Usage: compare SEED COUNT. Each input is made from its own seed alone, SEED and those behind it, so that
+ * Usage: compare SEED COUNT [FILE ...]. Each input is made from its own seed alone, SEED and those behind it, so that
  * `compare <seed shown> 1` makes it again. Prints the number of differences; the exit status is 1 if there are any, or if
  * many inputs missed some of the answers. */
-#include "generate.h"
-#include "jogimaduve.h"
-#include "reference.h"
+#include "compare.h"
 
 #include <stdio.h>
 #include <stdlib.h>
 #include <string.h>
 
 enum { BEHIND = 64, REPORT_BYTES = 65536 }; /* bytes watched behind each lent buffer; the program's buffer */
-enum { MANY = 10000, OFTEN = 100 };         /* of so many inputs, so many answers of each number */
-enum { NUMBERS = 12 };
+enum { NUMBERS = 14, OF_LISTS = 12 };       /* no operation here answers 12 */
 
-static unsigned long differences, seen[NUMBERS];
+unsigned long differences;
+static unsigned long seen[NUMBERS];
 
 /* How often accepted files had an M, requests held two of its values or more or were refused at its field, and requests
  * with a comma were refused at an A's field. */
 static struct { unsigned long files, sets, bad_sets, bad_lists; } came_up;
-static uint64_t input_seed;
+static char input[200]; /* its seed, or the file's name */
 
-static void show_bytes(const char *what, const uint8_t *bytes, size_t length)
+void show_bytes(const char *what, const uint8_t *bytes, size_t length)
 {
     printf("  %s, %lu bytes: \"", what, (unsigned long)length);
     for (size_t i = 0; i < length; i++) {
@@ -40,7 +39,7 @@ static void show_bytes(const char *what, const uint8_t *bytes, size_t length)
 }
 
 /* A copy of exactly these bytes, so that a memory checker sees a read behind them. */
-static uint8_t *exactly(const uint8_t *bytes, size_t length)
+uint8_t *exactly(const uint8_t *bytes, size_t length)
 {
     uint8_t *copy = malloc(length > 0 ? length : 1);
     if (copy == NULL)
@@ -53,8 +52,8 @@ static void difference(const char *what, struct answer wanted, jogimaduve_answer
 {
     if (++differences > 20)
         return; /* enough shown */
-    printf("difference in %s, seed %llu: reference %lu %lu,", what, (unsigned long long)input_seed,
-           (unsigned long)wanted.number, (unsigned long)wanted.second);
+    printf("difference in %s, %s: reference %lu %lu,", what, input, (unsigned long)wanted.number,
+           (unsigned long)wanted.second);
     printf(" library %lu %lu\n", (unsigned long)got.number, (unsigned long)got.second);
     show_bytes("file", file->bytes, file->length);
 }
@@ -76,10 +75,9 @@ static struct answer compare_decide(const struct bytes *file, const struct bytes
     return wanted;
 }
 
-/* Trim and report alike: both fill a lent buffer of `room` bytes. */
+/* An operation that fills a lent buffer of `room` bytes. */
 static struct answer compare_text(const char *what, const struct bytes *file, size_t room,
-                                  struct answer reference(const uint8_t *, size_t, uint8_t *, size_t),
-                                  jogimaduve_answer library(const uint8_t *, size_t, uint8_t *, size_t))
+                                  reference_text *reference, library_text *library)
 {
     uint8_t *lent_file = exactly(file->bytes, file->length);
     uint8_t *wanted_bytes = malloc(room + BEHIND), *bytes = malloc(room + BEHIND);
@@ -103,19 +101,19 @@ static struct answer compare_text(const char *what, const struct bytes *file, si
     return wanted;
 }
 
-static void compare_rooms(const char *what, const struct bytes *file, size_t most_rooms, size_t first_room,
-                          struct answer reference(const uint8_t *, size_t, uint8_t *, size_t),
-                          jogimaduve_answer library(const uint8_t *, size_t, uint8_t *, size_t))
+struct answer compare_rooms(const char *what, const struct bytes *file, size_t most_rooms, size_t first_room,
+                            reference_text *reference, library_text *library)
 {
     struct answer answer = compare_text(what, file, first_room, reference, library);
     size_t needed = answer.second;
 
     if (answer.number != 0 && answer.number != 11)
-        return;
-    size_t more = 1 + below(200), less = below((uint32_t)needed);
-    size_t rooms[] = {needed, needed - 1, needed + more, less, 0};
+        return answer;
+    size_t more = 1 + below(200), less = below((uint32_t)needed), one_less = needed - (needed > 0);
+    size_t rooms[] = {needed, one_less, needed + more, less, 0};
     for (size_t i = 0; i < most_rooms && i < sizeof rooms / sizeof *rooms; i++)
         compare_text(what, file, rooms[i], reference, library);
+    return answer;
 }
 
 static int has_set(const struct policy *policy)
@@ -144,7 +142,7 @@ static void compare_input(uint64_t seed)
     static struct bytes file, request;
     static struct policy policy;
 
-    input_seed = seed;
+    snprintf(input, sizeof input, "seed %llu", (unsigned long long)seed);
     start_random(seed);
     make_file(&file);
     int accepted = read_policy(file.bytes, file.length, &policy).number == 0;
@@ -159,6 +157,25 @@ static void compare_input(uint64_t seed)
     came_up.files += accepted && has_set(&policy);
     compare_rooms("trim", &file, small ? 5 : 1, below(2) ? file.length : below(64), ref_trim, jogimaduve_trim);
     compare_rooms("report", &file, small ? 5 : 1, below(2) ? REPORT_BYTES : below(64), ref_report, jogimaduve_report);
+    compare_pairs(&file, &policy, accepted);
+    compare_small_files();
+}
+
+static void compare_stored(const char *name)
+{
+    static struct bytes file;
+    static struct policy policy;
+    FILE *stored = fopen(name, "rb");
+
+    if (stored == NULL) {
+        perror(name);
+        exit(2);
+    }
+    snprintf(input, sizeof input, "%s", name);
+    start_random(0);
+    file.length = fread(file.bytes, 1, sizeof file.bytes, stored);
+    fclose(stored);
+    compare_pairs(&file, &policy, read_policy(file.bytes, file.length, &policy).number == 0);
 }
 
 /* Whether every number was answered often, and sets came up often; prints how often. */
@@ -169,25 +186,27 @@ static int all_seen(void)
     printf("answers by number:");
     for (int number = 0; number < NUMBERS; number++) {
         printf(" %d:%lu", number, seen[number]);
-        all = all && seen[number] >= OFTEN;
+        all = all && (number == OF_LISTS || seen[number] >= OFTEN);
     }
     printf("\nfiles with an M: %lu; requests with two of its values or more: %lu,", came_up.files, came_up.sets);
     printf(" refused at an M: %lu, at a list of an A: %lu\n", came_up.bad_sets, came_up.bad_lists);
-    return all && came_up.files >= OFTEN && came_up.sets >= OFTEN
+    return pairs_seen() && all && came_up.files >= OFTEN && came_up.sets >= OFTEN
         && came_up.bad_sets >= OFTEN && came_up.bad_lists >= OFTEN;
 }
 
 int main(int count, char **words)
 {
-    if (count != 3) {
-        fprintf(stderr, "usage: compare SEED COUNT\n");
+    if (count < 3) {
+        fprintf(stderr, "usage: compare SEED COUNT [FILE ...]\n");
         return 2;
     }
     uint64_t seed = strtoull(words[1], NULL, 10), inputs = strtoull(words[2], NULL, 10);
     for (uint64_t i = 0; i < inputs; i++)
         compare_input(seed + i);
+    for (int i = 3; i < count; i++)
+        compare_stored(words[i]);
 
     int enough = all_seen() || inputs < MANY;
-    printf("%lu differences in %llu inputs\n", differences, (unsigned long long)inputs);
+    printf("%lu differences in %llu inputs and %d stored files\n", differences, (unsigned long long)inputs, count - 3);
     return differences != 0 || !enough;
 }

@@ -1,13 +1,22 @@
 /* Requests and decisions. */
 #include "reference.h"
 
-/* The first attribute weighs most. The number of a set is the sum of 2 to the power of each value's number, less 1. */
+const char *const decision_words[4] = {
+    [PERMIT] = "permit", [DENY] = "deny", [NOT_APPLICABLE] = "not-applicable", [INDETERMINATE] = "indeterminate",
+};
+
+/* The number of a set is the sum of 2 to the power of each value's number, less 1. */
+unsigned held_by(const struct attribute *attribute, int number)
+{
+    return attribute->letter == 'M' ? (unsigned)number + 1 : 1u << number;
+}
+
+/* The first attribute weighs most. */
 void values_of(const struct policy *policy, int request, unsigned held[ATTRIBUTES])
 {
     for (int i = policy->attributes - 1; i >= 0; i--) {
         const struct attribute *attribute = &policy->attribute[i];
-        unsigned number = (unsigned)(request % attribute->count);
-        held[i] = attribute->letter == 'M' ? number + 1 : 1u << number;
+        held[i] = held_by(attribute, request % attribute->count);
         request /= attribute->count;
     }
 }

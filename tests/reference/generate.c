@@ -48,6 +48,7 @@ static void name_of(struct style style, int number, char name[17])
 struct shape {
     int capitals; /* whether names may have them */
     int sets;     /* of four attributes so many are an M */
+    int few;      /* one M of two to four values, perhaps another attribute of two beside it */
     int attributes;
     char letter[8];
     int values[8];
@@ -87,6 +88,15 @@ static void choose_values(struct shape *shape)
     int space = 1, most = spaces[below(8)];
 
     shape->attributes = 0;
+    if (shape->few) {
+        int other = (int)below(5); /* first, behind, none */
+        shape->attributes = other < 2 ? 2 : 1;
+        for (int i = 0; i < shape->attributes; i++) {
+            shape->letter[i] = i == other && !one_in(3) ? 'A' : 'M';
+            shape->values[i] = i == other ? 2 : 2 + (int)below(3);
+        }
+        return;
+    }
     if (one_in(20)) {
         const int *edge = edges[below(sizeof edges / sizeof *edges)];
         for (int i = 0; i < 8 && edge[i] != 0; i++) {
@@ -251,6 +261,17 @@ void make_edge_file(struct bytes *file)
     }
 }
 
+void make_small_file(struct bytes *file)
+{
+    struct shape shape = {.few = 1, .stars = 0};
+
+    file->length = 0;
+    shape.capitals = !one_in(3);
+    shape.narrow = one_in(2);
+    make_attributes(file, &shape);
+    make_elements(file, &shape);
+}
+
 void make_file(struct bytes *file)
 {
     struct shape shape;
@@ -262,6 +283,7 @@ void make_file(struct bytes *file)
     file->length = 0;
     shape.capitals = !one_in(3);
     shape.sets = one_in(3) ? 0 : 1 + (int)below(4);
+    shape.few = 0;
     make_attributes(file, &shape);
     shape.stars = shape.attributes > 3 ? 5 + below(4) : below(7);
     shape.narrow = one_in(3);

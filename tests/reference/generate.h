@@ -32,10 +32,14 @@ uint32_t count_values(const struct bytes *text, size_t line, size_t line_length)
 
 /* generate.c */
 void make_file(struct bytes *file);
+void make_small_file(struct bytes *file); /* of an M with few values, whose pairs get many decisions; seldom refused */
 void make_edge_file(struct bytes *file); /* near 16,384 bytes, good but for its size */
 
 /* requests.c: a request line of the policy, or a bad one (of any policy, also one that was refused). */
 void make_request(struct bytes *request, const struct policy *policy, int good);
+
+/* given_names.c: the name of an attribute in other case or with a fault, or of another thing, or of nothing. */
+void make_name(struct bytes *name, const struct bytes *file);
 
 /* damage.c */
 void damage(struct bytes *file);

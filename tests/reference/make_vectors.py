@@ -135,7 +135,8 @@ def build(program, *parts):
 def lists_and_answers(scratch):
     """Lists for the writer, and the lines that must be printed of them."""
     program, lists, answers = (pathlib.Path(scratch) / name for name in ("make_lists", "lists", "answers"))
-    build(program, "make_lists", "lists", "generate", "requests", "damage", "sets", "letter_case", "text", "read", "write")
+    build(program, "make_lists", "lists", "generate", "requests", "damage", "sets", "letter_case", "text", "read", "write",
+          "output")
     subprocess.run([program, "1", str(LISTS), lists, answers], check=True, stdout=subprocess.DEVNULL)
     return lists.read_bytes(), answers.read_bytes()
 
@@ -144,7 +145,7 @@ def made():
     """Every file of the crate that is made here, with its bytes."""
     with tempfile.TemporaryDirectory() as scratch:
         program = f"{scratch}/reference_program"
-        build(program, "reference_program", "read", "decide", "trim", "report")
+        build(program, "reference_program", "read", "decide", "trim", "report", "output")
         add("report-of-65536-bytes", report_of(program, 65536))
         add("report-of-65537-bytes", report_of(program, 65537))
         add("report-far-too-long", far_too_long())

@@ -1,4 +1,4 @@
-/* Reference implementation of paper 01 with changes C-11 to C-13, written from the papers alone: plain code, for
+/* Reference implementation of paper 01 with changes C-11 to C-14, written from the papers alone: plain code, for
  * comparing with.
  *
  * Every function answers two numbers. `number` is 0 where the work was done, and `second` is then the result; any other
@@ -19,6 +19,9 @@ struct answer ref_trim(const uint8_t *file, size_t len, uint8_t *out, size_t roo
 
 /* `second` is the length of the report. Each conflict is shown by its lowest request. */
 struct answer ref_report(const uint8_t *file, size_t len, uint8_t *out, size_t room);
+
+/* `second` is the length of the D lines of the M attribute that is named. */
+struct answer ref_pairs(const uint8_t *file, size_t len, const uint8_t *name, size_t name_len, uint8_t *out, size_t room);
 
 /* What follows is for the reference's own files. */
 
@@ -78,12 +81,22 @@ unsigned mask_of_list(const struct attribute *attribute, struct slice field, int
 int parent_of(const struct policy *policy, int depth); /* the nearest earlier element of depth one less, or -1 */
 int well_placed(const struct policy *policy, char kind, int depth, int parent);
 
+/* output.c: a text grows (from all zeros) and is lent out only when it is whole, so that a refusal leaves the buffer as it
+ * was. Lending gives the text up and answers 0 or 11, with its length. */
+struct text { uint8_t *bytes; size_t length, room; };
+void put_bytes(struct text *text, const void *bytes, size_t length);
+void put_string(struct text *text, const char *string);
+void put_number(struct text *text, int number);
+struct answer lend_text(struct text *text, uint8_t *out, size_t room);
+
 /* decide.c: `held` has, for each attribute, a mask of the values that the request holds. It is never empty, and of an A
  * it has one value. */
+unsigned held_by(const struct attribute *attribute, int number); /* by a request with this number for the attribute */
 void values_of(const struct policy *policy, int request, unsigned held[ATTRIBUTES]);
 int applies(const struct policy *policy, int place, const unsigned held[ATTRIBUTES]);
 enum decision gives(const struct policy *policy, int place, const unsigned held[ATTRIBUTES]);
 void decide_space(const struct policy *policy, uint8_t decisions[SPACE]);
+extern const char *const decision_words[4];
 
 /* An element of the list that the writer takes. */
 struct record {
@@ -101,5 +114,10 @@ struct answer ref_write(struct slice lines, const struct record *list, size_t el
 /* trim.c */
 int first_change(struct policy *policy, int rule, const uint8_t decisions[SPACE]); /* the space if there is none */
 int strike_needless(struct policy *policy, const uint8_t decisions[SPACE], int order[ELEMENTS]);
+
+/* pairs.c */
+struct pair { int request; enum decision both, earlier, later; }; /* the request with both, and the three decisions */
+int set_named(const struct policy *policy, struct slice name); /* letter case aside; -1 if no M has the name */
+int pairs_of(const struct policy *policy, int attribute, struct pair line[SPACE]); /* that are listed, and how many */
 
 #endif

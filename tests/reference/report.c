@@ -1,44 +1,13 @@
 /* The report: segments (G), conflicts (C), struck rules (X) and kept rules (K). */
 #include "reference.h"
 
-#include <stdio.h>
-#include <stdlib.h>
-#include <string.h>
-
-/* The report grows here and is lent out only when it is whole: a refusal leaves the caller's buffer as it was. */
-struct text { uint8_t *bytes; size_t length, room; };
-
-static void put(struct text *text, const void *bytes, size_t length)
-{
-    if (text->length + length > text->room) {
-        text->room = 2 * (text->length + length);
-        text->bytes = realloc(text->bytes, text->room);
-        if (text->bytes == NULL)
-            abort();
-    }
-    memcpy(text->bytes + text->length, bytes, length);
-    text->length += length;
-}
-
-static void put_string(struct text *text, const char *string)
-{
-    put(text, string, strlen(string));
-}
-
-static void put_number(struct text *text, int number)
-{
-    char digits[16];
-    put(text, digits, (size_t)sprintf(digits, "%d", number));
-}
-
 static void put_name(struct text *text, const struct policy *policy, int place)
 {
-    put(text, policy->element[place].name.bytes, policy->element[place].name.length);
+    put_bytes(text, policy->element[place].name.bytes, policy->element[place].name.length);
 }
 
 static void put_segments(struct text *text, const struct policy *policy, const uint8_t decisions[SPACE])
 {
-    static const char *const decision_words[] = {"permit", "deny", "not-applicable", "indeterminate"};
     static uint64_t applying[SPACE]; /* for each request the elements that apply, bit 0 the first element */
     unsigned held[ATTRIBUTES];
 
@@ -161,9 +130,5 @@ struct answer ref_report(const uint8_t *file, size_t len, uint8_t *out, size_t r
     put_conflicts(&text, &policy);
     put_rules(&text, &policy, decisions); /* last: it strikes rules, and the rest is told of the whole file */
 
-    answer = (struct answer){text.length > room ? 11 : 0, (uint32_t)text.length};
-    if (answer.number == 0)
-        memcpy(out, text.bytes, text.length);
-    free(text.bytes);
-    return answer;
+    return lend_text(&text, out, room);
 }

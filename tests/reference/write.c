@@ -1,22 +1,8 @@
 /* Writing a policy file: the attribute lines as bytes, and a list of elements. */
 #include "reference.h"
 
+#include <stdlib.h>
 #include <string.h>
-
-/* What does not fit into a file is counted only. */
-struct text { size_t length; uint8_t bytes[FILE_BYTES]; };
-
-static void put(struct text *text, const void *bytes, size_t length)
-{
-    if (text->length + length <= FILE_BYTES)
-        memcpy(text->bytes + text->length, bytes, length);
-    text->length += length;
-}
-
-static void put_string(struct text *text, const char *string)
-{
-    put(text, string, strlen(string));
-}
 
 /* The attribute lines are tested as a file's lines are, but that a tree line among them, were it ever so good, is 6.
  * No other element stands before the first tree line, so of its tests only 2 and 3 come before 6. */
@@ -86,7 +72,7 @@ static void put_target(struct text *text, const struct policy *policy, int attri
         if (mask >> value & 1) {
             struct slice name = policy->attribute[attribute].value[value];
             put_string(text, before);
-            put(text, name.bytes, name.length);
+            put_bytes(text, name.bytes, name.length);
             before = ",";
         }
 }
@@ -95,8 +81,8 @@ static void put_line(struct text *text, const struct policy *policy, const struc
 {
     char start[] = {record->kind, '\t', (char)('0' + record->depth), '\t'};
 
-    put(text, start, sizeof start);
-    put(text, record->name, record->length);
+    put_bytes(text, start, sizeof start);
+    put_bytes(text, record->name, record->length);
     put_string(text, "\t");
     put_string(text, words[record->word].text);
     for (int i = 0; i < policy->attributes; i++) {
@@ -109,26 +95,26 @@ static void put_line(struct text *text, const struct policy *policy, const struc
 struct answer ref_write(struct slice lines, const struct record *list, size_t elements, uint8_t *out, size_t room)
 {
     struct policy policy;
-    struct text text = {.length = 0};
+    struct text text = {NULL, 0, 0};
 
     struct answer answer = read_attribute_lines(lines, &policy);
     if (answer.number != 0)
         return answer;
-    put(&text, lines.bytes, lines.length);
     for (size_t i = 0; i < elements; i++) {
         uint32_t refusal = test_record(&policy, &list[i]);
         if (refusal != 0)
             return (struct answer){refusal, (uint32_t)(policy.attributes + i + 1)};
         policy.element[policy.elements++] = (struct element){
             .kind = list[i].kind, .depth = list[i].depth, .name = {list[i].name, list[i].length}};
-        put_line(&text, &policy, &list[i]);
     }
     if (elements == 0)
         return (struct answer){9, 0};
-    if (text.length > FILE_BYTES)
+    put_bytes(&text, lines.bytes, lines.length);
+    for (size_t i = 0; i < elements; i++)
+        put_line(&text, &policy, &list[i]);
+    if (text.length > FILE_BYTES) {
+        free(text.bytes);
         return (struct answer){1, 0};
-    if (text.length > room)
-        return (struct answer){11, (uint32_t)text.length};
-    memcpy(out, text.bytes, text.length);
-    return (struct answer){0, (uint32_t)text.length};
+    }
+    return lend_text(&text, out, room);
 }

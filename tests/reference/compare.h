@@ -1,0 +1,27 @@
+/* What compare.c has for each operation that fills a lent buffer. */
+#ifndef COMPARE_H
+#define COMPARE_H
+
+#include "generate.h"
+#include "jogimaduve.h"
+
+enum { MANY = 10000, OFTEN = 100 }; /* of so many inputs, each kind comes up so often */
+
+typedef struct answer reference_text(const uint8_t *file, size_t length, uint8_t *out, size_t room);
+typedef jogimaduve_answer library_text(const uint8_t *file, size_t length, uint8_t *out, size_t room);
+
+extern unsigned long differences;
+void show_bytes(const char *what, const uint8_t *bytes, size_t length);
+uint8_t *exactly(const uint8_t *bytes, size_t length); /* to be freed */
+
+/* In a buffer of the first room and, where that gives a text or 11, in up to so many others around what is needed.
+ * Gives the first answer. */
+struct answer compare_rooms(const char *what, const struct bytes *file, size_t most_rooms, size_t first_room,
+                            reference_text *reference, library_text *library);
+
+/* compare_pairs.c */
+void compare_pairs(const struct bytes *file, const struct policy *policy, int accepted);
+void compare_small_files(void); /* whose pairs get decisions that they seldom get in larger ones */
+int pairs_seen(void); /* whether each kind came up often; prints how often */
+
+#endif
