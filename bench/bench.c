@@ -10,8 +10,9 @@
 #include <string.h>
 #include <time.h>
 
-/* Refusing a file is the same for all three; it is measured by decide. */
-enum operation { DECIDE, TRIM, REPORT, REFUSE, OPERATIONS };
+/* Pairs of values are listed for the first M, and not for a file without one. Refusing a file is the same for all four;
+ * it is measured by decide. */
+enum operation { DECIDE, TRIM, REPORT, PAIRS, REFUSE, OPERATIONS };
 
 enum { ROUNDS = 7, TEXT_BYTES = 6 << 20 };
 
@@ -20,15 +21,16 @@ static const double round_seconds = 0.02, most_seconds = 0.4; /* of a round; of 
 struct side {
     jogimaduve_answer (*decide)(const uint8_t *, size_t, const uint8_t *, size_t);
     jogimaduve_answer (*text[2])(const uint8_t *, size_t, uint8_t *, size_t); /* trim, report */
+    jogimaduve_answer (*pairs)(const uint8_t *, size_t, const uint8_t *, size_t, uint8_t *, size_t);
     uint8_t *buffer;
 };
 
 static uint8_t library_text[TEXT_BYTES], plain_text[TEXT_BYTES];
 static const struct side sides[2] = {
-    {jogimaduve_decide, {jogimaduve_trim, jogimaduve_report}, library_text},
-    {plain_decide, {plain_trim, plain_report}, plain_text},
+    {jogimaduve_decide, {jogimaduve_trim, jogimaduve_report}, jogimaduve_value_pairs, library_text},
+    {plain_decide, {plain_trim, plain_report}, plain_value_pairs, plain_text},
 };
-static const char *const operation_names[OPERATIONS] = {"decide", "trim", "report", "refuse"};
+static const char *const operation_names[OPERATIONS] = {"decide", "trim", "report", "pairs", "refuse"};
 
 static volatile uint32_t seen; /* keeps calls from being left out */
 
@@ -42,6 +44,8 @@ static jogimaduve_answer call(const struct side *side, const struct policy_file 
     if (operation == DECIDE)
         return side->decide(file->bytes, file->length, file->request[number % file->requests],
                             file->request_length[number % file->requests]);
+    if (operation == PAIRS)
+        return side->pairs(file->bytes, file->length, file->sets, file->sets_length, side->buffer, TEXT_BYTES);
     return side->text[operation - TRIM](file->bytes, file->length, side->buffer, TEXT_BYTES);
 }
 
@@ -128,7 +132,7 @@ int main(void)
     printf("%-20s %6s  %-7s %14s %14s %9s\n", "file", "bytes", "", "library, us", "plain C, us", "ratio");
     for (unsigned number = 0; make_file(&file, number); number++)
         for (int operation = 0; operation < OPERATIONS; operation++) {
-            if ((operation == REFUSE) != (file.requests == 0))
+            if ((operation == REFUSE) != (file.requests == 0) || (operation == PAIRS && file.sets_length == 0))
                 continue;
             double ratio = compare(&file, operation);
             if (ratio > largest[operation])

@@ -25,6 +25,10 @@ void attribute(struct policy_file *file, struct shape *shape, char letter, const
 
     shape->values[attribute] = count;
     shape->letter[attribute] = letter;
+    if (letter == 'M' && file->sets_length == 0) {
+        file->sets_length = strlen(name);
+        memcpy(file->sets, name, file->sets_length);
+    }
     put(file, start);
     put(file, name);
     for (unsigned i = 0; i < count; i++) {
@@ -35,24 +39,30 @@ void attribute(struct policy_file *file, struct shape *shape, char letter, const
     put(file, "\n");
 }
 
+void numbered_attribute(struct policy_file *file, struct shape *shape, char letter, unsigned values)
+{
+    unsigned number = shape->attributes;
+    char name[17], text[16][17];
+    const char *pointers[16];
+
+    snprintf(name, sizeof name, shape->long_names ? "attribute-no-%03u" : "a%u", number % 1000);
+    for (unsigned i = 0; i < values; i++) {
+        if (shape->long_names)
+            snprintf(text[i], sizeof text[i], "value-%03u-of-%03u", i % 1000, number % 1000);
+        else
+            snprintf(text[i], sizeof text[i], "%c%c", (char)('a' + number), (char)('a' + i));
+        pointers[i] = text[i];
+    }
+    attribute(file, shape, letter, name, pointers, values);
+}
+
 void even_space(struct policy_file *file, struct shape *shape, char letter, unsigned attributes, unsigned values,
                 int long_names)
 {
     memset(shape, 0, sizeof *shape);
     shape->long_names = long_names;
-    for (unsigned i = 0; i < attributes; i++) {
-        char name[17], text[16][17];
-        const char *pointers[16];
-        snprintf(name, sizeof name, long_names ? "attribute-no-%03u" : "a%u", i);
-        for (unsigned j = 0; j < values; j++) {
-            if (long_names)
-                snprintf(text[j], sizeof text[j], "value-%03u-of-%03u", j % 1000, i % 1000);
-            else
-                snprintf(text[j], sizeof text[j], "%c%c", (char)('a' + i), (char)('a' + j));
-            pointers[j] = text[j];
-        }
-        attribute(file, shape, letter, name, pointers, values);
-    }
+    for (unsigned i = 0; i < attributes; i++)
+        numbered_attribute(file, shape, letter, values);
 }
 
 /* A tree line. A mask of 0 or of all values is written `*`. */

@@ -19,7 +19,10 @@ void put(struct policy_file *file, const char *bytes);
 void attribute(struct policy_file *file, struct shape *shape, char letter, const char *name,
                const char *const *values, unsigned count);
 
-/* Attributes of one letter and equally many values, with names of 16 bytes or short ones. */
+/* An attribute behind those that the shape has; its names are of 16 bytes or short ones, as the shape says. */
+void numbered_attribute(struct policy_file *file, struct shape *shape, char letter, unsigned values);
+
+/* Attributes of one letter and equally many values, and none before. */
 void even_space(struct policy_file *file, struct shape *shape, char letter, unsigned attributes, unsigned values,
                 int long_names);
 

@@ -190,6 +190,20 @@ static void sets(struct policy_file *file, struct shape *shape, unsigned attribu
     }
 }
 
+/* As many lines for pairs of values as there can be, and long ones: each value has a policy, and only one may apply. */
+static void every_pair(struct policy_file *file, struct shape *shape)
+{
+    even_space(file, shape, 'M', 1, 3, 0);
+    numbered_attribute(file, shape, 'A', 13);
+    numbered_attribute(file, shape, 'A', 9);
+    numbered_attribute(file, shape, 'A', 5);
+    numbered(file, shape, 'S', 0, 0, "only-one-applicable", everything);
+    for (unsigned i = 0; i < 3; i++) {
+        unsigned policy[6] = {1u << i};
+        numbered(file, shape, 'P', 1, i + 1, "deny-overrides", policy);
+    }
+}
+
 /* Refused at the last line, or for an attribute of some thousand values. */
 
 static void bad_last_target(struct policy_file *file, struct shape *shape)
@@ -224,7 +238,7 @@ int make_file(struct policy_file *file, unsigned number)
         "badge-12", "badge-25-deny", "badge-25-permit", "badge-25-first", "badge-25-only-one",
         "largest", "long-lists",
         "flat-deny", "flat-permit", "flat-first", "all-needed", "none-needed-first", "none-needed-permit",
-        "needless-first", "deep", "only-one", "many-policies", "sets-of-12", "sets-of-6-and-6",
+        "needless-first", "deep", "only-one", "many-policies", "sets-of-12", "sets-of-6-and-6", "every-pair",
         "refused-target", "refused-name", "refused-values",
     };
     enum { FILES = sizeof names / sizeof *names };
@@ -235,6 +249,7 @@ int make_file(struct policy_file *file, unsigned number)
     file->name = names[number];
     file->length = 0;
     file->requests = 0;
+    file->sets_length = 0;
     switch (number) {
     case 0: small_laboratory(file, &shape, 'A'); break;
     case 1: case 2: case 3: case 4: common_laboratory(file, &shape, 'A', algorithms[number - 1]); break;
@@ -253,11 +268,12 @@ int make_file(struct policy_file *file, unsigned number)
     case 22: many_policies(file, &shape); break;
     case 23: sets(file, &shape, 1, 12); break;
     case 24: sets(file, &shape, 2, 6); break;
-    case 25: bad_last_target(file, &shape); break;
-    case 26: name_again(file, &shape); break;
+    case 25: every_pair(file, &shape); break;
+    case 26: bad_last_target(file, &shape); break;
+    case 27: name_again(file, &shape); break;
     default: many_values(file, &shape); break;
     }
-    if (number < 25)
+    if (number < 26)
         make_requests(file, &shape);
     return 1;
 }

@@ -6,7 +6,7 @@
 #include <stdint.h>
 
 /* The longest request has all values of an M of twelve. */
-enum { REQUESTS = 8, REQUEST_BYTES = (12 + 5) * 17, MOST_FILE_BYTES = 16384 };
+enum { REQUESTS = 8, REQUEST_BYTES = (12 + 5) * 17, MOST_FILE_BYTES = 16384, MOST_NAME_BYTES = 16 };
 
 struct policy_file {
     const char *name;
@@ -15,6 +15,8 @@ struct policy_file {
     unsigned requests; /* 0 for a file that is refused */
     size_t request_length[REQUESTS];
     uint8_t request[REQUESTS][REQUEST_BYTES];
+    size_t sets_length; /* 0 for a file without an M */
+    uint8_t sets[MOST_NAME_BYTES]; /* name of the first M */
 };
 
 /* 0 if there are not so many. */
