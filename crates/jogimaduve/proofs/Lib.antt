@@ -1,5 +1,6 @@
 -- Laws that the proofs of the operations cite; those of a policy's shape serve the vectors program too.
 mod Deciding
+mod Refusing
 pub mod Shaping
 mod Trimming
 mod Operate

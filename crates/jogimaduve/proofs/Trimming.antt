@@ -22,22 +22,11 @@ use Rattle.trimmed_text.proofs.Trimmed.{trimmed-flags}
 use Rattle.trimmed_text.proofs.Tabled.{trimming-is}
 use Rattle.trimmed_text.proofs.Placed.{text-copied}
 use Rattle.reader.specs.declared.Reading.{Reading}
-use Rattle.reader.specs.Told.{policyShape, ReadPolicy, ReadAs}
-use Rattle.reader.proofs.FileRead.{file-refused, elements-are, few}
+use Rattle.reader.specs.Told.{policyShape, ReadPolicy}
+use Rattle.reader.proofs.FileRead.{elements-are, few}
 use Rattle.outcomes.specs.Decided.{none-struck}
 use Rattle.reporting.proofs.StruckText.{none-clear}
-use Rattle.jogimaduve.specs.Told.{told}
 use Rattle.jogimaduve.proofs.Shaping.{attributes-are, hits-are, space-is}
-
--- A file that is refused
-module _ (f table places : List ℕ) (r : Reading) (is-read : ReadAs f table places r (read f)) (out : Bytes) (h : r .number ≡ 0 → ⊥) where
-  pub refusal-answered : told (r .number) (r .second) ≡ trimAnswer f out
-  unfolding trimFile
-  refusal-answered = rw (file-refused f table places r is-read h)
-
-  pub refusal-lent : out ≡ trimLent f out
-  unfolding trimFile
-  refusal-lent = rw (file-refused f table places r is-read h)
 
 -- A file that was read is short, and so is a part of it
 pub small-text : (f : Bytes) (p : Policy) (h : read f ≡ given p) (needed : ℕ) → needed ≤ length f → needed < 4294967296

@@ -2,7 +2,7 @@
 use mathlib.Core.Path.{_≡_, subst}
 use mathlib.Core.Logic.{_≢_}
 use Prim.Native.Nat.{ℕ, _+_, _-_, _*_, _/_, _%_, _≤_, _<_}
-use native.Mathlib.Nat.{le-trans, suc-mul, mul-assoc, mul-comm, mul-le-mul-right, mod-le}
+use native.Mathlib.Nat.{le-trans, suc-mul, mul-assoc, mul-comm, mul-le-mul-right, mod-le, mod-lt}
 use native.Mathlib.Omega.{arith}
 use mathlib.Core.Bool.{true, false, _&&_}
 use mathlib.Core.List.{List, []}
@@ -17,6 +17,7 @@ use Rattle.printing.specs.Decisions.{decisionFrom}
 use Rattle.printing.proofs.Laws.{then, nothing}
 use Rattle.printing.proofs.LineFields.{field, last, five}
 use Rattle.value_pairs.specs.Lines.{laterBit, pairLine, valueLines, runLines}
+use Rattle.value_pairs.proofs.SetBits.{bits-below}
 
 -- a request with both values
 module _ (decided : List ℕ) (low high n : ℕ) where
@@ -58,19 +59,26 @@ module _ (decided : List ℕ) (size behind run : ℕ) where
   unfolding runLines
   a-pair high e some w = rw (← e, ne-eqb high 0 some) w
 
--- Room: a run of those that make the space
-module _ (behind runs run : ℕ) (all : runs * behind ≤ 4096) where
-  pub run-room : run < runs → run * behind + behind ≤ 4096
-  run-room l = le-trans (omega (arith, suc-mul run behind)) (le-trans (mul-le-mul-right behind l) all)
+-- Room: the text of the runs so far, of those that make the space
+pub text-room : (behind runs run : ℕ) → runs * behind ≤ 4096 → run ≤ runs → 500 * behind * (run - 0) ≤ 2048000
+text-room behind runs run all l =
+    let part : run * behind ≤ 4096 = le-trans (mul-le-mul-right behind l) all in
+    let whole : run - 0 ≡ run = omega arith in
+    rw whole (omega (arith, part, mul-assoc 500 behind run, mul-comm behind run))
 
-  -- what is at most the run's set times those behind
-  pub bit-room : run < runs → (size k : ℕ) → k ≤ run % size → (k * behind ≤ run * behind) × (k * behind < 4097)
-  bit-room l size k below =
-      let most = mul-le-mul-right behind (le-trans below (mod-le run size)) in
-      (most, omega (arith, most, run-room l))
+-- and a run whose set has two values: its requests lie in the space, and those with one value alone no farther back than it starts
+pub record PairRoom (size behind run high : ℕ) : Type 0 where
+  pub in-set : high ≤ run % size
+  pub inside : run * behind + behind ≤ 4096
+  pub low-back : (run % size + 1 - high) * behind ≤ run * behind
+  pub high-back : high * behind ≤ run * behind
 
-  pub text-room : run ≤ runs → 500 * behind * (run - 0) ≤ 2048000
-  text-room l =
-      let part : run * behind ≤ 4096 = le-trans (mul-le-mul-right behind l) all in
-      let whole : run - 0 ≡ run = omega arith in
-      rw whole (omega (arith, part, mul-assoc 500 behind run, mul-comm behind run))
+pub pair-room : (size behind runs run high : ℕ) → 1 ≤ size → size ≤ 4095 → runs * behind ≤ 4096 → run < runs → high ≡ laterBit (members (run % size + 1 - 1)) → high ≢ 0 → PairRoom size behind run high
+pair-room size behind runs run high some few all l is two =
+    let (in-set, low) = bits-below (run % size) high (omega (arith, mod-lt run some, few)) is two in
+    record {
+      in-set = in-set;
+      inside = le-trans (omega (arith, suc-mul run behind)) (le-trans (mul-le-mul-right behind l) all);
+      low-back = mul-le-mul-right behind (le-trans low (mod-le run size));
+      high-back = mul-le-mul-right behind (le-trans in-set (mod-le run size));
+    }

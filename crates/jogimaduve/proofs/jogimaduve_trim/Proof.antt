@@ -3,9 +3,11 @@ use mathlib.Core.Path.{refl, sym, _∙_}
 use native.Mathlib.Omega.{arith}
 use lib.Seq.{length-take-le}
 use Rattle.printing.proofs.Fitting.{written}
+use Rattle.meaning.specs.Report.{trimFile}
 use Rattle.reader.proofs.FileRead.{small-numbers, file-read}
+use Rattle.jogimaduve.proofs.Refusing.{refusal}
 use Rattle.jogimaduve.proofs.Shaping.{sizable, ready, copies}
-use Rattle.jogimaduve.proofs.Trimming.{refusal-answered, refusal-lent, small-text, trim-fitted}
+use Rattle.jogimaduve.proofs.Trimming.{small-text, trim-fitted}
 use borrow.Author.Needs.{needs}
 use Rattle.jogimaduve.proofs.jogimaduve_trim.Statement.{statement}
 use Rattle.jogimaduve.proofs.jogimaduve_trim.Tie as tie
@@ -14,10 +16,10 @@ refusal-requires : tie.Need-refusal-requires
 refusal-requires c κs = small-numbers _ _ _ _ (c .before .before .before .before .read .ensures .answer) (c .if1 .taken)
 
 returns : tie.Need-returns
+unfolding trimFile
 returns c =
-    let is-read = c .before .before .before .before .before .read .ensures .answer in
-    let out = c .before .before .before .before .before .before .before .before .before .before .args .out .now in
-    (c .refusal .ensures ∙ refusal-answered _ _ _ _ is-read out (c .before .if1 .taken), refusal-lent _ _ _ _ is-read out (c .before .if1 .taken))
+    let (answer, buffer) = refusal _ _ _ _ (c .before .before .before .before .before .read .ensures .answer) (c .before .if1 .taken) (c .before .before .before .before .before .before .before .before .before .before .args .out .now) _ in
+    (c .refusal .ensures ∙ answer, buffer)
 
 policy-shape-requires : tie.Need-policy-shape-requires
 policy-shape-requires c κs =

@@ -1,8 +1,10 @@
 -- `jogimaduve_value_pairs` meets its contract: the file's refusal, or what telling the pairs of a name gives.
 use mathlib.Core.Path.{_∙_}
+use Rattle.meaning.specs.ValuePairs.{valuePairsFile}
 use Rattle.reader.proofs.FileRead.{small-numbers, file-read}
+use Rattle.jogimaduve.proofs.Refusing.{refusal}
 use Rattle.jogimaduve.proofs.Shaping.{sizable}
-use Rattle.jogimaduve.proofs.Pairing.{refusal-answered, refusal-lent, held}
+use Rattle.jogimaduve.proofs.Pairing.{held}
 use borrow.Author.Needs.{needs}
 use Rattle.jogimaduve.proofs.jogimaduve_value_pairs.Statement.{statement}
 use Rattle.jogimaduve.proofs.jogimaduve_value_pairs.Tie as tie
@@ -11,10 +13,10 @@ refusal-requires : tie.Need-refusal-requires
 refusal-requires c κs = small-numbers _ _ _ _ (c .before .before .before .before .read .ensures .answer) (c .if1 .taken)
 
 returns : tie.Need-returns
+unfolding valuePairsFile
 returns c =
-    let is-read = c .before .before .before .before .before .read .ensures .answer in
-    let args = c .before .before .before .before .before .before .before .before .before .before .before .args in
-    (c .refusal .ensures ∙ refusal-answered _ _ _ _ is-read (args .attribute .now) (args .out .now) (c .before .if1 .taken), refusal-lent _ _ _ _ is-read (args .attribute .now) (args .out .now) (c .before .if1 .taken))
+    let (answer, buffer) = refusal _ _ _ _ (c .before .before .before .before .before .read .ensures .answer) (c .before .if1 .taken) (c .before .before .before .before .before .before .before .before .before .before .before .args .out .now) _ in
+    (c .refusal .ensures ∙ answer, buffer)
 
 policy-shape-requires : tie.Need-policy-shape-requires
 policy-shape-requires c κs =

@@ -6,8 +6,8 @@ use native.Mathlib.Omega.{arith}
 use borrow.Author.Needs.{needs}
 use Rattle.printing.proofs.Walks.{Sofar, begun, stored, passed-over, ended-all}
 use Rattle.value_pairs.specs.Lines.{runLines, pairLines}
-use Rattle.value_pairs.proofs.SetBits.{this-set, bits-below}
-use Rattle.value_pairs.proofs.PairTexts.{no-pair, a-pair, run-room, bit-room, text-room}
+use Rattle.value_pairs.proofs.SetBits.{this-set}
+use Rattle.value_pairs.proofs.PairTexts.{no-pair, a-pair, text-room, pair-room}
 use Rattle.value_pairs.proofs.put_pairs.Statement.{statement}
 use Rattle.value_pairs.proofs.put_pairs.Tie as tie
 
@@ -42,39 +42,36 @@ sub-low : tie.Need-sub-low Inv-loop μ-loop
 sub-low c =
     let start = c .before .before .before .before .before in
     let l = c .before .before .before .loop in
-    let below = bits-below (l .run % start .args .size) _ (omega (arith, mod-lt (l .run) (start .pre .0), start .pre .1)) (c .before .later-bit .ensures) (c .if1 .left) in
-    omega (arith, below .0)
+    let room = pair-room (start .args .size) (start .args .behind) (start .args .runs) (l .run) _ (start .pre .0) (start .pre .1) (start .pre .2) (c .before .before .loop-test .taken) (c .before .later-bit .ensures) (c .if1 .left) in
+    omega (arith, room .in-set)
 
 mul-put-values : tie.Need-mul-put-values Inv-loop μ-loop
 mul-put-values c =
     let start = c .before .before .before .before .before in
-    omega (arith, run-room (start .args .behind) (start .args .runs) (c .before .before .before .loop .run) (start .pre .2) (c .before .before .loop-test .taken))
+    let l = c .before .before .before .loop in
+    let room = pair-room (start .args .size) (start .args .behind) (start .args .runs) (l .run) _ (start .pre .0) (start .pre .1) (start .pre .2) (c .before .before .loop-test .taken) (c .before .later-bit .ensures) (c .if1 .left) in
+    omega (arith, room .inside)
 
 mul-put-values-2 : tie.Need-mul-put-values-2 Inv-loop μ-loop
 mul-put-values-2 c =
     let start = c .before .before .before .before .before in
     let l = c .before .before .before .loop in
-    let below = bits-below (l .run % start .args .size) _ (omega (arith, mod-lt (l .run) (start .pre .0), start .pre .1)) (c .before .later-bit .ensures) (c .if1 .left) in
-    omega (arith, bit-room (start .args .behind) (start .args .runs) (l .run) (start .pre .2) (c .before .before .loop-test .taken) (start .args .size) _ (below .1))
+    let room = pair-room (start .args .size) (start .args .behind) (start .args .runs) (l .run) _ (start .pre .0) (start .pre .1) (start .pre .2) (c .before .before .loop-test .taken) (c .before .later-bit .ensures) (c .if1 .left) in
+    omega (arith, room .low-back, room .inside)
 
 mul-put-values-3 : tie.Need-mul-put-values-3 Inv-loop μ-loop
 mul-put-values-3 c =
     let start = c .before .before .before .before .before in
     let l = c .before .before .before .loop in
-    let below = bits-below (l .run % start .args .size) _ (omega (arith, mod-lt (l .run) (start .pre .0), start .pre .1)) (c .before .later-bit .ensures) (c .if1 .left) in
-    omega (arith, bit-room (start .args .behind) (start .args .runs) (l .run) (start .pre .2) (c .before .before .loop-test .taken) (start .args .size) _ (below .0))
+    let room = pair-room (start .args .size) (start .args .behind) (start .args .runs) (l .run) _ (start .pre .0) (start .pre .1) (start .pre .2) (c .before .before .loop-test .taken) (c .before .later-bit .ensures) (c .if1 .left) in
+    omega (arith, room .high-back, room .inside)
 
 put-values-requires : tie.Need-put-values-requires Inv-loop μ-loop
 put-values-requires c κs =
     let start = c .before .before .before .before .before .before in
     let l = c .before .before .before .before .loop in
-    let below = bits-below (l .run % start .args .size) _ (omega (arith, mod-lt (l .run) (start .pre .0), start .pre .1)) (c .before .before .later-bit .ensures) (c .before .if1 .left) in
-    let room = run-room (start .args .behind) (start .args .runs) (l .run) (start .pre .2) (c .before .before .before .loop-test .taken) in (
-      room,
-      bit-room (start .args .behind) (start .args .runs) (l .run) (start .pre .2) (c .before .before .before .loop-test .taken) (start .args .size) _ (below .1) .0,
-      bit-room (start .args .behind) (start .args .runs) (l .run) (start .pre .2) (c .before .before .before .loop-test .taken) (start .args .size) _ (below .0) .0,
-      omega (arith, l .inv .1 .within, text-room (start .args .behind) (start .args .runs) (l .run) (start .pre .2) (l .inv .0), start .pre .3),
-    )
+    let room = pair-room (start .args .size) (start .args .behind) (start .args .runs) (l .run) _ (start .pre .0) (start .pre .1) (start .pre .2) (c .before .before .before .loop-test .taken) (c .before .before .later-bit .ensures) (c .before .if1 .left) in
+    (room .inside, room .low-back, room .high-back, omega (arith, l .inv .1 .within, text-room (start .args .behind) (start .args .runs) (l .run) (start .pre .2) (l .inv .0), start .pre .3))
 
 loop-again-2 : tie.Need-loop-again-2 Inv-loop μ-loop
 loop-again-2 c =
