@@ -20,6 +20,7 @@ use Rattle.laws.proofs.Text.{Frees, cut-join}
 use Rattle.laws.proofs.Names.{name-refl, equal-names}
 use Rattle.laws.proofs.Reading.{refused-given, given-given}
 use Rattle.laws.proofs.Requests.{Fits, number-request, request-number, next-request, earlier-lower}
+use Rattle.laws.proofs.Carrying.{stepped-next, one-higher, from-last}
 use Rattle.laws.proofs.Bounds.{bounded}
 use Rattle.laws.proofs.Chosen.{field-free, named-chosen, chosen-named, value-chosen, none-chosen}
 use Rattle.laws.proofs.Choices.{counted}
@@ -110,9 +111,12 @@ module _ (attrs : List Attribute) (some-attribute : 1 ≤ length attrs) (good : 
         counted = counted attrs good;
         number-again = λ n l. let (a, b) = number-request ss n some-values l in (b, a);
         request-again = λ q f. let (a, b) = request-number ss q some-values f in (b, a);
-        next-fits = λ q. next-request ss q some-values .1;
         rising = λ q r f g e. earlier-lower ss q r some-values f g e;
         next-number = λ q. next-request ss q some-values .0;
+        next-fits = λ q. next-request ss q some-values .1;
+        steps = stepped-next ss;
+        one-higher = λ n l. one-higher ss n some-values l;
+        from-last = λ n e. from-last ss n some-values e;
         to-line = λ q f. from-names (requestText attrs q) q f (own-names q f);
         by-line = λ r q. (λ e. (line-fits attrs r q e, to-names r q e), λ (f, p). from-names r q f p);
         wrong-count = λ r e. rw (ne-eqb (length (cut tab r)) (length attrs) e);

@@ -5,3 +5,4 @@ pub mod Capitals
 pub mod Conflicts
 pub mod Sets
 pub mod ValuePairs
+pub mod Stepping

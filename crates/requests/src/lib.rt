@@ -50,7 +50,7 @@ impl Request {
         total
     }
 
-    // The next request in number order, the first one behind the last: the last attribute changes first.
+    // The next request in number order, the first one behind the last, by quotient and remainder over the counts.
     pub fn next(self, counts: [usize; 6]) -> Request
         requires { ⌜ Fitting counts self ⌝ }
         ensures { λ r. ⌜ (r ≡ revalued self (nextRequest (take (self .len) counts) (valuesOf self))) × Fitting counts r ⌝ }
@@ -58,19 +58,17 @@ impl Request {
         let several = self.several;
         let mut values = self.values;
         let len = self.len;
+        let mut carry: u32 = 1;
         let mut i = len;
         while 0 < i {
             i -= 1;
-            let v = values[i];
-            if v + 1 < counts[i] {
-                values[i] = v + 1;
-                return Request {
-                    several,
-                    values,
-                    len,
-                };
-            }
-            values[i] = 0;
+            // of 32 bits, and one above the last number: so the compiler needs no test of how large the numbers are, nor
+            // whether it divides by 0
+            let last = (counts[i] - 1) as u32;
+            let count = last + 1;
+            let sum = values[i] as u32 + carry;
+            values[i] = (sum % count) as usize;
+            carry = sum / count;
         }
         Request {
             several,

@@ -7,7 +7,7 @@ use mathlib.Core.List.{List, [], _∷_, map, List·Memᴰ}
 use lib.ListN.{length, getD}
 use Rattle.meaning.specs.Text.{Bytes, cut, join, tab, comma}
 use Rattle.meaning.specs.Model.{Attribute, Element, Policy, choices, sizes, space, refused, given}
-use Rattle.meaning.specs.Deciding.{Request, numberOf, requestOf, nextRequest, requestLine, members, hits}
+use Rattle.meaning.specs.Deciding.{Request, numberOf, requestOf, nextRequest, stepped, requestLine, members, hits}
 use Rattle.meaning.specs.Claims.Texts.{Paired, EqualNames}
 use Rattle.meaning.specs.Claims.PolicyFile.{marksMask}
 use Rattle.meaning.specs.Claims.Sets.{SetOf, setNumber}
@@ -59,7 +59,8 @@ ValueAt (a ∷ attrs) (f ∷ fs) zero = IsValue a f
 ValueAt (a ∷ attrs) (f ∷ fs) (suc i) = ValueAt attrs fs i
 
 -- An attribute counts just the numbers of its values, or of their sets. Numbers below the space and requests, one for the
--- other, in order; the lines that name each of them, and 10 for any other
+-- other, in order; the step by quotient and remainder is the next request: from each but the last the one numbered one
+-- higher, from the last request 0; the lines that name each of them, and 10 for any other
 pub record Numbered (attrs : List Attribute) : Type 0 where
   pub counted : (a : Attribute) → List·Memᴰ a attrs → (v : ℕ) → (v < choices a) ↔ ((vs : List ℕ) × Numbers a v vs)
   pub number-again : (n : ℕ) → n < space attrs → Fits (sizes attrs) (requestOf (sizes attrs) n) × (numberOf (sizes attrs) (requestOf (sizes attrs) n) ≡ n)
@@ -67,6 +68,9 @@ pub record Numbered (attrs : List Attribute) : Type 0 where
   pub rising : (q r : Request) → Fits (sizes attrs) q → Fits (sizes attrs) r → Earlier q r → numberOf (sizes attrs) q < numberOf (sizes attrs) r
   pub next-number : (q : Request) → numberOf (sizes attrs) (nextRequest (sizes attrs) q) ≡ (numberOf (sizes attrs) q + 1) % space attrs
   pub next-fits : (q : Request) → Fits (sizes attrs) (nextRequest (sizes attrs) q)
+  pub steps : (q : Request) → Fits (sizes attrs) q → stepped (sizes attrs) q ≡ nextRequest (sizes attrs) q
+  pub one-higher : (n : ℕ) → n + 1 < space attrs → stepped (sizes attrs) (requestOf (sizes attrs) n) ≡ requestOf (sizes attrs) (n + 1)
+  pub from-last : (n : ℕ) → n + 1 ≡ space attrs → stepped (sizes attrs) (requestOf (sizes attrs) n) ≡ requestOf (sizes attrs) 0
   pub to-line : (q : Request) → Fits (sizes attrs) q → requestLine attrs (requestText attrs q) ≡ given q
   pub by-line : (r : Bytes) (q : Request) → requestLine attrs r ≡ given q ↔ (Fits (sizes attrs) q × NamesRequest attrs r q)
   pub wrong-count : (r : Bytes) → length (cut tab r) ≢ length attrs → requestLine attrs r ≡ refused 10 0

@@ -1,93 +1,75 @@
--- `Request::next`: the values behind the place looked at were the last ones, and are 0. Assumes nothing.
-use Prim.Native.Nat.{_+_, _-_, _≤_, _<_}
-use mathlib.Core.Path.{_≡_, refl, _∙_}
+-- `Request::next`: the values passed are the step's, and what they carry on is carried. Assumes nothing.
+use Prim.Native.Nat.{ℕ, _+_, _-_, _/_, _%_, _≤_, _<_}
+use mathlib.Core.Path.{_≡_, refl, _∙_, subst}
 use native.Mathlib.Omega.{arith}
 use borrow.Author.Needs.{needs}
-use lib.ListN.{length, take, drop, getD, set, length-set}
+use lib.ListN.{length, take, drop, getD, length-set}
 use lib.Seq.{drop-set-lt}
 use Rattle.laws.proofs.Requests.{fits-positive}
 use Rattle.requests.proofs.Laws.{Below, fits, set-below, count-le}
 use Rattle.requests.proofs.Laid.{changed}
-use Rattle.requests.proofs.Steps.{Carried, carried-none, raised, cleared, stepped, wrapped}
+use Rattle.requests.proofs.Steps.{Carried, carried-none, carried-on, carried-all, parts-small}
 use Rattle.requests.proofs.Request.next.Statement.{statement}
 use Rattle.requests.proofs.Request.next.Tie as tie
 
 abbrev Inv-loop : tie.InvT-loop
-Inv-loop counts several values₀ len i₀ values i = (i ≤ len) × (length values ≡ 6) × Below len counts values × Carried len i counts values values₀ × (drop len values ≡ drop len values₀)
+Inv-loop counts several values₀ len carry₀ i₀ values carry i = (i ≤ len) × (length values ≡ 6) × (carry ≤ 1) × Below len counts values × Carried len i carry counts values values₀ × (drop len values ≡ drop len values₀)
 
 abbrev μ-loop : tie.MeasureT-loop
-μ-loop counts several values₀ len i₀ values i = i
-
--- a value is below its count, and that is at most the space
-value-small : (c : tie.In-loop Inv-loop μ-loop) → getD (c .before .loop .values) (c .before .loop .i - 1) 0 < 4096
-value-small c =
-    let start = c .before .before .before .before in
-    let turn = c .before .loop in
-    let len = start .args .self .len in
-    let counts = start .args .t2 in
-    let few = start .pre .few in
-    let six : length counts ≡ 6 = search needs in
-    let six-now : length (turn .values) ≡ 6 = turn .inv .1 in
-    let below = turn .inv .2 (turn .i - 1) (omega arith) in
-    let positive = fits-positive (take len counts) (take len (turn .values)) (fits len counts (turn .values) (omega arith) (omega arith) (turn .inv .2)) in
-    omega (arith, start .pre .small, below, count-le len (turn .i - 1) counts (omega arith) (omega arith) positive)
+μ-loop counts several values₀ len carry₀ i₀ values carry i = i
 
 loop-holds : tie.Need-loop-holds Inv-loop μ-loop
 loop-holds c =
     let start = c .before .before in
     let few = start .pre .few in
     let six : length (start .args .t2) ≡ 6 = search needs in
-    (search needs, search needs, start .pre .below, carried-none (start .args .self .len) (start .args .t2) (start .args .self .values) (omega arith), refl)
+    let six-first : length (start .args .self .values) ≡ 6 = search needs in
+    (search needs, search needs, omega arith, start .pre .below, carried-none (start .args .self .len) (start .args .t2) (start .args .self .values) (omega arith) (omega arith), refl)
 
-add-if1 : tie.Need-add-if1 Inv-loop μ-loop
-add-if1 c = omega (arith, value-small c)
+-- In a turn: the value at its place, and its count as the code has it, one above the last number
+abbrev value : tie.In-loop Inv-loop μ-loop → ℕ
+value c = getD (c .before .loop .values) (c .before .loop .i - 1) 0
 
-add-values : tie.Need-add-values Inv-loop μ-loop
-add-values c = omega (arith, value-small (c .before))
+abbrev count : tie.In-loop Inv-loop μ-loop → ℕ
+count c = getD (c .before .before .before .before .args .t2) (c .before .loop .i - 1) 0 - 1 + 1
 
-returns : tie.Need-returns Inv-loop μ-loop
-returns c =
-    let start = c .before .before .before .before .before in
-    let turn = c .before .before .loop in
+-- a value is below its count, and that is at most the space
+small : (c : tie.In-loop Inv-loop μ-loop) → (count c ≡ getD (c .before .before .before .before .args .t2) (c .before .loop .i - 1) 0) × (value c < count c) × (count c ≤ 4096)
+small c =
+    let start = c .before .before .before .before in
+    let turn = c .before .loop in
     let len = start .args .self .len in
     let counts = start .args .t2 in
     let few = start .pre .few in
     let six : length counts ≡ 6 = search needs in
-    let six-first : length (start .args .self .values) ≡ 6 = search needs in
     let six-now : length (turn .values) ≡ 6 = turn .inv .1 in
-    let j = turn .i - 1 in
-    let v = getD (turn .values) j 0 in
-    let now = set (turn .values) j (v + 1) in
-    let room : length now ≡ 6 = length-set (turn .values) j (v + 1) ∙ six-now in
-    let below : Below len counts now = λ k l. set-below j (v + 1) counts (turn .values) (omega arith) (c .if1 .taken) k (λ _. turn .inv .2 k l) in (
-      changed (start .args .self) now _
-          (stepped len counts now (start .args .self .values) (fits len counts now (omega arith) (omega arith) below) (fits len counts (start .args .self .values) (omega arith) (omega arith) (start .pre .below))
-          (raised len (turn .i) j counts (turn .values) (omega arith) (omega arith) (omega arith) (omega arith) (start .args .self .values) (turn .inv .3)))
-          (drop-set-lt len (turn .values) j (v + 1) (omega arith) ∙ turn .inv .4),
-      record { few = few; below = below; small = start .pre .small },
-    )
+    let below = turn .inv .3 (turn .i - 1) (omega arith) in
+    let positive = fits-positive (take len counts) (take len (turn .values)) (fits len counts (turn .values) (omega arith) (omega arith) (turn .inv .3)) in
+    (omega arith, omega arith, omega (arith, start .pre .small, count-le len (turn .i - 1) counts (omega arith) (omega arith) positive))
+
+parts : (c : tie.In-loop Inv-loop μ-loop) → ((value c + c .before .loop .carry) % count c < count c) × ((value c + c .before .loop .carry) / count c ≤ 1)
+parts c = parts-small (value c) (count c) (c .before .loop .carry) (small c .1) (c .before .loop .inv .2)
+
+sub-last : tie.Need-sub-last Inv-loop μ-loop
+sub-last c = omega (arith, small c)
+
+cast-last : tie.Need-cast-last Inv-loop μ-loop
+cast-last c = omega (arith, small c)
+
+add-count : tie.Need-add-count Inv-loop μ-loop
+add-count c = omega (arith, small c)
+
+cast-sum : tie.Need-cast-sum Inv-loop μ-loop
+cast-sum c = omega (arith, small c)
+
+add-sum : tie.Need-add-sum Inv-loop μ-loop
+add-sum c = omega (arith, small c)
+
+cast-values : tie.Need-cast-values Inv-loop μ-loop
+cast-values c = omega (arith, small c, parts c)
 
 loop-again : tie.Need-loop-again Inv-loop μ-loop
 loop-again c =
-    let start = c .before .before .before .before .before in
-    let turn = c .before .before .loop in
-    let len = start .args .self .len in
-    let counts = start .args .t2 in
-    let few = start .pre .few in
-    let six : length counts ≡ 6 = search needs in
-    let six-now : length (turn .values) ≡ 6 = turn .inv .1 in
-    let j = turn .i - 1 in
-    let v-below = turn .inv .2 j (omega arith) in
-    let full : getD counts j 0 ≡ getD (turn .values) j 0 + 1 = omega (arith, c .if1 .left, v-below) in (
-      omega arith,
-      length-set (turn .values) j 0 ∙ six-now,
-      λ k l. set-below j 0 counts (turn .values) (omega arith) (omega arith) k (λ _. turn .inv .2 k l),
-      cleared len (turn .i) j counts (turn .values) (omega arith) (omega arith) (omega arith) (omega arith) (start .args .self .values) full (turn .inv .3),
-      drop-set-lt len (turn .values) j 0 (omega arith) ∙ turn .inv .4,
-    )
-
-returns-2 : tie.Need-returns-2 Inv-loop μ-loop
-returns-2 c =
     let start = c .before .before .before .before in
     let turn = c .before .loop in
     let len = start .args .self .len in
@@ -96,12 +78,30 @@ returns-2 c =
     let six : length counts ≡ 6 = search needs in
     let six-first : length (start .args .self .values) ≡ 6 = search needs in
     let six-now : length (turn .values) ≡ 6 = turn .inv .1 in
+    let j = turn .i - 1 in
+    let left = (value c + turn .carry) % count c in (
+      omega arith,
+      length-set (turn .values) j left ∙ six-now,
+      parts c .1,
+      λ k l. set-below j left counts (turn .values) (omega arith) (omega (arith, parts c .0, small c .0)) k (λ _. turn .inv .3 k l),
+      carried-on len (turn .i) j counts (turn .values) (omega arith) (omega arith) (omega arith) (omega arith) (turn .carry) (count c) (start .args .self .values) (small c .0) (omega arith) (turn .inv .4),
+      drop-set-lt len (turn .values) j left (omega arith) ∙ turn .inv .5,
+    )
+
+returns : tie.Need-returns Inv-loop μ-loop
+returns c =
+    let start = c .before .before .before .before in
+    let turn = c .before .loop in
+    let len = start .args .self .len in
+    let counts = start .args .t2 in
+    let few = start .pre .few in
+    let six : length counts ≡ 6 = search needs in
+    let six-first : length (start .args .self .values) ≡ 6 = search needs in
     let none : turn .i ≡ 0 = omega arith in (
       changed (start .args .self) (turn .values) _
-          (wrapped len counts (turn .values) (start .args .self .values) (fits len counts (turn .values) (omega arith) (omega arith) (turn .inv .2)) (fits len counts (start .args .self .values) (omega arith) (omega arith) (start .pre .below))
-          (rw none at (turn .inv .3)))
-          (turn .inv .4),
-      record { few = few; below = turn .inv .2; small = start .pre .small },
+          (carried-all len (turn .carry) counts (turn .values) (start .args .self .values) (fits len counts (start .args .self .values) (omega arith) (omega arith) (start .pre .below)) (subst (λ i. Carried len i (turn .carry) counts (turn .values) (start .args .self .values)) none (turn .inv .4)))
+          (turn .inv .5),
+      record { few = few; below = turn .inv .3; small = start .pre .small },
     )
 
 pub next-spec : {M : Type 1} → statement M
@@ -114,15 +114,18 @@ next-spec =
     (λ c. search needs)
     (λ c. search needs)
     (λ c. search needs)
-    add-if1
+    sub-last
+    cast-last
+    add-count
     (λ c. search needs)
     (λ c. search needs)
-    add-values
+    cast-sum
+    add-sum
     (λ c. search needs)
+    cast-values
     (λ c. search needs)
-    returns
     (λ c. search needs)
     (λ c. search needs)
     (λ c. search needs)
     loop-again
-    returns-2)
+    returns)
