@@ -8,6 +8,7 @@ ghost use Rattle.requests.specs.Values.{valuesOf, severalsOf, requestWit
 
 // The numbers of `len` attributes, each that of a value or, where `several` says so, that of a set of values; the places
 // behind them don't matter.
+#[repr(C)]
 pub struct Request {
     pub several: [bool; 6],
     pub values: [usize; 6],
