@@ -4,6 +4,7 @@
 #include "files.h"
 #include "jogimaduve.h"
 #include "plain.h"
+#include "steps.h"
 
 #include <stdio.h>
 #include <stdlib.h>
@@ -141,6 +142,7 @@ int main(void)
     printf("largest ratio:");
     for (int operation = 0; operation < OPERATIONS; operation++)
         printf("%s %s %.2f", operation > 0 ? "," : "", operation_names[operation], largest[operation]);
-    printf("\n");
+    printf("\n\n");
+    bench_steps();
     return 0;
 }
