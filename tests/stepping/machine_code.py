@@ -1,103 +1,91 @@
 #!/usr/bin/env python3
 """Looks at the machine code of the step to the next request: machine_code.py OBJECT FUNCTION.
 
-It may move and add numbers, and divide once, with 32 bits: that gives the quotient and the remainder. It may test, and
-jump on, the place in the loop alone: a register that starts as the request's length and is counted down by one. Any
-other instruction is refused, so that nobody has to know all that compare. Says what was found; the status is 1 if the
-function is refused.
+One form is accepted. Moves; a test of the request's length, and a jump over the loop. The loop: a sum is divided once,
+with 32 bits, and stored; the jump back goes by the place, which starts as the length and is counted down by one. Moves,
+and the return. Nothing else jumps or is tested, and only the place, the stack and the result make addresses. Whatever
+is not of this form is refused, so that nobody has to know all that can compare. Says what was found; the status is 3 if
+the function is refused.
 """
 
 import re
 import subprocess
 import sys
 
-MOVES = {"mov", "movzx", "movups", "movaps", "movdqu", "movdqa", "lea", "nop", "jmp", "ret"}  # flags stay as they are
-ADDS = {"add", "xor"}
-TESTS = {"test", "cmp", "dec", "sub"}
+MOVE = r"(?:\w+: (?:mov|movzx|movups|movaps|movdqu|movdqa|lea|nop|endbr64)\b.*\n)"
+DIVIDE = r"(?:\w+: (?:add eax,.*|xor edx,edx|div (?:DWORD .*|e\w\w|r\d+d))\n)"
+COUNT = r"(?:\w+: (?:dec r\w+|sub r\w+,0x1)\n)"
+FORM = re.compile(
+    rf"(?P<start>(?:{MOVE}|\w+: sub rsp,.*\n)*)"
+    rf"\w+: test (?P<length>r\w+),(?P=length)\n{MOVE}*\w+: je (?P<end>\w+) .*\n{MOVE}*"
+    rf"(?=(?P<again>\w+): )(?P<loop>(?:{MOVE}|{DIVIDE}|{COUNT})*"
+    rf"(?:{COUNT}|\w+: test (?P<tested>r\w+),(?P=tested)\n)){MOVE}*\w+: jne (?P=again) .*\n"
+    rf"(?=(?P=end): )(?:{MOVE}|\w+: add rsp,.*\n)*\w+: ret\n(?:\w+: (?:nop\b.*|xchg ax,ax)\n)*"
+)
 LENGTH = 64  # from the stack's top: the return address, six truth values with their padding, six numbers
-REGISTERS = {name: f"r{x}x" for x in "abcd" for name in (f"r{x}x", f"e{x}x", f"{x}x", f"{x}l", f"{x}h")}
-REGISTERS |= {name: f"r{x}" for x in ("si", "di", "bp", "sp") for name in (f"r{x}", f"e{x}", x, f"{x}l")}
-REGISTERS |= {f"r{x}{part}": f"r{x}" for x in range(8, 16) for part in ("", "d", "w", "b")}
+BASE = r"lea (?!rsp)r\w+,\[rsp[+-]\w+\]|(?:sub|add) rsp,0x\w+"  # what makes a base of addresses
+PARTS = {f"r{x}x": rf"[re]?{x}x|{x}[lh]" for x in "abcd"}  # the names of a register and of its parts
+PARTS |= {f"r{x}": rf"[re]?{x}|{x}l" for x in ("si", "di", "bp", "sp")}
+PARTS |= {f"r{x}": rf"r{x}[dwb]?" for x in range(8, 16)}
 
 
 class Refused(Exception):
     pass
 
 
-def instructions(file, function):
-    """The function's instructions: name and operands, each operand of the stack as it would be had nothing moved it."""
+def listing(file, function):
+    """The function's instructions, a line each: address, name, operands."""
     command = ["objdump", "--disassemble=" + function, "--no-show-raw-insn", "-M", "intel", file]
-    moved = 0
-    for line in subprocess.run(command, capture_output=True, text=True, check=True).stdout.splitlines():
-        if not re.match(r" *[0-9a-f]+:\t", line):
-            continue
-        words = re.sub(r"^((cs|data16) )+", "", " ".join(line.split("\t")[1].split()))
-        name, _, operands = words.partition(" ")
-        if re.match(r"(sub|add) rsp,", words):
-            moved += int(operands[4:], 16) * (1 if name == "sub" else -1)
-            continue
-        operands = re.sub(r"\[rsp\+(0x[0-9a-f]+)\]", lambda at: f"[rsp+{int(at.group(1), 16) - moved}]", operands)
-        yield name, operands.split(",") if operands else []
+    lines = subprocess.run(command, capture_output=True, text=True, check=True).stdout.splitlines()
+    code = [" ".join(line.split()) + "\n" for line in lines if re.match(r" *[0-9a-f]+:\t", line)]
+    return re.sub(r": (?:(?:cs|data16) )+", ": ", "".join(code))
 
 
-def tested(name, operands):
-    """The register of which alone a test tells."""
-    if name == "dec" or name == "test" and operands[0] == operands[1] or operands[1:] in (["0x0"], ["0x1"]):
-        return REGISTERS.get(operands[0])
-    return None
+def writes(code, register):
+    """The instructions that write a register, but for the division, which writes rax and rdx."""
+    return set(re.findall(rf"\w+: ((?!test)\w+ (?:{PARTS[register]})(?:,.*)?)\n", code))
 
 
-def jumps(name):
-    return name.startswith("j") and name != "jmp"
+def length_loads(start):
+    """The instructions that load the length."""
+    moved = sum(int(by, 16) for by in re.findall(r"sub rsp,(\w+)", start))
+    return set(re.findall(rf"mov \w+,QWORD PTR \[rsp\+{LENGTH + moved:#x}\]", start))
 
 
-def tested_registers(code):
-    """The registers tested; a conditional jump needs a test before it that nothing has overlaid."""
-    found = set()
-    flags = None
-    for name, operands in code:
-        if name in TESTS:
-            flags = tested(name, operands)
-        elif name in ADDS or name == "div":
-            flags = None
-            continue
-        elif name in MOVES:
-            continue
-        if name not in TESTS and not jumps(name) or flags is None:
-            raise Refused(f"{name} {','.join(operands)}")
-        found.add(flags)
-    return found
-
-
-def check_place(code, place, copies=()):
-    """Whatever writes the place must load the length, copy a place or count down by one."""
-    if place in ("rax", "rdx"):
-        raise Refused("the quotient or the remainder is tested")
-    for name, operands in code:
-        if not operands or REGISTERS.get(operands[0]) != place or name in ("test", "cmp", "dec"):
-            continue
-        if [name, *operands[1:]] in (["mov", f"QWORD PTR [rsp+{LENGTH}]"], ["sub", "0x1"]):
-            continue
-        copied = REGISTERS.get(operands[1])
-        if name != "mov" or copied is None:
-            raise Refused(f"{name} {','.join(operands)}, and it is tested")
-        if copied not in copies:
-            check_place(code, copied, (*copies, place))
+def address_registers(code):
+    memory = " ".join(re.findall(r"\[.*?\]", re.sub(r"(?:nop|lea) .*", "", code)))
+    return {register for register, parts in PARTS.items() if re.search(rf"\b(?:{parts})\b", memory)}
 
 
 def look(code):
+    form = FORM.fullmatch(code)
+    if not form:
+        raise Refused("another form")
+    counts = re.findall(r"((?:dec|sub) (r\w+).*)\n", form["loop"])
+    if len(counts) != 1 or form["loop"].count(" div ") != 1:
+        raise Refused("more than one count or division")
+    (count, place), length = counts[0], form["length"]
+    start = re.match(r"(?:\w+: \w+(?! \w+ PTR).*\n)*", form["start"]).group()  # before anything is stored
+    made = {count, f"mov {place},{length}"}
+    for register in {length, place, form["tested"] or place}:
+        others = writes(start, register) - length_loads(start) | writes(code[len(start) :], register)
+        if register in ("rax", "rdx") or others - made:
+            raise Refused(f"{register} is tested, and is not the place")
+    for register in address_registers(code) - {length, place}:
+        if not all(re.fullmatch(BASE, write) for write in writes(code, register)):
+            raise Refused(f"{register} makes an address")
+    return f"{len(code.splitlines())} instructions, one division, two conditional jumps, both on the place"
+
+
+def main(file, function):
+    code = listing(file, function)
     if not code:
-        raise Refused("no such function")
-    for place in sorted(tested_registers(code)):
-        check_place(code, place)
-    divisors = [operands[0] for name, operands in code if name == "div"]
-    if len(divisors) != 1 or not re.match(r"DWORD|e|r\d+d", divisors[0]):
-        raise Refused(f"divisions: {len(divisors)}, {divisors}")
-    return f"{len(code)} instructions, one division, conditional jumps on the place: {sum(jumps(n) for n, _ in code)}"
+        sys.exit(f"{function}: no such function")
+    try:
+        print(f"{function}: {look(code)}")
+    except Refused as why:
+        print(f"{function}: refused: {why}")
+        sys.exit(3)
 
 
-try:
-    print(f"{sys.argv[2]}: {look(list(instructions(*sys.argv[1:3])))}")
-except Refused as why:
-    print(f"{sys.argv[2]}: refused: {why}")
-    sys.exit(1)
+main(*sys.argv[1:])

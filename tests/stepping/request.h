@@ -19,6 +19,6 @@ struct counts {
 
 /* the next request: of the library, and in other forms */
 typedef struct request step(struct request q, struct counts c);
-step next_request, by_quotient, stopping_early, comparing, by_truth, short_cut, by_size;
+step next_request, by_quotient, stopping_early, comparing, by_truth, short_cut, by_size, by_label;
 
 #endif

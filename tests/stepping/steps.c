@@ -5,7 +5,9 @@
 
 #include "request.h"
 
-static step *const steps[] = {next_request, by_quotient, stopping_early, comparing, by_truth, short_cut, by_size};
+static step *const steps[] = {
+    next_request, by_quotient, stopping_early, comparing, by_truth, short_cut, by_size, by_label,
+};
 
 static int passed, failed;
 
@@ -39,7 +41,9 @@ static int steps_through(step *next, size_t len, const size_t *counts) {
         q = next(q, c);
         request_of((n + 1) % requests, &c, &expected);
         if (!same(&q, &expected)) {
-            printf("a space of %zu attributes, behind request %zu\n", len, n);
+            printf("behind request %zu of", n);
+            for (size_t i = 0; i < len; i++) printf(" %zu", counts[i]);
+            printf("\n");
             return 0;
         }
     }
@@ -48,14 +52,12 @@ static int steps_through(step *next, size_t len, const size_t *counts) {
 
 /* All spaces of up to this many attributes, the first len as chosen, whose other counts multiply to at most left. */
 static int all_spaces(step *next, size_t len, size_t most, size_t left, size_t *counts) {
-    int holds = steps_through(next, len, counts);
-
-    if (len == most) return holds;
-    for (size_t count = 1; count <= left; count++) {
+    if (!steps_through(next, len, counts)) return 0;
+    for (size_t count = 1; len < most && count <= left; count++) {
         counts[len] = count;
-        holds &= all_spaces(next, len + 1, most, left / count, counts);
+        if (!all_spaces(next, len + 1, most, left / count, counts)) return 0;
     }
-    return holds;
+    return 1;
 }
 
 static void check(int holds) {

@@ -1,5 +1,5 @@
-/* The step to the next request in other forms. All give the same requests; machine_code.py accepts the first and refuses
- * the others, since these compare or branch on value numbers. */
+/* The step to the next request in other forms. All give the same requests; machine_code.py accepts the first and
+ * refuses the others, since these compare or branch on value numbers. */
 #include "request.h"
 
 struct request by_quotient(struct request q, struct counts c) {
@@ -73,5 +73,22 @@ struct request by_size(struct request q, struct counts c) {
             carry = sum / count;
         }
     }
+    return q;
+}
+
+/* what is carried on tells where to go on */
+struct request by_label(struct request q, struct counts c) {
+    __extension__ static void *const places[] = {&&out, &&on};
+    unsigned carry = 1;
+    size_t i = q.len;
+    if (i == 0) return q;
+on:
+    i--;
+    unsigned sum = (unsigned)q.values[i] + carry, count = (unsigned)c.counts[i];
+    q.values[i] = sum % count;
+    carry = sum / count;
+    if (i == 0) return q;
+    __extension__({ goto *places[carry]; });
+out:
     return q;
 }
