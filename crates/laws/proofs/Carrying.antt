@@ -8,7 +8,7 @@ use Rattle.meaning.specs.Model.{product}
 use Rattle.meaning.specs.Deciding.{Request, numberOf, requestOf, nextRequest, carry, stepped}
 use Rattle.laws.proofs.Requests.{Fits, Positive, fits-positive, request-number, number-request, by-number}
 
-pub stepped-fits : (ss : List ℕ) (q : Request) → Fits ss q → Fits ss (stepped ss q)
+stepped-fits : (ss : List ℕ) (q : Request) → Fits ss q → Fits ss (stepped ss q)
 stepped-fits [] [] f = tt
 stepped-fits [] (v ∷ vs) f = absurd f
 stepped-fits (s ∷ ss) [] f = absurd f

@@ -7,7 +7,7 @@ ghost use Rattle.meaning.specs.Deciding.{numberOf, requestOf, nextRequest, bit,
 ghost use Rattle.requests.specs.Values.{valuesOf, severalsOf, requestWith, revalued, Fitting};
 
 // The numbers of `len` attributes, each that of a value or, where `several` says so, that of a set of values; the places
-// behind them don't matter.
+// behind them don't matter. It lies as in C, for `stepping`.
 #[repr(C)]
 pub struct Request {
     pub several: [bool; 6],
@@ -63,8 +63,8 @@ impl Request {
         let mut i = len;
         while 0 < i {
             i -= 1;
-            // of 32 bits, and one above the last number: so the compiler needs no test of how large the numbers are, nor
-            // whether it divides by 0
+            // of 32 bits, and one above the last number: so the compiler adds no test of how large the numbers are, and
+            // none of whether it divides by 0
             let last = (counts[i] - 1) as u32;
             let count = last + 1;
             let sum = values[i] as u32 + carry;
