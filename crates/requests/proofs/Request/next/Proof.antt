@@ -81,7 +81,7 @@ loop-again c =
     let j = turn .i - 1 in
     let left = (value c + turn .carry) % count c in (
       omega arith,
-      length-set (turn .values) j left ∙ six-now,
+      length-set (turn .values) j _ ∙ six-now,
       parts c .1,
       λ k l. set-below j left counts (turn .values) (omega arith) (omega (arith, parts c .0, small c .0)) k (λ _. turn .inv .3 k l),
       carried-on len (turn .i) j counts (turn .values) (omega arith) (omega arith) (omega arith) (omega arith) (turn .carry) (count c) (start .args .self .values) (small c .0) (omega arith) (turn .inv .4),
