@@ -3,9 +3,10 @@
 
 One form is accepted. Moves; a test of the request's length, and a jump over the loop. The loop: a sum is divided once,
 with 32 bits, and stored; the jump back goes by the place, which starts as the length and is counted down by one. Moves,
-and the return. Nothing else jumps or is tested, and only the place, the stack and the result make addresses. Whatever
-is not of this form is refused, so that nobody has to know all that can compare. Says what was found; the status is 3 if
-the function is refused.
+and the return. Nothing else jumps or is tested; only the place, the stack and the result make addresses; the length is
+loaded before anything is stored, and nothing is stored where the return goes by. Whatever is not of this form is
+refused, so that nobody has to know all that can compare. Says what was found; the status is 3 if the function is
+refused.
 """
 
 import re
@@ -16,12 +17,15 @@ MOVE = r"(?:\w+: (?:mov|movzx|movups|movaps|movdqu|movdqa|lea|nop|endbr64)\b.*\n
 DIVIDE = r"(?:\w+: (?:add eax,.*|xor edx,edx|div (?:DWORD .*|e\w\w|r\d+d))\n)"
 COUNT = r"(?:\w+: (?:dec r\w+|sub r\w+,0x1)\n)"
 FORM = re.compile(
-    rf"(?P<start>(?:{MOVE}|\w+: sub rsp,.*\n)*)"
+    rf"(?:\w+: sub rsp,(?P<frame>0x\w+)\n)?(?P<start>{MOVE}*)"
     rf"\w+: test (?P<length>r\w+),(?P=length)\n{MOVE}*\w+: je (?P<end>\w+) .*\n{MOVE}*"
     rf"(?=(?P<again>\w+): )(?P<loop>(?:{MOVE}|{DIVIDE}|{COUNT})*"
     rf"(?:{COUNT}|\w+: test (?P<tested>r\w+),(?P=tested)\n)){MOVE}*\w+: jne (?P=again) .*\n"
-    rf"(?=(?P=end): )(?:{MOVE}|\w+: add rsp,.*\n)*\w+: ret\n(?:\w+: (?:nop\b.*|xchg ax,ax)\n)*"
+    rf"(?=(?P=end): ){MOVE}*(?(frame)\w+: add rsp,(?P=frame)\n)\w+: ret\n(?:\w+: (?:nop\b.*|xchg ax,ax)\n)*"
 )
+STORES = r"\w+: (?!nop |div )\w+ \w+ PTR "
+STORE = re.compile(r"\w+: mov\w* (\w+) PTR \[(\w+)(?:\+(\w+)\*8)?([+-]0x\w+)?\],.*")
+SIZES = {"BYTE": 1, "WORD": 2, "DWORD": 4, "QWORD": 8, "XMMWORD": 16}
 LENGTH = 64  # from the stack's top: the return address, six truth values with their padding, six numbers
 BASE = r"lea (?!rsp)r\w+,\[rsp[+-]\w+\]|(?:sub|add) rsp,0x\w+"  # what makes a base of addresses
 PARTS = {f"r{x}x": rf"[re]?{x}x|{x}[lh]" for x in "abcd"}  # the names of a register and of its parts
@@ -46,10 +50,23 @@ def writes(code, register):
     return set(re.findall(rf"\w+: ((?!test)\w+ (?:{PARTS[register]})(?:,.*)?)\n", code))
 
 
-def length_loads(start):
-    """The instructions that load the length."""
-    moved = sum(int(by, 16) for by in re.findall(r"sub rsp,(\w+)", start))
-    return set(re.findall(rf"mov \w+,QWORD PTR \[rsp\+{LENGTH + moved:#x}\]", start))
+def length_load(frame):
+    """The instruction that loads the length, into whichever register."""
+    return rf"mov \w+,QWORD PTR \[rsp\+{LENGTH + frame:#x}\]"
+
+
+def store_is_safe(store, code, frame, place):
+    """Whether a store goes to the result, or to the stack but not over the return address."""
+    form = STORE.fullmatch(store)
+    if not form:
+        return False
+    size, base, index, offset = form.groups()
+    if base == "rdi":
+        return not index and not writes(code, "rdi")
+    reached = [int(offset or "0", 16) + 8 * i for i in (range(7) if index else [0])]
+    return base == "rsp" and index in (None, place) and all(
+        at + SIZES[size] <= frame or frame + 8 <= at for at in reached
+    )
 
 
 def address_registers(code):
@@ -64,13 +81,17 @@ def look(code):
     counts = re.findall(r"((?:dec|sub) (r\w+).*)\n", form["loop"])
     if len(counts) != 1 or form["loop"].count(" div ") != 1:
         raise Refused("more than one count or division")
-    (count, place), length = counts[0], form["length"]
-    start = re.match(r"(?:\w+: \w+(?! \w+ PTR).*\n)*", form["start"]).group()  # before anything is stored
+    (count, place), length, frame = counts[0], form["length"], int(form["frame"] or "0", 16)
+    start = re.match(rf"(?:(?!{STORES}).*\n)*", form["start"]).group()
     made = {count, f"mov {place},{length}"}
     for register in {length, place, form["tested"] or place}:
-        others = writes(start, register) - length_loads(start) | writes(code[len(start) :], register)
-        if register in ("rax", "rdx") or others - made:
+        loads = {write for write in writes(start, register) if re.fullmatch(length_load(frame), write)}
+        others = writes(start, register) - loads | writes(code[form.start("start") + len(start) :], register)
+        if register not in (length, place) or register in ("rax", "rdx") or others - made:
             raise Refused(f"{register} is tested, and is not the place")
+    for store in re.findall(rf"{STORES}.*", code):
+        if not store_is_safe(store, code, frame, place):
+            raise Refused(f"stores elsewhere: {store}")
     for register in address_registers(code) - {length, place}:
         if not all(re.fullmatch(BASE, write) for write in writes(code, register)):
             raise Refused(f"{register} makes an address")
