@@ -6,3 +6,5 @@ pub mod Conflicts
 pub mod Sets
 pub mod ValuePairs
 pub mod Stepping
+pub mod Outcomes
+pub mod Obligations

@@ -2,13 +2,15 @@
 use Prim.Native.Nat.{ℕ, zero, suc, _*_, _-_, _^_}
 use mathlib.Core.Bool.{Bool, true, false, cond}
 use mathlib.Core.List.{List, [], _∷_, _++_, map}
-use lib.ListN.{length, take, replicate}
+use lib.ListN.{length, take, getD, replicate}
+use lib.Dec.{ltb}
 pub use Rattle.meaning.specs.declared.Kind.{Kind}
 pub use Rattle.meaning.specs.declared.Kind.the-variants.{Set as set, Policy as policy, Rule as rule}
 pub use Rattle.meaning.specs.declared.Word.{Word}
 pub use Rattle.meaning.specs.declared.Word.the-variants.{DenyOverrides as deny-overrides, PermitOverrides as permit-overrides, FirstApplicable as first-applicable, OnlyOneApplicable as only-one-applicable}
 pub use Rattle.meaning.specs.declared.Decision.{Decision}
 pub use Rattle.meaning.specs.declared.Decision.the-variants.{NotApplicable as not-applicable, Indeterminate as indeterminate}
+pub use Rattle.meaning.specs.declared.Obligation.{Obligation}
 pub use Rattle.meaning.specs.declared.Element.{Element}
 use Rattle.meaning.specs.Text.{Bytes, bytes}
 
@@ -24,6 +26,49 @@ padded n xs = xs ++ replicate (n - length xs) 0
 
 abbrev pub nameOf : Element → Bytes
 nameOf e = take (e .len) (e .name)
+
+-- Obligations, the paper's duties: an element has two places for them; an unused one is zero, with the word `permit`
+abbrev pub obligationName : Obligation → Bytes
+obligationName o = take (o .len) (o .name)
+
+abbrev pub unused : Obligation
+unused = record { name = padded 16 []; len = 0; word = Word.Permit }
+
+abbrev pub placesOf : Element → List Obligation
+placesOf e = e .first ∷ e .second ∷ []
+
+abbrev pub obligationsOf : Element → List Obligation
+obligationsOf e = take (e .obligations) (placesOf e)
+
+-- An element without obligations, of a name and masks
+abbrev pub made : Kind → ℕ → Bytes → Word → List ℕ → Element
+made k d n w ms =
+    record {
+      kind = k;
+      depth = d;
+      name = padded 16 n;
+      len = length n;
+      word = w;
+      masks = padded 6 ms;
+      obligations = 0;
+      first = unused;
+      second = unused;
+    }
+
+-- an element with these obligations in place of its own
+abbrev pub withObligations : List Obligation → Element → Element
+withObligations os e =
+    record {
+      kind = e .kind;
+      depth = e .depth;
+      name = e .name;
+      len = e .len;
+      word = e .word;
+      masks = e .masks;
+      obligations = length os;
+      first = getD os 0 unused;
+      second = getD os 1 unused;
+    }
 
 pub record Policy : Type 0 where
   pub attributes : List Attribute
@@ -70,6 +115,10 @@ given a then f = f a
 abbrev pub unless : {A : Type 0} → ℕ → ℕ → Result A → Result A
 unless zero n r = r
 unless (suc k) n r = refused (suc k) n
+
+-- 11: a text for a buffer of so many bytes
+abbrev pub fitted : ℕ → Bytes → Result Bytes
+fitted room t = cond (ltb room (length t)) (refused 11 (length t)) (given t)
 
 -- The letters and words of the file
 abbrev pub letterText : (several : Bool) → Bytes

@@ -2,10 +2,10 @@
 use Prim.Native.Nat.{ℕ}
 use mathlib.Core.Bool.{Bool, cond}
 use mathlib.Core.List.{List, [], _∷_, _++_, map}
-use lib.ListN.{length, getD}
-use lib.Dec.{ltb}
+use lib.ListN.{getD}
 use Rattle.meaning.specs.Text.{Bytes, bytes, gathered, ifSome, join, comma, line, decimal}
 use Rattle.meaning.specs.Model.{Element, nameOf, Policy, Result, refused, given, _then_, decisionText}
+pub use Rattle.meaning.specs.Model.{fitted}
 use Rattle.meaning.specs.Reading.{read}
 use Rattle.meaning.specs.Deciding.{decisionOn}
 use Rattle.meaning.specs.Trimming.{nameAt, ruleLines, firstChange, trimmed}
@@ -35,7 +35,7 @@ conflictFields es c = bytes "C" ∷ nameIn es (c .parent) ∷ nameIn es (c .earl
 abbrev pub struckFields : Bytes → List Bytes
 struckFields n = bytes "X" ∷ n ∷ []
 
--- `K`: kept rule, first request whose decision changes without it in the trimmed policy
+-- `K`: kept rule, first request whose decision or its obligations change without it in the trimmed policy
 abbrev pub keptFields : Bytes → ℕ → ℕ → List Bytes
 keptFields t k n = bytes "K" ∷ nameAt t k ∷ decimal n ∷ []
 
@@ -50,10 +50,6 @@ report f p =
     ++ (gathered (λ c. line (conflictFields (p .elements) c)) (conflicts p)
     ++ (gathered (λ n. line (struckFields n)) (t .struck)
     ++ gathered (keptLine (t .text)) (ruleLines (t .text))))
-
--- 11: a text for a buffer of so many bytes
-abbrev pub fitted : ℕ → Bytes → Result Bytes
-fitted room t = cond (ltb room (length t)) (refused 11 (length t)) (given t)
 
 -- The operations: the trimmed text, and the report
 unfoldable pub trimFile : ℕ → Bytes → Result Bytes

@@ -4,10 +4,9 @@ use mathlib.Core.Bool.{Bool, not, cond, _&&_, _||_}
 use mathlib.Core.List.{List, [], _∷_}
 use lib.ListN.{getD, set}
 use Rattle.meaning.specs.Text.{Bytes, bytes, keep, gathered, sameName, line, decimal}
-use Rattle.meaning.specs.Model.{Decision, Attribute, Policy, sizes, Result, refused, given, _then_, decisionText}
+use Rattle.meaning.specs.Model.{Decision, Attribute, Policy, sizes, Result, refused, given, _then_, fitted, decisionText}
 use Rattle.meaning.specs.Reading.{read}
 use Rattle.meaning.specs.Deciding.{numberOf, requestOf, requests, members, is, decisionOn}
-use Rattle.meaning.specs.Report.{fitted}
 
 -- 13: the name isn't that of an `M` attribute; else its place, from 0
 abbrev pub severalAt : ℕ → Bytes → List Attribute → Result ℕ

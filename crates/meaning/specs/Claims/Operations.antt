@@ -7,12 +7,12 @@ use lib.ListN.{length, take, drop}
 use Rattle.meaning.specs.Text.{Bytes}
 use Rattle.meaning.specs.Model.{Decision, not-applicable, indeterminate, Element, Policy, sizes, Result, refused, given, _then_}
 use Rattle.meaning.specs.Reading.{read}
-use Rattle.meaning.specs.Deciding.{Request, numberOf, requestLine, decisionNumber, outcome}
+use Rattle.meaning.specs.Deciding.{Request, numberOf, requestLine, decisionNumber, Outcome, outcome}
 use Rattle.meaning.specs.Trimming.{trimmed}
 use Rattle.meaning.specs.Report.{report, program}
 use Rattle.meaning.specs.ValuePairs.{pairsNamed}
 use Rattle.meaning.specs.Writing.{writeFile}
-use Rattle.meaning.specs.Operations.{Answer, decideAnswer, trimAnswer, trimLent, reportAnswer, reportLent, valuePairsAnswer, valuePairsLent, readAnswer, readLent, writeAnswer, writeLent}
+use Rattle.meaning.specs.Operations.{Answer, decideAnswer, decideLent, trimAnswer, trimLent, reportAnswer, reportLent, valuePairsAnswer, valuePairsLent, readAnswer, readLent, writeAnswer, writeLent}
 use Rattle.meaning.specs.Claims.ReportLines.{errorLine, fieldLines}
 
 -- An operation that writes to lent memory, by what it is to write there: a refusal, with its numbers, leaves no trace, and so
@@ -28,10 +28,16 @@ pub record Writes {A : Type 0} (too-short : ℕ) (wanted : Result (List A)) (ans
 -- the six operations; a decision's number is its place in this list; a file that is written has at most 16,384 bytes
 pub record Operations : Type 0 where
   pub decision-numbers : map decisionNumber (Decision.Permit ∷ Decision.Deny ∷ not-applicable ∷ indeterminate ∷ []) ≡ 0 ∷ 1 ∷ 2 ∷ 3 ∷ []
-  pub decides-no-file : (f r : Bytes) (n m : ℕ) → read f ≡ refused n m → decideAnswer f r ≡ record { number = n; second = m }
-  pub decides-no-request : (f r : Bytes) (p : Policy) (n m : ℕ) → read f ≡ given p → requestLine (p .attributes) r ≡ refused n m → decideAnswer f r ≡ record { number = n; second = m }
-  pub decides : (f r : Bytes) (p : Policy) (q : Request) → read f ≡ given p → requestLine (p .attributes) r ≡ given q
-      → decideAnswer f r ≡ record { number = 0; second = decisionNumber (outcome p (numberOf (sizes (p .attributes)) q)) }
+  pub decides-no-file : (f r buffer : Bytes) (n m : ℕ) → read f ≡ refused n m → (decideAnswer f r buffer ≡ record { number = n; second = m; length = 0 }) × (decideLent f r buffer ≡ buffer)
+  pub decides-no-request : (f r buffer : Bytes) (p : Policy) (n m : ℕ) → read f ≡ given p → requestLine (p .attributes) r ≡ refused n m
+      → (decideAnswer f r buffer ≡ record { number = n; second = m; length = 0 }) × (decideLent f r buffer ≡ buffer)
+  pub decides-short : (f r buffer : Bytes) (p : Policy) (q : Request) → read f ≡ given p → requestLine (p .attributes) r ≡ given q
+      → (o : Outcome) → o ≡ outcome p (numberOf (sizes (p .attributes)) q) → length buffer < length (o .obligations)
+      → (decideAnswer f r buffer ≡ record { number = 11; second = length (o .obligations); length = 0 }) × (decideLent f r buffer ≡ buffer)
+  pub decides : (f r buffer : Bytes) (p : Policy) (q : Request) → read f ≡ given p → requestLine (p .attributes) r ≡ given q
+      → (o : Outcome) → o ≡ outcome p (numberOf (sizes (p .attributes)) q) → length (o .obligations) ≤ length buffer
+      → (decideAnswer f r buffer ≡ record { number = 0; second = decisionNumber (o .decision); length = length (o .obligations) })
+      × (take (length (o .obligations)) (decideLent f r buffer) ≡ o .obligations) × (drop (length (o .obligations)) (decideLent f r buffer) ≡ drop (length (o .obligations)) buffer)
   pub trims : (f buffer : Bytes) → Writes 11 (read f then λ p. given (trimmed f .text)) (trimAnswer f buffer) buffer (trimLent f buffer)
   pub reports : (f buffer : Bytes) → Writes 11 (read f then λ p. given (report f p)) (reportAnswer f buffer) buffer (reportLent f buffer)
   pub tells-pairs : (f name buffer : Bytes) → Writes 11 (read f then λ p. pairsNamed p name) (valuePairsAnswer f name buffer) buffer (valuePairsLent f name buffer)

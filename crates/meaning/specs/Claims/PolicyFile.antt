@@ -1,12 +1,12 @@
 -- The paper's section `The policy file`, said of a text and a policy: which texts are policy files, and of which policy.
 use mathlib.Core.Path.{_≡_}
 use mathlib.Core.Logic.{_≢_, _⊎_, _↔_}
-use Prim.Native.Nat.{ℕ, suc, _+_, _*_, _≤_}
+use Prim.Native.Nat.{ℕ, suc, _+_, _*_, _-_, _≤_}
 use mathlib.Core.Bool.{Bool, true, false, cond}
 use mathlib.Core.List.{List, [], _∷_, _++_, map, List·Memᴰ}
-use lib.ListN.{length}
+use lib.ListN.{length, replicate}
 use Rattle.meaning.specs.Text.{Bytes, bytes, all, gathered, join, comma, line, isName}
-use Rattle.meaning.specs.Model.{Kind, set, policy, rule, Word, deny-overrides, permit-overrides, first-applicable, only-one-applicable, Decision, not-applicable, indeterminate, decisionText, Attribute, Element, padded, nameOf, Policy, space, Result, given, letterText, kindText, wordText}
+use Rattle.meaning.specs.Model.{Kind, set, policy, rule, Word, deny-overrides, permit-overrides, first-applicable, only-one-applicable, Decision, not-applicable, indeterminate, decisionText, Attribute, Obligation, Element, padded, nameOf, obligationName, unused, placesOf, Policy, space, Result, given, letterText, kindText, wordText}
 use Rattle.meaning.specs.Claims.Texts.{All, Each, Paired, Among, DistinctNames}
 
 -- Attribute line: `A`, name, then 1 to 16 value names; or `M`, with at most 12
@@ -75,8 +75,33 @@ pub record TreeLine (attrs : List Attribute) (fields : List Bytes) (e : Element)
   pub targeted : Targets attrs targets masks
   pub element-masks : e .masks ≡ padded 6 masks
 
-abbrev pub TreeLines : List Attribute → List (List Bytes) → List Element → Type 0
-TreeLines attrs ls es = Paired (TreeLine attrs) ls es
+-- Obligation line: `O`, name, and `permit` or `deny`; zeros behind the name
+pub record ObligationLine (fields : List Bytes) (o : Obligation) : Type 0 where
+  pub name : Bytes
+  pub are-fields : fields ≡ bytes "O" ∷ name ∷ wordText (o .word) ∷ []
+  pub is-name : isName name ≡ true
+  pub name-bytes : o .name ≡ padded 16 name
+  pub name-length : o .len ≡ length name
+  pub called : obligationName o ≡ name
+  pub effect : Allowed rule (o .word)
+
+-- An element's lines: its tree line and, directly behind that of an `S` or `P`, at most two lines of obligations, no two of equal
+-- name. The element carries their count and two places; unused places are zero, with the word `permit`
+pub record ElementLines (attrs : List Attribute) (rows : List (List Bytes)) (e : Element) : Type 0 where
+  pub own : List Bytes
+  pub behind : List (List Bytes)
+  pub are : rows ≡ own ∷ behind
+  pub tree-line : TreeLine attrs own e
+  pub carried : List Obligation
+  pub obligation-lines : Paired ObligationLine behind carried
+  pub at-most-two : length carried ≤ 2
+  pub none-on-rule : e .kind ≡ rule → carried ≡ []
+  pub names-once : DistinctNames (map obligationName carried)
+  pub count : e .obligations ≡ length carried
+  pub places : placesOf e ≡ carried ++ replicate (2 - length carried) unused
+
+abbrev pub TreeLines : List Attribute → List (List (List Bytes)) → List Element → Type 0
+TreeLines attrs tree es = Paired (ElementLines attrs) tree es
 
 -- An element's parent, the nearest earlier element of depth one less: an `S` for `S` and `P`, a `P` for `R`
 abbrev pub parentKind : Kind → Kind
@@ -105,13 +130,13 @@ Placed before e = PlacedAt before (e .kind) (e .depth)
 abbrev pub NewName : List Element → Element → Type 0
 NewName before e = Among (nameOf e) (map nameOf before) → ⊥
 
--- Lines that break no rule, each by its fields: attribute lines, then tree lines
+-- Lines that break no rule, each by its fields: attribute lines, then each element's lines
 abbrev pub attributeNames : List Attribute → List Bytes
 attributeNames attrs = map (λ a. a .name) attrs
 
 pub record GoodLines (rows : List (List Bytes)) (attrs : List Attribute) (es : List Element) : Type 0 where
-  pub tree : List (List Bytes)
-  pub are : rows ≡ map attributeFields attrs ++ tree
+  pub tree : List (List (List Bytes))
+  pub are : rows ≡ map attributeFields attrs ++ gathered (λ ls. ls) tree
   pub few-attributes : length attrs ≤ 6
   pub attributes-good : All GoodAttribute attrs
   pub attributes-distinct : DistinctNames (attributeNames attrs)

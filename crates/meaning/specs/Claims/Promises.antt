@@ -6,9 +6,9 @@ use mathlib.Core.Bool.{not}
 use mathlib.Core.List.{List, [], List·Memᴰ}
 use lib.ListN.{length}
 use Rattle.meaning.specs.Text.{Bytes, keep, join, newline}
-use Rattle.meaning.specs.Model.{Word, Attribute, Element, Policy, space, Result, refused, given}
+use Rattle.meaning.specs.Model.{Word, Decision, Attribute, Element, Policy, space, Result, refused, given}
 use Rattle.meaning.specs.Reading.{read}
-use Rattle.meaning.specs.Deciding.{Reply, combined, Outcome, outcome, decideFile}
+use Rattle.meaning.specs.Deciding.{Reply, combined, Outcome, decisionOn, decideFile}
 use Rattle.meaning.specs.Trimming.{lines, ruleLine, strike, Trimmed, trimmed}
 use Rattle.meaning.specs.Segments.{segments, segmentSize, Conflict, conflicts}
 use Rattle.meaning.specs.Report.{report}
@@ -22,7 +22,7 @@ use Rattle.meaning.specs.Claims.WriterRefusals.{RefusesToWrite}
 use Rattle.meaning.specs.Claims.Sets.{SetsNumbered}
 use Rattle.meaning.specs.Claims.Requests.{Numbered, Matched}
 use Rattle.meaning.specs.Claims.Standard.{standard}
-use Rattle.meaning.specs.Claims.Deciding.{Parented, Standardly, Decides}
+use Rattle.meaning.specs.Claims.Deciding.{Parented, Standardly, AskedInOrder, ObligationsGiven, Decides}
 use Rattle.meaning.specs.Claims.Segments.{Segmented, Opens, Conflicting, ConflictsListed}
 use Rattle.meaning.specs.Claims.Trimming.{Lines, Needless, ReportOf, Meets}
 use Rattle.meaning.specs.Claims.ValuePairs.{NamedAttribute, PairsNamed}
@@ -44,9 +44,9 @@ ruleless f = join newline (keep (λ l. not (ruleLine l)) (lines f))
 pub record ShutOut : Type 0 where
   pub untrimmed : (trim : Bytes → Trimmed) (tell : Bytes → Policy → Bytes) → Meets trim tell → (f : Bytes) (p : Policy) (k : ℕ) → read f ≡ given p → Needless f k → trim f .text ≢ f
   pub one-struck : (trim : Bytes → Trimmed) (tell : Bytes → Policy → Bytes) → Meets trim tell → (f : Bytes) (p : Policy) (k j : ℕ) → read f ≡ given p → Needless (strike k f) j → trim f .text ≢ strike k f
-  pub all-struck : (trim : Bytes → Trimmed) (tell : Bytes → Policy → Bytes) → Meets trim tell → (f : Bytes) (p : Policy) (r : Bytes) → read f ≡ given p → decideFile (ruleless f) r ≢ decideFile f r → trim f .text ≢ ruleless f
-  pub one-decision : (tool : Bytes → Bytes → Result Outcome) (f : Bytes) (p : Policy) (n m : ℕ) → n < space (p .attributes) → m < space (p .attributes) → outcome p n ≢ outcome p m
-      → Decides tool f p → (d : Outcome) → ((r : Bytes) → tool f r ≡ given d) → ⊥
+  pub all-struck : (trim : Bytes → Trimmed) (tell : Bytes → Policy → Bytes) → Meets trim tell → (f : Bytes) (p : Policy) (room : ℕ) (r : Bytes) → read f ≡ given p → decideFile room (ruleless f) r ≢ decideFile room f r → trim f .text ≢ ruleless f
+  pub one-decision : (tool : ℕ → Bytes → Bytes → Result Outcome) (f : Bytes) (p : Policy) (n m : ℕ) → n < space (p .attributes) → m < space (p .attributes) → decisionOn p n ≢ decisionOn p m
+      → Decides tool f p → (d : Decision) → ((room : ℕ) (r : Bytes) (o : Outcome) → tool room f r ≡ given o → o .decision ≡ d) → ⊥
   pub no-conflicts : (p : Policy) (c : Conflict) → Conflicting p c → ConflictsListed [] p → ⊥
   pub invented-count : (p : Policy) (firsts : List ℕ) (size : ℕ → ℕ) (s : ℕ) → List·Memᴰ s firsts → size s ≢ segmentSize p s → Segmented firsts size p → ⊥
   pub all-refused : (tool : Bytes → Result Policy) (f : Bytes) (p : Policy) → WellFormed f p → Reads tool → (n m : ℕ) → tool f ≢ refused n m
@@ -64,8 +64,10 @@ pub record Promises : Type 0 where
   pub numbers : (attrs : List Attribute) → 1 ≤ length attrs → All GoodAttribute attrs → Numbered attrs
   pub targets : (f : Bytes) (p : Policy) → read f ≡ given p → Matched p
   pub appendix-C : (w : Word) (rs : List Reply) → combined w rs ≡ standard w rs
+  pub asking : AskedInOrder
   pub parents : (f : Bytes) (p : Policy) → read f ≡ given p → Parented p
   pub decisions : (f : Bytes) (p : Policy) → read f ≡ given p → Standardly p
+  pub obligations : (f : Bytes) (p : Policy) → read f ≡ given p → (n : ℕ) → ObligationsGiven p n
   pub deciding : (f : Bytes) (p : Policy) → read f ≡ given p → Decides decideFile f p
   pub segmenting : (f : Bytes) (p : Policy) → read f ≡ given p → Segmented (segments p) (segmentSize p) p
   pub conflicting : (f : Bytes) (p : Policy) → read f ≡ given p → ConflictsListed (conflicts p) p

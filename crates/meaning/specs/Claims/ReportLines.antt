@@ -30,7 +30,7 @@ conflictRow es c = bytes "C" ∷ nameOn es (c .parent) ∷ nameOn es (c .earlier
 abbrev pub struckRow : Bytes → List Bytes
 struckRow name = bytes "X" ∷ name ∷ []
 
--- `K`, kept rule, first request whose decision changes without it in the trimmed policy
+-- `K`, kept rule, first request whose decision, or its obligations, change without it in the trimmed policy
 abbrev pub keptRow : Bytes → ℕ → List Bytes
 keptRow name n = bytes "K" ∷ name ∷ decimal n ∷ []
 

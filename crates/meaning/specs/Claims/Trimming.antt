@@ -88,7 +88,7 @@ pub record TrimsSoundly (trim : Bytes → Trimmed) (report : Bytes → Policy �
   pub policy : Policy
   pub is-accepted : read (trim f .text) ≡ given policy
   pub alike : Alike p policy
-  pub decides : (r : Bytes) → decideFile (trim f .text) r ≡ decideFile f r
+  pub decides : (room : ℕ) (r : Bytes) → decideFile room (trim f .text) r ≡ decideFile room f r
   pub rules : map (nameAt (trim f .text)) (ruleLines (trim f .text)) ≡ ruleNames (policy .elements)
   pub reported : Reported p policy (trim f) (report f p)
   pub none-needless : (k : ℕ) → Needless (trim f .text) k → ⊥

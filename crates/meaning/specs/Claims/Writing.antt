@@ -5,7 +5,7 @@ use mathlib.Core.Bool.{Bool, true, false, _||_}
 use mathlib.Core.List.{List, [], _∷_, _++_}
 use lib.ListN.{length}
 use Rattle.meaning.specs.Text.{Bytes, keep, front, gathered, same, newline}
-use Rattle.meaning.specs.Model.{Element, Policy, given, _then_, letterText}
+use Rattle.meaning.specs.Model.{Element, placesOf, Policy, given, _then_, letterText}
 use Rattle.meaning.specs.Reading.{read}
 use Rattle.meaning.specs.Trimming.{lines, fieldOf}
 use Rattle.meaning.specs.Report.{fitted}
@@ -13,10 +13,11 @@ use Rattle.meaning.specs.Writing.{writeFile}
 use Rattle.meaning.specs.Claims.Texts.{All}
 use Rattle.meaning.specs.Claims.PolicyFile.{WellFormed}
 
--- An element of the list has 16 name bytes and six masks: its Rattle type says so
+-- An element of the list has 16 name bytes, six masks, and 16 name bytes in each place for an obligation: its Rattle type says so
 pub record Shaped (e : Element) : Type 0 where
   pub name-size : length (e .name) ≡ 16
   pub masks-size : length (e .masks) ≡ 6
+  pub places-size : All (λ o. length (o .name) ≡ 16) (placesOf e)
 
 -- a text's attribute lines
 abbrev pub attributeLine : Bytes → Bool
