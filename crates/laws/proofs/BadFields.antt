@@ -9,18 +9,19 @@ use mathlib.Core.Option.{Option, none, some}
 use lib.ListN.{length, getD}
 use lib.Dec.{eqb, lit≤, lit<}
 use borrow.Author.Tests.{eqb-true, eqb-false, not-true, not-false}
-use Rattle.meaning.specs.Text.{Bytes, all, same, isField}
+use Rattle.meaning.specs.Text.{Bytes, all, same, isField, bytes}
 use Rattle.meaning.specs.Model.{Attribute, letterText, kindText}
-use Rattle.meaning.specs.Reading.{Line, attributeLine, treeLine, otherLine, kindOf, attributeLetter, lineOf, Sofar, Tests, lowest, wrongFields}
+use Rattle.meaning.specs.Reading.{Line, attributeLine, treeLine, otherLine, kindOf, attributeLetter, lineOf, Sofar, Tests, lowest, wrongFields, obligationLetter, obligationLine}
 use Rattle.meaning.specs.Claims.PolicyFile.{attributeFields}
 use Rattle.meaning.specs.Claims.Refusals.{BadFields, Lowest}
 use Rattle.laws.proofs.Types.{Kind, set, policy, rule}
 use Rattle.laws.proofs.Bools.{Test, passed, failed, test, contradiction, or-false, never}
 use Rattle.laws.proofs.Search.{none-some}
 use Rattle.laws.proofs.Reading.{Numbered}
-use Rattle.laws.proofs.Lines.{spelled-some, letter-is, letter-attribute, letter-several, attribute-fields, tree-fields, kind-not-attribute}
+use Rattle.laws.proofs.Lines.{spelled-some, letter-is, letter-attribute, letter-several, attribute-fields, tree-fields, kind-not-attribute, obligation-fields}
 use Rattle.laws.proofs.Reflects.{Reflects, reflects, Matches, lowest-row, row-lowest, NumberedRows, row-number}
 use Rattle.laws.proofs.FirstBad.{allTests, Fails, unended, tested}
+use Rattle.laws.proofs.Text.{same-true}
 
 -- Letters
 kind-again : (k : Kind) → kindOf (kindText k) ≡ some k
@@ -34,6 +35,12 @@ kind-same j k e = let s : some j ≡ some k = sym (kind-again j) ∙ ap kindOf e
 pub not-letter : (several : Bool) (k : Kind) → letterText several ≢ kindText k
 not-letter several k e = contradiction (ap attributeLetter (sym e) ∙ letter-attribute several) (kind-not-attribute k)
 
+pub not-obligation : (several : Bool) → letterText several ≢ bytes "O"
+not-obligation several e = contradiction (letter-attribute several) (ap attributeLetter e)
+
+pub kind-not-obligation : (k : Kind) → kindText k ≢ bytes "O"
+kind-not-obligation k e = none-some (sym (ap kindOf e) ∙ kind-again k)
+
 pub letter-same : (b c : Bool) → letterText b ≡ letterText c → b ≡ c
 letter-same b c e = sym (letter-several b) ∙ ap (λ t. same t (letterText true)) e ∙ letter-several c
 
@@ -44,39 +51,40 @@ no-attribute f e several i = contradiction (ap attributeLetter i ∙ letter-attr
 no-letter : (f : Bytes) → kindOf f ≡ none → (k : Kind) → f ≢ kindText k
 no-letter f e k i = none-some (sym e ∙ ap kindOf i ∙ kind-again k)
 
+no-obligation : (f : Bytes) → obligationLetter f ≡ false → f ≢ bytes "O"
+no-obligation f e i = contradiction (ap obligationLetter i) e
+
 -- fewer than three fields
 few-fields : (attrs : List Attribute) (f : Bytes) (fs : List Bytes) → length (f ∷ fs) < 3 → BadFields attrs (f ∷ fs)
-few-fields attrs f fs l = go (test (attributeLetter f)) (kindOf f) refl
+few-fields attrs f fs l = go (test (attributeLetter f)) (test (obligationLetter f)) (kindOf f) refl
   where
-    go : Test (attributeLetter f) → (o : Option Kind) → kindOf f ≡ o → BadFields attrs (f ∷ fs)
-    go (passed e) o i = inr (inr (inl (same f (letterText true), letter-is f e, l)))
-    go (failed e) none i = inr (inl (no-attribute f e, no-letter f i))
-    go (failed e) (some k) i = inr (inr (inr (k, sym (spelled-some kindText f (set ∷ policy ∷ rule ∷ []) k i), omega (arith, l))))
+    go : Test (attributeLetter f) → Test (obligationLetter f) → (o : Option Kind) → kindOf f ≡ o → BadFields attrs (f ∷ fs)
+    go (passed e) d o i = inr (inr (inl (same f (letterText true), letter-is f e, l)))
+    go (failed e) (passed d) o i = inr (inr (inr (inr (same-true f (bytes "O") d, λ c. omega (arith, l, c)))))
+    go (failed e) (failed d) none i = inr (inl (no-attribute f e, no-letter f i, no-obligation f d))
+    go (failed e) (failed d) (some k) i = inr (inr (inr (inl (k, sym (spelled-some kindText f (set ∷ policy ∷ rule ∷ []) k i), omega (arith, l)))))
 
 other-bad : (attrs : List Attribute) (fs : List Bytes) → lineOf fs ≡ otherLine → BadFields attrs fs
-other-bad attrs [] h = inr (inl (no-attribute [] refl, nothing-kind))
-  where
-    nothing-kind : (k : Kind) → [] ≢ kindText k
-    nothing-kind set e = never cc
-    nothing-kind policy e = never cc
-    nothing-kind rule e = never cc
+other-bad attrs [] h = inr (inl (no-attribute [] refl, no-letter [] refl, no-obligation [] refl))
 other-bad attrs (f ∷ []) h = few-fields attrs f [] (lit< tt)
 other-bad attrs (f ∷ g ∷ []) h = few-fields attrs f (g ∷ []) (lit< tt)
-other-bad attrs (f ∷ g ∷ x ∷ xs) h = go (test (attributeLetter f)) (kindOf f) refl xs refl
+other-bad attrs (f ∷ g ∷ x ∷ xs) h = go (test (attributeLetter f)) (test (obligationLetter f)) (kindOf f) refl xs refl
   where
-    go : Test (attributeLetter f) → (o : Option Kind) → kindOf f ≡ o → (ys : List Bytes) → xs ≡ ys → BadFields attrs (f ∷ g ∷ x ∷ xs)
-    go (passed e) o i ys j = let z : attributeLine (record { several = same f (letterText true); name = g; values = x ∷ xs }) ≡ otherLine = rw e at h in never cc
-    go (failed e) none i ys j = inr (inl (no-attribute f e, no-letter f i))
-    go (failed e) (some k) i [] j = inr (inr (inr (k, sym (spelled-some kindText f (set ∷ policy ∷ rule ∷ []) k i), λ c. omega (arith, c, ap length j))))
-    go (failed e) (some k) i (w ∷ ts) j = let z : treeLine k g x w ts ≡ otherLine = rw (e, i, j) at h in never cc
+    go : Test (attributeLetter f) → Test (obligationLetter f) → (o : Option Kind) → kindOf f ≡ o → (ys : List Bytes) → xs ≡ ys → BadFields attrs (f ∷ g ∷ x ∷ xs)
+    go (passed e) d o i ys j = let z : attributeLine (record { several = same f (letterText true); name = g; values = x ∷ xs }) ≡ otherLine = rw e at h in never cc
+    go (failed e) (passed d) o i [] j = let z : obligationLine g x ≡ otherLine = rw (e, d, j) at h in never cc
+    go (failed e) (passed d) o i (w ∷ ts) j = inr (inr (inr (inr (same-true f (bytes "O") d, λ c. omega (arith, c, ap length j)))))
+    go (failed e) (failed d) none i ys j = inr (inl (no-attribute f e, no-letter f i, no-obligation f d))
+    go (failed e) (failed d) (some k) i [] j = inr (inr (inr (inl (k, sym (spelled-some kindText f (set ∷ policy ∷ rule ∷ []) k i), λ c. omega (arith, c, ap length j)))))
+    go (failed e) (failed d) (some k) i (w ∷ ts) j = let z : treeLine k g x w ts ≡ otherLine = rw (e, d, i, j) at h in never cc
+
+or-left : (b : Bool) → (b || false) ≡ true → b ≡ true
+or-left true e = refl
+or-left false e = e
 
 module _ (s : Sofar) where
   wrong-bad : (fs : List Bytes) (l : Line) → lineOf fs ≡ l → wrongFields s fs l ≡ true → BadFields (s .attributes) fs
   wrong-bad fs (attributeLine a) i h = inl (not-true (all isField fs) (or-left (not (all isField fs)) h))
-    where
-      or-left : (b : Bool) → (b || false) ≡ true → b ≡ true
-      or-left true e = refl
-      or-left false e = e
   wrong-bad fs (treeLine k d n w ts) i h = go (test (all isField fs))
     where
       go : Test (all isField fs) → BadFields (s .attributes) fs
@@ -85,7 +93,8 @@ module _ (s : Sofar) where
           let uncounted : not (eqb (length ts) (length (s .attributes))) ≡ true = rw e at h in
           let other = eqb-false (length ts) (length (s .attributes)) (not-true (eqb (length ts) (length (s .attributes))) uncounted) in
           let are = tree-fields fs k d n w ts i in
-          inr (inr (inr (k, ap (λ x. getD x 0 []) are, λ c. other (omega (arith, c, ap length are)))))
+          inr (inr (inr (inl (k, ap (λ x. getD x 0 []) are, λ c. other (omega (arith, c, ap length are))))))
+  wrong-bad fs (obligationLine n w) i h = inl (not-true (all isField fs) (or-left (not (all isField fs)) h))
   wrong-bad fs otherLine i h = other-bad (s .attributes) fs i
 
   right-good : (fs : List Bytes) (l : Line) → lineOf fs ≡ l → wrongFields s fs l ≡ false → BadFields (s .attributes) fs → ⊥
@@ -96,9 +105,10 @@ module _ (s : Sofar) where
 
       go : BadFields (s .attributes) fs → ⊥
       go (inl e) = contradiction (not-false (all isField fs) (or-false (not (all isField fs)) false h .0)) e
-      go (inr (inl (n, k))) = n (a .several) (ap (λ x. getD x 0 []) are)
+      go (inr (inl (n, k, o))) = n (a .several) (ap (λ x. getD x 0 []) are)
       go (inr (inr (inl (b, e, c)))) = omega (arith, c, ap length are, attribute-fields fs a i .some-value)
-      go (inr (inr (inr (k, e, c)))) = not-letter (a .several) k (sym (ap (λ x. getD x 0 []) are) ∙ e)
+      go (inr (inr (inr (inl (k, e, c))))) = not-letter (a .several) k (sym (ap (λ x. getD x 0 []) are) ∙ e)
+      go (inr (inr (inr (inr (e, c))))) = not-obligation (a .several) (sym (ap (λ x. getD x 0 []) are) ∙ e)
   right-good fs (treeLine k d n w ts) i h b = go b
     where
       are : fs ≡ kindText k ∷ d ∷ n ∷ w ∷ ts
@@ -109,9 +119,21 @@ module _ (s : Sofar) where
 
       go : BadFields (s .attributes) fs → ⊥
       go (inl e) = contradiction (not-false (all isField fs) (or-false (not (all isField fs)) (not (eqb (length ts) (length (s .attributes)))) h .0)) e
-      go (inr (inl (m, j))) = j k (ap (λ x. getD x 0 []) are)
+      go (inr (inl (m, j, o))) = j k (ap (λ x. getD x 0 []) are)
       go (inr (inr (inl (b, e, c)))) = omega (arith, c, ap length are)
-      go (inr (inr (inr (j, e, c)))) = c (omega (arith, ap length are, counted))
+      go (inr (inr (inr (inl (j, e, c))))) = c (omega (arith, ap length are, counted))
+      go (inr (inr (inr (inr (e, c))))) = kind-not-obligation k (sym (ap (λ x. getD x 0 []) are) ∙ e)
+  right-good fs (obligationLine n w) i h b = go b
+    where
+      are : fs ≡ bytes "O" ∷ n ∷ w ∷ []
+      are = obligation-fields fs n w i
+
+      go : BadFields (s .attributes) fs → ⊥
+      go (inl e) = contradiction (not-false (all isField fs) (or-false (not (all isField fs)) false h .0)) e
+      go (inr (inl (m, j, o))) = o (ap (λ x. getD x 0 []) are)
+      go (inr (inr (inl (b, e, c)))) = not-obligation b (sym e ∙ ap (λ x. getD x 0 []) are)
+      go (inr (inr (inr (inl (k, e, c))))) = kind-not-obligation k (sym e ∙ ap (λ x. getD x 0 []) are)
+      go (inr (inr (inr (inr (e, c))))) = c (ap length are)
   right-good fs otherLine i h b = contradiction refl (or-false (not (all isField fs)) true h .1)
 
   row-2 : (U : Type 0) → (U → ⊥) → (fs : List Bytes) → Reflects (wrongFields s fs (lineOf fs)) (U ⊎ BadFields (s .attributes) fs)

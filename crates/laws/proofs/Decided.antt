@@ -46,18 +46,19 @@ map-map : {A B C : Type 0} (f : B → C) (g : A → B) (xs : List A) → map f (
 map-map f g [] = refl
 map-map f g (x ∷ xs) = ap (λ ys. f (g x) ∷ ys) (map-map f g xs)
 
+pub replies : (f : Bytes) (p : Policy) → read f ≡ given p → (n i : ℕ) → i < length (p .elements)
+    → childReplies (hits p n) (suc (depthAt (p .elements) i)) (drop (suc i) (p .elements)) ≡ map (replyAt p n) (childrenOf (p .elements) i)
+replies f p h n i l =
+    let es = p .elements in
+    map-some _ _ (children-asked es (accepted-steps f p h) (hits p n) i l
+    ∙ map-each (λ j. replyOf (hits p n) (drop j es)) (λ j. some (replyAt p n j)) (childrenOf es i) (λ j m. reply-at (hits p n) es j (child-only es i j m .0))
+    ∙ sym (map-map some (replyAt p n) (childrenOf es i)))
+
 pub standardly : (f : Bytes) (p : Policy) → read f ≡ given p → Standardly p
 standardly f p h = record { each-element = each; of-first = λ n. refl; gets = λ n. refl }
   where
-    replies : (n i : ℕ) → i < length (p .elements) → childReplies (hits p n) (suc (depthAt (p .elements) i)) (drop (suc i) (p .elements)) ≡ map (replyAt p n) (childrenOf (p .elements) i)
-    replies n i l =
-        let es = p .elements in
-        map-some _ _ (children-asked es (accepted-steps f p h) (hits p n) i l
-        ∙ map-each (λ j. replyOf (hits p n) (drop j es)) (λ j. some (replyAt p n j)) (childrenOf es i) (λ j m. reply-at (hits p n) es j (child-only es i j m .0))
-        ∙ sym (map-map some (replyAt p n) (childrenOf es i)))
-
     each : (n i : ℕ) → i < length (p .elements) → decisionAt p n i
         ≡ cond (getD (map (hits p n) (p .elements)) i false) (standard (getD (map (λ e. e .word) (p .elements)) i Word.Permit) (map (replyAt p n) (childrenOf (p .elements) i))) not-applicable
     each n i l =
         let w = getD (map (λ e. e .word) (p .elements)) i Word.Permit in
-        decision-at (hits p n) (p .elements) i l ∙ ap (λ d. cond (getD (map (hits p n) (p .elements)) i false) d not-applicable) (ap (combined w) (replies n i l) ∙ combined-standard w (map (replyAt p n) (childrenOf (p .elements) i)))
+        decision-at (hits p n) (p .elements) i l ∙ ap (λ d. cond (getD (map (hits p n) (p .elements)) i false) d not-applicable) (ap (combined w) (replies f p h n i l) ∙ combined-standard w (map (replyAt p n) (childrenOf (p .elements) i)))

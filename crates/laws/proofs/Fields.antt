@@ -13,12 +13,11 @@ use Rattle.meaning.specs.Reading.{badMasks}
 use Rattle.meaning.specs.Writing.{targetText, targetTexts, elementFields}
 use Rattle.meaning.specs.Claims.Texts.{All}
 use Rattle.meaning.specs.Claims.PolicyFile.{GoodAttribute}
-use Rattle.laws.proofs.Bounds.{GoodElement}
+use Rattle.laws.proofs.Bounds.{GoodElement, named, masks-good}
 use Rattle.laws.proofs.Bools.{Test, passed, failed, test, contradiction, and-true}
 use Rattle.laws.proofs.Text.{Free, Frees, NonEmptyName, name-bytes, name-of}
 use Rattle.laws.proofs.Names.{names-distinct}
 use Rattle.laws.proofs.Targets.{Written, star, names, mask-written}
-use Rattle.laws.proofs.Bounds.{named, masks-good}
 
 -- Fields hold no byte but 33 to 126
 printable-free : (c : ℕ) (f : Bytes) → between 33 126 c ≡ false → all (between 33 126) f ≡ true → Free c f
@@ -114,7 +113,7 @@ kind-field set = refl
 kind-field policy = refl
 kind-field rule = refl
 
-word-field : (w : Word) → isField (wordText w) ≡ true
+pub word-field : (w : Word) → isField (wordText w) ≡ true
 word-field Word.Permit = refl
 word-field Word.Deny = refl
 word-field deny-overrides = refl

@@ -4,20 +4,23 @@ use Prim.Native.Nat.{ℕ, zero, suc}
 use mathlib.Core.List.{List, [], _∷_, _++_, map, map-append, append-assoc}
 use lib.ListN.{length, getD, length-map}
 use Rattle.meaning.specs.Text.{Bytes, bytes, gathered, without, cut, join, newline, tab, line}
-use Rattle.meaning.specs.Model.{Attribute, Policy}
+use Rattle.meaning.specs.Model.{Attribute, Policy, obligationsOf}
 use Rattle.meaning.specs.Trimming.{lines, fieldOf}
-use Rattle.meaning.specs.Writing.{elementFields}
+use Rattle.meaning.specs.Writing.{elementFields, obligationFields}
 use Rattle.meaning.specs.Claims.Texts.{All}
 use Rattle.meaning.specs.Claims.PolicyFile.{GoodAttribute, attributeFields, GoodLines, WellFormed}
 use Rattle.meaning.specs.Claims.Trimming.{Lines}
-use Rattle.laws.proofs.Types.{Element}
+use Rattle.laws.proofs.Types.{Element, Obligation}
 use Rattle.laws.proofs.Text.{cut-join}
 use Rattle.laws.proofs.Lines.{join-unlines, cut-unlines, rows-lines}
 use Rattle.laws.proofs.Fields.{fields-free, element-fields}
+use Rattle.laws.proofs.Places.{GoodObligation}
 use Rattle.laws.proofs.Bounds.{all-append, GoodElement}
-use Rattle.laws.proofs.TreeLines.{of-lines}
-use Rattle.laws.proofs.WellFormed.{text-cut, rows-free}
+use Rattle.laws.proofs.ObligationLines.{of-lines}
+use Rattle.laws.proofs.WellFormed.{text-cut, rows-free, rows-are}
 use Rattle.laws.proofs.Reflects.{same-text}
+use Rattle.laws.proofs.Rewritten.{lineFields}
+use Rattle.laws.proofs.LinesBack.{fields-of-obligation}
 
 -- Each line is cut into its own fields
 abbrev Cut : List Bytes → Type 0
@@ -27,14 +30,21 @@ attributes-cut : (attrs : List Attribute) → All GoodAttribute attrs → All Cu
 attributes-cut [] g = tt
 attributes-cut (a ∷ attrs) g = (text-cut a (g .0), attributes-cut attrs (g .1))
 
-elements-cut : (attrs : List Attribute) → All GoodAttribute attrs → (es : List Element) → All (GoodElement attrs) es → All Cut (map (elementFields attrs) es)
+obligations-cut : (os : List Obligation) → All GoodObligation os → All Cut (map obligationFields os)
+obligations-cut [] g = tt
+obligations-cut (o ∷ os) g = (cut-join tab _ _ (fields-free tab (obligationFields o) refl (fields-of-obligation o (g .0))), obligations-cut os (g .1))
+
+elements-cut : (attrs : List Attribute) → All GoodAttribute attrs → (es : List Element) → All (GoodElement attrs) es → All Cut (gathered (lineFields attrs) es)
 elements-cut attrs g [] h = tt
-elements-cut attrs g (e ∷ es) h = (cut-join tab _ _ (fields-free tab (elementFields attrs e) refl (element-fields attrs e g (h .0))), elements-cut attrs g es (h .1))
+elements-cut attrs g (e ∷ es) h = (
+  cut-join tab _ _ (fields-free tab (elementFields attrs e) refl (element-fields attrs e g (h .0))),
+  all-append Cut (map obligationFields (obligationsOf e)) (gathered (lineFields attrs) es) (obligations-cut (obligationsOf e) (h .0 .carried .each-good)) (elements-cut attrs g es (h .1)),
+)
 
 rows-cut : (rows : List (List Bytes)) (attrs : List Attribute) (es : List Element) → GoodLines rows attrs es → All Cut rows
 rows-cut rows attrs es x =
     let t = of-lines attrs (x .attributes-good) (x .few-attributes) (x .tree) es (x .tree-lines) in
-    subst (All Cut) (sym (x .are)) (all-append Cut (map attributeFields attrs) (x .tree) (attributes-cut attrs (x .attributes-good)) (subst (All Cut) (sym (t .fields)) (elements-cut attrs (x .attributes-good) es (t .good))))
+    subst (All Cut) (sym (rows-are rows attrs es x)) (all-append Cut (map attributeFields attrs) (gathered (lineFields attrs) es) (attributes-cut attrs (x .attributes-good)) (elements-cut attrs (x .attributes-good) es (t .good)))
 
 -- so a field of a line is a field of its row; behind the last line all are empty
 abbrev ended : List (List Bytes) → List Bytes

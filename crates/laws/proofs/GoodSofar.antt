@@ -1,27 +1,31 @@
 -- What was read so far, as lines that break no rule: an invariant that every line of a file and every element of a list keeps.
-use mathlib.Core.Path.{_≡_, refl, sym, ap, _∙_}
+use mathlib.Core.Path.{_≡_, refl, sym, ap, _∙_, subst}
 use Prim.Native.Nat.{_≤_}
 use native.Mathlib.Omega.{arith}
 use mathlib.Core.Bool.{true, false, not}
 use mathlib.Core.List.{List, [], _∷_, _++_, map, reverse, reverseAux, reverse-cons, map-append, append-assoc, append-nil}
-use lib.ListN.{length, length-reverse}
-use borrow.Author.Tests.{not-false}
-use Rattle.meaning.specs.Text.{Bytes, empty, all, isNone, amongNames, repeated, isField}
-use Rattle.meaning.specs.Model.{Attribute, nameOf, wordText}
-use Rattle.meaning.specs.Reading.{Line, attributeLine, treeLine, otherLine, lineOf, elementOf, wordOf, Sofar, wellPlaced, attributeTests, elementTests, lineTests, withElement, extended, nothing}
-use Rattle.meaning.specs.Writing.{elementFields}
+use lib.ListN.{length, length-reverse, length-append}
+use lib.Dec.{ltb}
+use borrow.Author.Tests.{not-false, ltb-true}
+use Rattle.meaning.specs.Text.{Bytes, empty, all, amongNames, repeated, isField, gathered}
+use Rattle.meaning.specs.Model.{Attribute, nameOf, wordText, withObligations, obligationsOf}
+use Rattle.meaning.specs.Reading.{Line, attributeLine, treeLine, otherLine, lineOf, elementOf, Sofar, wellPlaced, attributeTests, elementTests, lineTests, withElement, extended, nothing, nearestWith, wellFollowed, badName, obligationTests, obligationLine, badUnused, withObligation, obligationOf, mayHaveObligations}
+use Rattle.meaning.specs.Writing.{elementFields, obligationFields}
 use Rattle.meaning.specs.Claims.Texts.{All, Each, DistinctNames}
 use Rattle.meaning.specs.Claims.PolicyFile.{attributeFields, attributeNames, Placed, NewName, GoodLines}
 use Rattle.meaning.specs.Claims.Writing.{Shaped}
-use Rattle.laws.proofs.Types.{Element}
-use Rattle.laws.proofs.Bools.{contradiction, or-false}
+use Rattle.laws.proofs.Types.{Element, Obligation}
+use Rattle.laws.proofs.Bools.{contradiction, or-false, and-true}
 use Rattle.laws.proofs.Reading.{Passes, line-numbered, PassesLine}
 use Rattle.laws.proofs.Lines.{attribute-fields}
-use Rattle.laws.proofs.Bounds.{GoodElement, all-reverse, Good, nothing-good, line-good, element-good}
-use Rattle.laws.proofs.Rewritten.{word-again, fields-again}
-use Rattle.laws.proofs.TreeLines.{HasWord, lines-of}
+use Rattle.laws.proofs.Bounds.{GoodElement, all-reverse, Good, nothing-good, line-good, obligation-good, obligation-of-line}
+use Rattle.laws.proofs.Rewritten.{fields-again, lineFields, gathered-append, gathered-map, obligation-again}
+use Rattle.laws.proofs.Words.{HasWord, word-had}
+use Rattle.laws.proofs.ObligationLines.{lines-of}
 use Rattle.laws.proofs.Placed.{well-placed}
 use Rattle.laws.proofs.Names.{not-among, snoc-distinct}
+use Rattle.laws.proofs.LinesBack.{bare-good}
+use Rattle.laws.proofs.Places.{GoodObligation, obligations-with}
 
 module _ {A : Type 0} where
   -- what holds of each element of a list turned round, with those behind it
@@ -64,19 +68,44 @@ element-kept s w e word (f3, (f4, (f5, (f6, f)))) k =
       words = (word, k .words);
     }
 
+obligation-kept : (attrs : List Attribute) (o : Obligation) (es : List Element) → Kept (record { attributes = attrs; before = es }) → Kept (record { attributes = attrs; before = nearestWith o es })
+obligation-kept attrs o [] k = k
+obligation-kept attrs o (e ∷ es) k = record { attributes-distinct = k .attributes-distinct; placed = k .placed; new-names = k .new-names; words = k .words }
+
 -- The lines read so far, by their fields
 abbrev pub rowsOf : Sofar → List (List Bytes)
-rowsOf s = map attributeFields (s .attributes) ++ map (elementFields (s .attributes)) (reverse (s .before))
+rowsOf s = map attributeFields (s .attributes) ++ gathered (lineFields (s .attributes)) (reverse (s .before))
 
 attribute-row : (attrs : List Attribute) (a : Attribute) (es : List Element) → empty es ≡ true → rowsOf (record { attributes = attrs; before = es }) ++ (attributeFields a ∷ []) ≡ rowsOf (record { attributes = attrs ++ (a ∷ []); before = es })
 attribute-row attrs a [] e = ap (λ x. x ++ (attributeFields a ∷ [])) (append-nil (map attributeFields attrs)) ∙ sym (map-append attributeFields attrs (a ∷ [])) ∙ sym (append-nil (map attributeFields (attrs ++ (a ∷ []))))
 attribute-row attrs a (x ∷ es) e = contradiction e refl
 
-element-row : (s : Sofar) (e : Element) → rowsOf s ++ (elementFields (s .attributes) e ∷ []) ≡ rowsOf (withElement s e)
+last-gathered : {A B : Type 0} (f : A → List B) (x : A) (xs : List A) → gathered f (reverse (x ∷ xs)) ≡ gathered f (reverse xs) ++ f x
+last-gathered f x xs = ap (gathered f) (reverse-cons x xs) ∙ gathered-append f (reverse xs) (x ∷ []) ∙ ap (λ y. gathered f (reverse xs) ++ y) (append-nil (f x))
+
+-- an element's line, and an obligation's behind it
+element-row : (s : Sofar) (e : Element) → rowsOf s ++ (elementFields (s .attributes) e ∷ []) ≡ rowsOf (withElement s (withObligations [] e))
 element-row s e =
-    let E = elementFields (s .attributes) in
+    let F = lineFields (s .attributes) in
     let A = map attributeFields (s .attributes) in
-    append-assoc A (map E (reverse (s .before))) (E e ∷ []) ∙ ap (λ x. A ++ x) (sym (map-append E (reverse (s .before)) (e ∷ [])) ∙ ap (map E) (sym (reverse-cons e (s .before))))
+    append-assoc A (gathered F (reverse (s .before))) (elementFields (s .attributes) e ∷ []) ∙ ap (λ x. A ++ x) (sym (last-gathered F (withObligations [] e) (s .before)))
+
+obligation-row : (attrs : List Attribute) (o : Obligation) (es : List Element) → wellFollowed es ≡ true → rowsOf (record { attributes = attrs; before = es }) ++ (obligationFields o ∷ []) ≡ rowsOf (record { attributes = attrs; before = nearestWith o es })
+obligation-row attrs o [] h = contradiction h refl
+obligation-row attrs o (e ∷ es) h =
+    let F = lineFields attrs in
+    let A = map attributeFields attrs in
+    let os = obligationsOf e ++ (o ∷ []) in
+    let room = ltb-true (length (obligationsOf e)) 2 (and-true (mayHaveObligations (e .kind)) (ltb (length (obligationsOf e)) 2) h .1) in
+    let own : F (withObligations os e) ≡ F e ++ (obligationFields o ∷ []) =
+    ap (λ x. elementFields attrs e ∷ map obligationFields x) (obligations-with os e (omega (arith, length-append (obligationsOf e) (o ∷ []))))
+    ∙ ap (λ x. elementFields attrs e ∷ x) (map-append obligationFields (obligationsOf e) (o ∷ [])) in
+    append-assoc A (gathered F (reverse (e ∷ es))) (obligationFields o ∷ [])
+    ∙ ap (λ x. A ++ x)
+    (ap (λ x. x ++ (obligationFields o ∷ [])) (last-gathered F e es)
+    ∙ append-assoc (gathered F (reverse es)) (F e) (obligationFields o ∷ [])
+    ∙ ap (λ x. gathered F (reverse es) ++ x) (sym own)
+    ∙ sym (last-gathered F (withObligations os e) es))
 
 -- What was read so far breaks no rule, and has these lines
 pub record GoodSofar (s : Sofar) (rows : List (List Bytes)) : Type 0 where
@@ -87,35 +116,50 @@ pub record GoodSofar (s : Sofar) (rows : List (List Bytes)) : Type 0 where
 pub nothing-sofar : GoodSofar nothing []
 nothing-sofar = record { good = nothing-good; kept = record { attributes-distinct = tt; placed = tt; new-names = tt; words = tt }; are = refl }
 
-pub line-sofar : (s : Sofar) (rows : List (List Bytes)) (fs : List Bytes) → PassesLine lineTests line-numbered s fs (lineOf fs) → GoodSofar s rows → GoodSofar (extended s (lineOf fs)) (rows ++ (fs ∷ []))
-line-sofar s rows fs p g = record { good = line-good s fs (lineOf fs) refl p (g .good); kept = keeps (lineOf fs) p; are = ap (λ x. x ++ (fs ∷ [])) (g .are) ∙ next-row (lineOf fs) refl p }
-  where
-    keeps : (l : Line) → PassesLine lineTests line-numbered s fs l → Kept (extended s l)
-    keeps (attributeLine a) (f2, f) = attribute-kept s a f (g .kept)
-    keeps (treeLine k d n w ts) (f2, f) =
-        let f7 = f .1 .1 .1 .1 .0 in
-        element-kept s w (elementOf (s .attributes) k d n w ts) (ap (λ t. isNone (wordOf k t)) (word-again k w f7) ∙ f7) f (g .kept)
-    keeps otherLine f = g .kept
-
-    next-row : (l : Line) → lineOf fs ≡ l → PassesLine lineTests line-numbered s fs l → rowsOf s ++ (fs ∷ []) ≡ rowsOf (extended s l)
-    next-row (attributeLine a) i (f2, (f3, (f4, (f5, (f6, f))))) = ap (λ x. rowsOf s ++ (x ∷ [])) (attribute-fields fs a i .are) ∙ attribute-row (s .attributes) a (s .before) (not-false (empty (s .before)) f6)
-    next-row (treeLine k d n w ts) i f = ap (λ x. rowsOf s ++ (x ∷ [])) (sym (fields-again s k d n w ts fs i f)) ∙ element-row s (elementOf (s .attributes) k d n w ts)
-    next-row otherLine i (f2, f) = contradiction refl (or-false (not (all isField fs)) true f2 .1)
-
-pub element-sofar : (s : Sofar) (rows : List (List Bytes)) (e : Element) → Shaped e → Passes (elementTests s (wordText (e .word)) e) → GoodSofar s rows → GoodSofar (withElement s e) (rows ++ (elementFields (s .attributes) e ∷ []))
+-- An element by its own line, and then each of its obligations
+pub element-sofar : (s : Sofar) (rows : List (List Bytes)) (e : Element) → Shaped e → Passes (elementTests s (wordText (e .word)) e) → GoodSofar s rows → GoodSofar (withElement s (withObligations [] e)) (rows ++ (elementFields (s .attributes) e ∷ []))
 element-sofar s rows e shaped p g = record {
-  good = element-good s (wordText (e .word)) e shaped p (g .good);
-  kept = element-kept s (wordText (e .word)) e (p .1 .1 .1 .1 .0) p (g .kept);
+  good = bare-good s e (g .good) shaped p;
+  kept = element-kept s (wordText (e .word)) (withObligations [] e) (p .1 .1 .1 .1 .0) (rw (or-false (badName e) (badUnused e) (p .0) .0), p .1) (g .kept);
   are = ap (λ x. x ++ (elementFields (s .attributes) e ∷ [])) (g .are) ∙ element-row s e;
 }
+
+pub obligation-sofar : (s : Sofar) (rows : List (List Bytes)) (w : Bytes) (o : Obligation) → GoodObligation o → Passes (obligationTests s w o) → GoodSofar s rows → GoodSofar (withObligation s o) (rows ++ (obligationFields o ∷ []))
+obligation-sofar s rows w o good p g = record {
+  good = obligation-good s w o good p (g .good);
+  kept = obligation-kept (s .attributes) o (s .before) (g .kept);
+  are = ap (λ x. x ++ (obligationFields o ∷ [])) (g .are) ∙ obligation-row (s .attributes) o (s .before) (not-false (wellFollowed (s .before)) (p .1 .1 .0));
+}
+
+pub line-sofar : (s : Sofar) (rows : List (List Bytes)) (fs : List Bytes) → PassesLine lineTests line-numbered s fs (lineOf fs) → GoodSofar s rows → GoodSofar (extended s (lineOf fs)) (rows ++ (fs ∷ []))
+line-sofar s rows fs p g = go (lineOf fs) refl p (line-good s fs (lineOf fs) refl p (g .good))
+  where
+    with-row : (z : Sofar) (row : List Bytes) → row ≡ fs → GoodSofar z (rows ++ (row ∷ [])) → GoodSofar z (rows ++ (fs ∷ []))
+    with-row z row e x = subst (λ r. GoodSofar z (rows ++ (r ∷ []))) e x
+
+    go : (l : Line) → lineOf fs ≡ l → PassesLine lineTests line-numbered s fs l → Good (extended s l) → GoodSofar (extended s l) (rows ++ (fs ∷ []))
+    go (attributeLine a) i (f2, f) good = with-row (extended s (attributeLine a)) (attributeFields a) (sym (attribute-fields fs a i .are)) (record {
+      good = good;
+      kept = attribute-kept s a f (g .kept);
+      are = ap (λ x. x ++ (attributeFields a ∷ [])) (g .are) ∙ attribute-row (s .attributes) a (s .before) (not-false (empty (s .before)) (f .1 .1 .1 .0));
+    })
+    go (treeLine k d n w ts) i f good =
+        let e = elementOf (s .attributes) k d n w ts in
+        with-row (withElement s e) (elementFields (s .attributes) e) (fields-again s k d n w ts fs i f) (record {
+          good = good;
+          kept = element-kept s w e (word-had k w (f .1 .1 .1 .1 .1 .0)) (f .1) (g .kept);
+          are = ap (λ x. x ++ (elementFields (s .attributes) e ∷ [])) (g .are) ∙ element-row s e;
+        })
+    go (obligationLine n w) i f good = with-row (withObligation s (obligationOf n w)) (obligationFields (obligationOf n w)) (obligation-again s fs n w i f) (obligation-sofar s rows w (obligationOf n w) (obligation-of-line s n w (f .1)) (f .1) g)
+    go otherLine i (f2, f) good = contradiction refl (or-false (not (all isField fs)) true f2 .1)
 
 pub good-lines : (s : Sofar) (rows : List (List Bytes)) → GoodSofar s rows → GoodLines rows (s .attributes) (reverse (s .before))
 good-lines s rows x =
     let g = x .good in
     let k = x .kept in
     record {
-      tree = map (elementFields (s .attributes)) (reverse (s .before));
-      are = x .are;
+      tree = map (lineFields (s .attributes)) (reverse (s .before));
+      are = x .are ∙ ap (λ y. map attributeFields (s .attributes) ++ y) (sym (gathered-map (λ l. l) (lineFields (s .attributes)) (reverse (s .before))));
       few-attributes = g .few-attributes;
       attributes-good = g .attributes-good;
       attributes-distinct = k .attributes-distinct;

@@ -2,38 +2,38 @@
 use mathlib.Core.Path.{_≡_, refl, ap}
 use Prim.Native.Nat.{ℕ, zero, suc, _+_, _≤_}
 use native.Mathlib.Omega.{arith}
-use mathlib.Core.Bool.{true}
-use mathlib.Core.List.{List, [], _∷_, _++_, map}
-use lib.Dec.{leb}
+use mathlib.Core.List.{List, [], _∷_, _++_}
 use lib.ListN.{length, take}
 use borrow.Author.Tests.{le-leb}
-use Rattle.meaning.specs.Text.{Bytes, gathered, front, last, cut, newline, line, amongNames}
-use Rattle.meaning.specs.Model.{nameOf, Result, refused, given, _then_, unless, wordText}
-use Rattle.meaning.specs.Reading.{Sofar, lowest, badName, elementTests, withElement, nothing, short, readText, finished}
+use Rattle.meaning.specs.Text.{Bytes, gathered, front, last, cut, newline}
+use Rattle.meaning.specs.Model.{Result, refused, given, _then_}
+use Rattle.meaning.specs.Reading.{Sofar, nothing, short, readText, finished}
 use Rattle.meaning.specs.Report.{fitted}
-use Rattle.meaning.specs.Writing.{headerTests, readElements, elementFields, writeFile}
+use Rattle.meaning.specs.Writing.{headerTests, readElements, writeFile, elementLines, readElement}
 use Rattle.laws.proofs.Types.{Element}
 use Rattle.laws.proofs.Reading.{lines-keep}
 use Rattle.laws.proofs.Bounds.{header-numbered}
 use Rattle.laws.proofs.Reread.{no-element}
-use Rattle.laws.proofs.Bools.{Test, passed, failed, test}
-
--- an element behind 64 others is refused by 3, 4 or 5
-behind-64 : {A : Type 0} (s : Sofar) (w : Bytes) (e : Element) (n : ℕ) (x y : Result A) → leb 64 (length (s .before)) ≡ true → unless (lowest (elementTests s w e)) n x ≡ unless (lowest (elementTests s w e)) n y
-behind-64 s w e n x y h = go (test (badName e)) (test (amongNames (nameOf e) (map nameOf (s .before))))
-  where
-    go : Test (badName e) → Test (amongNames (nameOf e) (map nameOf (s .before))) → unless (lowest (elementTests s w e)) n x ≡ unless (lowest (elementTests s w e)) n y
-    go (passed a) b = rw a
-    go (failed a) (passed b) = rw (a, b)
-    go (failed a) (failed b) = rw (a, b, h)
+use Rattle.laws.proofs.Bools.{contradiction}
+use Rattle.laws.proofs.Places.{element-read}
 
 -- so many elements more make 65
 elements-taken : (n : ℕ) (s : Sofar) (es : List Element) (k : ℕ) → length (s .before) + k ≡ 65 → 1 ≤ k → readElements n s (take k es) ≡ readElements n s es
 elements-taken n s [] zero h l = refl
 elements-taken n s [] (suc k) h l = refl
 elements-taken n s (e ∷ es) zero h l = absurd (omega arith)
-elements-taken n s (e ∷ es) (suc zero) h l = behind-64 s (wordText (e .word)) e n (readElements (suc n) (withElement s e) []) (readElements (suc n) (withElement s e) es) (le-leb 64 (length (s .before)) (omega arith))
-elements-taken n s (e ∷ es) (suc (suc k)) h l = ap (λ r. unless (lowest (elementTests s (wordText (e .word)) e)) n r) (elements-taken (suc n) (withElement s e) es (suc k) (omega arith) (omega arith))
+elements-taken n s (e ∷ es) (suc zero) h l = refused-both (readElement n s e) refl
+  where
+    -- an element behind 64 others is refused
+    refused-both : (x : Result Sofar) → readElement n s e ≡ x → (x then λ t. readElements (n + suc (e .obligations)) t []) ≡ (x then λ t. readElements (n + suc (e .obligations)) t es)
+    refused-both (refused a b) i = refl
+    refused-both (given t) i = let r = element-read n s e t i in contradiction (le-leb 64 (length (s .before)) (omega arith)) (r .passes .1 .1 .0)
+elements-taken n s (e ∷ es) (suc (suc k)) h l = go (readElement n s e) refl (λ t i. elements-taken (n + suc (e .obligations)) t es (suc k) (omega (arith, i)) (omega arith))
+  where
+    go : (x : Result Sofar) → readElement n s e ≡ x → ((t : Sofar) → length (t .before) ≡ suc (length (s .before)) → readElements (n + suc (e .obligations)) t (take (suc k) es) ≡ readElements (n + suc (e .obligations)) t es)
+        → (x then λ t. readElements (n + suc (e .obligations)) t (take (suc k) es)) ≡ (x then λ t. readElements (n + suc (e .obligations)) t es)
+    go (refused a b) i later = refl
+    go (given t) i later = later t (ap (λ t. length (t .before)) (element-read n s e t i .is))
 
 -- attribute lines alone leave no element
 no-elements : (t : Bytes) (s : Sofar) → readText headerTests t ≡ given s → s .before ≡ []
@@ -46,12 +46,12 @@ write-taken room header es = go (short header)
     -- what is done behind the attribute lines
     behind : Bytes → Sofar → List Element → Result Bytes
     behind h s xs = readElements (suc (length (s .attributes))) s xs then finished then λ p.
-        short (h ++ gathered (λ e. line (elementFields (p .attributes) e)) (p .elements)) then fitted room
+        short (h ++ gathered (elementLines (p .attributes)) (p .elements)) then fitted room
 
     with-lines : (h : Bytes) (x : Result Sofar) → readText headerTests h ≡ x → (x then λ s. behind h s (take 65 es)) ≡ (x then λ s. behind h s es)
     with-lines h (refused n m) e = refl
     with-lines h (given s) e =
-        ap (λ r. r then finished then λ p. short (h ++ gathered (λ e. line (elementFields (p .attributes) e)) (p .elements)) then fitted room)
+        ap (λ r. r then finished then λ p. short (h ++ gathered (elementLines (p .attributes)) (p .elements)) then fitted room)
         (elements-taken (suc (length (s .attributes))) s es 65 (ap (λ b. length b + 65) (no-elements h s e)) (omega arith))
 
     go : (x : Result Bytes) → (x then λ h. readText headerTests h then λ s. behind h s (take 65 es)) ≡ (x then λ h. readText headerTests h then λ s. behind h s es)

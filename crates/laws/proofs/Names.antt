@@ -6,14 +6,14 @@ use native.Mathlib.Omega.{arith}
 use mathlib.Core.Bool.{true, false, not, and-false}
 use mathlib.Core.List.{List, [], _∷_, _++_, List·Memᴰ, List·Memᴰ·head, List·Memᴰ·tail, List·Memᴰ·append-cases, List·Memᴰ·cases-cons, List·Memᴰ·not-nil, List·Memᴰ·eq-of-singleton, Memᴰ·append-right}
 use lib.Dec.{eqb}
-use borrow.Author.Tests.{eqb-true, eq-eqb, lt-leb, not-true}
+use borrow.Author.Tests.{eqb-true, eq-eqb, lt-leb}
 use Rattle.meaning.specs.Text.{Bytes, isNone, between, same, folded, lower, sameName, amongNames, repeated}
 use Rattle.meaning.specs.Deciding.{valueOf}
 use Rattle.meaning.specs.Claims.Texts.{CapitalOf, SameLetter, EqualNames, Among, DistinctNames}
 use Rattle.laws.proofs.Bools.{Test, passed, failed, test, contradiction, or-false, and-true}
 use Rattle.laws.proofs.Search.{any-has, any-only}
 use Rattle.laws.proofs.Text.{same-true, same-refl, same-apart}
-use Rattle.laws.proofs.Reflects.{Reflects, reflects, refutes, within}
+use Rattle.laws.proofs.Reflects.{Reflects, reflects, unheld, within}
 
 -- Every name is equal to itself, and equal names are equal to the same names
 pub name-refl : (n : Bytes) → sameName n n ≡ true
@@ -66,7 +66,7 @@ pub not-among : (n : Bytes) (ns : List Bytes) → amongNames n ns ≡ false → 
 not-among n ns e a = contradiction (among n ns .tests a) e
 
 pub new-name : (n : Bytes) (ns : List Bytes) → (Among n ns → ⊥) → amongNames n ns ≡ false
-new-name n ns h = not-true (amongNames n ns) (refutes (amongNames n ns) (Among n ns) (among n ns) .tests h)
+new-name n ns h = unheld (amongNames n ns) (Among n ns) (among n ns) h
 
 -- a text that is not among them is none of theirs
 pub not-same : (m n : Bytes) (ns : List Bytes) → amongNames m ns ≡ false → amongNames n ns ≡ true → same m n ≡ false

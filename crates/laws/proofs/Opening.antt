@@ -16,8 +16,7 @@ use Rattle.meaning.specs.Claims.Standard.{standard}
 use Rattle.meaning.specs.Claims.Deciding.{parentApplies, Parented, replyAt, Standardly}
 use Rattle.meaning.specs.Claims.Segments.{Opens, Conflicting}
 use Rattle.laws.proofs.Types.{Decision, Word, not-applicable}
-use Rattle.laws.proofs.Bools.{Test, passed, failed, test}
-use Rattle.laws.proofs.Segments.{and-right}
+use Rattle.laws.proofs.Bools.{Test, passed, failed, test, and-right}
 use Rattle.laws.proofs.Parents.{parented}
 use Rattle.laws.proofs.Decided.{map-each, standardly}
 

@@ -1,6 +1,6 @@
 -- What an operation answers and lends, and what the program prints.
-use mathlib.Core.Path.{_≡_, refl, sym, ap}
-use Prim.Native.Nat.{ℕ, _≤_}
+use mathlib.Core.Path.{_≡_, refl, sym, ap, _∙_, subst}
+use Prim.Native.Nat.{ℕ, _≤_, _<_}
 use native.Mathlib.Omega.{arith}
 use mathlib.Core.Bool.{cond}
 use mathlib.Core.List.{List, _++_}
@@ -9,15 +9,15 @@ use lib.ListN.{length, take, drop}
 use lib.Seq.{take-at, drop-append-seam}
 use borrow.Author.Tests.{ltb-true, ltb-false, lt-ltb, le-ltb}
 use Rattle.meaning.specs.declared.Answer.{Answer}
-use Rattle.meaning.specs.Text.{Bytes, gathered, line}
+use Rattle.meaning.specs.Text.{Bytes, gathered}
 use Rattle.meaning.specs.Model.{Result, refused, given, _then_}
 use Rattle.meaning.specs.Reading.{read, short, readText, finished}
 use Rattle.meaning.specs.Trimming.{trimmed}
 use Rattle.meaning.specs.Report.{report, fitted, trimFile, reportFile, program}
 use Rattle.meaning.specs.ValuePairs.{pairsNamed, valuePairsFile}
-use Rattle.meaning.specs.Writing.{headerTests, readElements, elementFields, listFile, writeFile}
-use Rattle.meaning.specs.Deciding.{decisionNumber, decideFile}
-use Rattle.meaning.specs.Operations.{answered, lent}
+use Rattle.meaning.specs.Writing.{headerTests, readElements, elementLines, listFile, writeFile}
+use Rattle.meaning.specs.Deciding.{decideFile}
+use Rattle.meaning.specs.Operations.{answered, lent, decidedBy}
 use Rattle.meaning.specs.Claims.Operations.{Writes, Operations, Prints}
 use Rattle.laws.proofs.Types.{Element}
 use Rattle.laws.proofs.Bools.{Test, passed, failed, test}
@@ -97,15 +97,22 @@ write-room : (room : ℕ) (header : Bytes) (es : List Element) → writeFile roo
 unfolding writeFile
 write-room room header es =
     then-through (short header) _ _ (fitted room) (λ h. then-through (readText headerTests h) _ _ (fitted room) (λ s. then-through (readElements _ s es then finished) _ _ (fitted room)
-    (λ p. short-room room (h ++ gathered (λ e. line (elementFields (p .attributes) e)) (p .elements)))))
+    (λ p. short-room room (h ++ gathered (elementLines (p .attributes)) (p .elements)))))
 
 pub operations : Operations
 unfolding trimFile reportFile valuePairsFile listFile decideFile
 operations = record {
   decision-numbers = refl;
-  decides-no-file = λ f r n m h. rw h;
-  decides-no-request = λ f r p n m h e. rw (h, e);
-  decides = λ f r p q h e. ap (answered decisionNumber) (decides f p h .each-line r q e);
+  decides-no-file = λ f r buffer n m h. (rw h, rw h);
+  decides-no-request = λ f r buffer p n m h e. (rw (h, e), rw (h, e));
+  decides-short = λ f r buffer p q h e o i short.
+      let gets = decides f p h .too-short r q e (length buffer) (subst (λ x. length buffer < length (x .obligations)) i short) in
+      (ap decidedBy gets ∙ ap (λ x. record { number = 11; second = length (x .obligations); length = 0 }) (sym i), ap (λ x. lent buffer (x then λ o. given (o .obligations))) gets);
+  decides = λ f r buffer p q h e o i fits.
+      let gets = decides f p h .each-line r q e (length buffer) (subst (λ x. length (x .obligations) ≤ length buffer) i fits) ∙ ap given (sym i) in
+      let own = ap (λ x. lent buffer (x then λ o. given (o .obligations))) gets in
+      let behind = drop (length (o .obligations)) buffer in
+      (ap decidedBy gets, ap (take (length (o .obligations))) own ∙ take-at (o .obligations) behind (length (o .obligations)) refl, ap (drop (length (o .obligations))) own ∙ drop-append-seam (o .obligations) behind);
   trims = λ f buffer. writes 11 buffer (lit≤ tt) (read f then λ p. given (trimmed f .text)) (given-numbered (read f) _ (read-numbered f)) (trimFile (length buffer) f) (given-then (read f) (λ p. trimmed f .text) (fitted (length buffer)));
   reports = λ f buffer. writes 11 buffer (lit≤ tt) (read f then λ p. given (report f p)) (given-numbered (read f) _ (read-numbered f)) (reportFile (length buffer) f) (given-then (read f) (report f) (fitted (length buffer)));
   tells-pairs = λ f name buffer. writes 11 buffer (lit≤ tt) (read f then λ p. pairsNamed p name) (then-numbered (read f) (λ p. pairsNamed p name) (read-numbered f) (λ p. pairs-numbered p name)) (valuePairsFile (length buffer) f name) (then-through (read f) _ _ (fitted (length buffer)) (λ p. refl));

@@ -6,10 +6,10 @@ use mathlib.Core.List.{List, [], _∷_, _++_, map}
 use lib.ListN.{getD}
 use Rattle.meaning.specs.Text.{Bytes, any, keep, without, front, same, sameName, amongNames, cut, tab}
 use Rattle.meaning.specs.Model.{nameOf, Policy, given}
-use Rattle.meaning.specs.Reading.{Line, attributeLine, treeLine, otherLine, lineOf, elementOf, Sofar, lineTests, extended, readLines, nothing, read}
+use Rattle.meaning.specs.Reading.{Line, attributeLine, treeLine, otherLine, lineOf, elementOf, Sofar, lineTests, extended, readLines, nothing, read, obligationLine, obligationOf, nearestWith}
 use Rattle.meaning.specs.Trimming.{lines, fieldOf, ruleLine, nameAt, strike}
 use Rattle.meaning.specs.Claims.Trimming.{Trims, none-left, last-struck, stays}
-use Rattle.laws.proofs.Types.{rule}
+use Rattle.laws.proofs.Types.{rule, Obligation, Element}
 use Rattle.laws.proofs.Bools.{Test, passed, failed, test, contradiction, or-false, or-true, and-true}
 use Rattle.laws.proofs.Text.{same-true, same-refl}
 use Rattle.laws.proofs.Names.{name-refl, not-same}
@@ -33,10 +33,15 @@ NamesOnce (l ∷ ls) = (ruleLine l ≡ true → any (called (nameIn l)) ls ≡ f
 abbrev names : Sofar → List Bytes
 names s = map nameOf (s .before)
 
+nearest-known : (n : Bytes) (o : Obligation) (es : List Element) → amongNames n (map nameOf es) ≡ true → amongNames n (map nameOf (nearestWith o es)) ≡ true
+nearest-known n o [] h = h
+nearest-known n o (e ∷ es) h = h
+
 -- a name that is there stays
 known-stays : (n : Bytes) (s : Sofar) (l : Line) → amongNames n (names s) ≡ true → amongNames n (names (extended s l)) ≡ true
 known-stays n s (attributeLine a) h = h
 known-stays n s (treeLine k d m w ts) h = or-true (sameName n (nameOf (elementOf (s .attributes) k d m w ts))) (amongNames n (names s)) h
+known-stays n s (obligationLine m w) h = nearest-known n (obligationOf m w) (s .before) h
 known-stays n s otherLine h = h
 
 -- a rule line that is read has a name that was not there, and then is

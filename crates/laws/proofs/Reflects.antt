@@ -35,6 +35,9 @@ restated b P Q to back x = record { holds = λ e. to (x .holds e); tests = λ q.
 pub refutes : (b : Bool) (R : Type 0) → Reflects b R → Reflects (not b) (R → ⊥)
 refutes b R x = reflects (not b) (R → ⊥) (λ e r. contradiction (x .tests r) (not-true b e)) (λ e n. n (x .holds (not-false b e)))
 
+pub unheld : (b : Bool) (R : Type 0) → Reflects b R → (R → ⊥) → b ≡ false
+unheld b R x n = not-true b (refutes b R x .tests n)
+
 pub either : (a b : Bool) (P Q : Type 0) → Reflects a P → Reflects b Q → Reflects (a || b) (P ⊎ Q)
 either true b P Q x y = record { holds = λ e. inl (x .holds refl); tests = λ r. refl }
 either false b P Q x y = record { holds = λ e. inr (y .holds e); tests = go }

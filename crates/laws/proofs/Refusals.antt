@@ -1,17 +1,17 @@
 -- A refusal's number is not 0: a C caller can tell it from a result.
-use Prim.Native.Nat.{ℕ, zero, suc, _≤_}
+use Prim.Native.Nat.{ℕ, zero, suc, _≤_, _+_}
 use native.Mathlib.Omega.{arith}
 use mathlib.Core.Bool.{Bool, true, false, cond, _&&_}
 use mathlib.Core.List.{List, [], _∷_, _++_}
-use lib.Dec.{ltb}
 use lib.ListN.{length}
-use Rattle.meaning.specs.Text.{Bytes, empty, gathered, sameName, cut, tab, front, last, newline, line}
-use Rattle.meaning.specs.Model.{Attribute, Policy, Result, refused, given, _then_, unless, wordText}
-use Rattle.meaning.specs.Reading.{Sofar, Line, Tests, lineOf, lowest, wrongFields, lineTests, elementTests, withElement, extended, readLines, nothing, short, finished, readText, read}
+use lib.Dec.{ltb}
+use Rattle.meaning.specs.Text.{Bytes, empty, gathered, sameName, cut, tab, front, last, newline}
+use Rattle.meaning.specs.Model.{Attribute, Policy, Result, refused, given, _then_, unless, wordText, withObligations, obligationsOf}
+use Rattle.meaning.specs.Reading.{Sofar, Line, Tests, lineOf, lowest, wrongFields, lineTests, elementTests, withElement, extended, readLines, nothing, short, finished, readText, read, obligationTests, withObligation}
 use Rattle.meaning.specs.Report.{report, fitted, reportFile}
 use Rattle.meaning.specs.ValuePairs.{severalAt, pairsText, pairsNamed}
-use Rattle.meaning.specs.Writing.{headerTests, readElements, elementFields, writeFile}
-use Rattle.laws.proofs.Types.{Element}
+use Rattle.meaning.specs.Writing.{headerTests, readElements, writeFile, readElement, elementLines, readObligations}
+use Rattle.laws.proofs.Types.{Element, Obligation}
 
 abbrev pub Numbered : {A : Type 0} → Result A → Type 0
 Numbered (refused n m) = 1 ≤ n
@@ -61,9 +61,20 @@ pairs-numbered p name = then-numbered (severalAt 0 name (p .attributes)) (λ i. 
     place-numbered i [] = omega arith
     place-numbered i (a ∷ attrs) = either-numbered (a .several && sameName name (a .name)) (given i) (severalAt (suc i) name attrs) tt (place-numbered (suc i) attrs)
 
+obligations-numbered : (n : ℕ) (s : Sofar) (os : List Obligation) → Numbered (readObligations n s os)
+obligations-numbered n s [] = tt
+obligations-numbered n s (o ∷ os) = unless-numbered (lowest (obligationTests s (wordText (o .word)) o)) n (readObligations (suc n) (withObligation s o) os) (obligations-numbered (suc n) (withObligation s o) os)
+
+element-numbered : (n : ℕ) (s : Sofar) (e : Element) → Numbered (readElement n s e)
+element-numbered n s e =
+    let own = withElement s (withObligations [] e) in
+    then-numbered (unless (lowest (elementTests s (wordText (e .word)) e)) n (readObligations (suc n) own (obligationsOf e))) (λ t. unless (cond (ltb 2 (e .obligations)) 14 0) (n + 3) (given t))
+    (unless-numbered (lowest (elementTests s (wordText (e .word)) e)) n (readObligations (suc n) own (obligationsOf e)) (obligations-numbered (suc n) own (obligationsOf e)))
+    (λ t. unless-numbered (cond (ltb 2 (e .obligations)) 14 0) (n + 3) (given t) tt)
+
 elements-numbered : (n : ℕ) (s : Sofar) (es : List Element) → Numbered (readElements n s es)
 elements-numbered n s [] = tt
-elements-numbered n s (e ∷ es) = unless-numbered (lowest (elementTests s (wordText (e .word)) e)) n (readElements (suc n) (withElement s e) es) (elements-numbered (suc n) (withElement s e) es)
+elements-numbered n s (e ∷ es) = then-numbered (readElement n s e) (λ t. readElements (n + suc (e .obligations)) t es) (element-numbered n s e) (λ t. elements-numbered (n + suc (e .obligations)) t es)
 
 pub write-numbered : (room : ℕ) (header : Bytes) (es : List Element) → Numbered (writeFile room header es)
 unfolding writeFile
@@ -71,5 +82,5 @@ write-numbered room header es =
     then-numbered (short header) _ (short-numbered header)
     (λ h. then-numbered (readText headerTests h) _ (lines-numbered headerTests (last [] (cut newline h)) 1 nothing (front (cut newline h)))
     (λ s. then-numbered (readElements (suc (length (s .attributes))) s es then finished) _ (then-numbered (readElements (suc (length (s .attributes))) s es) finished (elements-numbered (suc (length (s .attributes))) s es) finished-numbered)
-    (λ p. let file = h ++ gathered (λ e. line (elementFields (p .attributes) e)) (p .elements) in
+    (λ p. let file = h ++ gathered (elementLines (p .attributes)) (p .elements) in
     then-numbered (short file) (fitted room) (short-numbered file) (λ t. either-numbered (ltb room (length t)) (refused 11 (length t)) (given t) (omega arith) tt))))

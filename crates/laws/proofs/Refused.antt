@@ -44,7 +44,7 @@ line-refused : (f : Bytes) (n m : ℕ) → BadLine f n m → readText lineTests 
 line-refused f n m b =
     let s : Sofar = record { attributes = b .attributes; before = reverse (b .elements) } in
     let fs = cut tab (b .bad) in
-    let fails = row-fails lineTests line-numbered s fs (laterRows s fs) (reader-rows s (b .good .attributes-good) fs) (lit≤ tt, (lit≤ tt, (lit≤ tt, (lit≤ tt, (lit≤ tt, (lit≤ tt, tt)))))) n (b .after) (b .number) in
+    let fails = row-fails lineTests line-numbered s fs (laterRows s fs) (reader-rows s (b .good .attributes-good) fs) (lit≤ tt, (lit≤ tt, (lit≤ tt, (lit≤ tt, (lit≤ tt, (lit≤ tt, (lit≤ tt, tt))))))) n (b .after) (b .number) in
     bad-refused lineTests line-numbered s (b .before) (good-read (b .before) (b .attributes) (b .elements) (b .good)) f (b .bad) (b .after) n (b .are) (b .is-line) fails ∙ ap (refused n) (sym (b .second))
 
 refused-so : (f : Bytes) (n m : ℕ) → read f ≡ refused n m → Refuses f n m

@@ -6,11 +6,11 @@ use mathlib.Core.List.{List, [], _∷_}
 use mathlib.Core.Option.{Option, none, some}
 use lib.ListN.{length}
 use lib.Dec.{eqb}
-use borrow.Author.Tests.{eqb-true, eq-eqb, ne-eqb}
+use borrow.Author.Tests.{eqb-true, eq-eqb, ne-eqb, le-ltb, lt-ltb}
 use Rattle.meaning.specs.Text.{Bytes, cut, join, tab}
 use Rattle.meaning.specs.Model.{Attribute, Policy, sizes, Result, refused, given}
 use Rattle.meaning.specs.Reading.{read}
-use Rattle.meaning.specs.Deciding.{Request, requestOf, chosen, valuesOf, requestLine, decideFile}
+use Rattle.meaning.specs.Deciding.{Request, numberOf, requestOf, chosen, valuesOf, requestLine, Outcome, outcome, decide, decideFile}
 use Rattle.meaning.specs.Claims.Texts.{All, Paired, EqualNames}
 use Rattle.meaning.specs.Claims.PolicyFile.{GoodAttribute}
 use Rattle.meaning.specs.Claims.Requests.{requestFields, requestText, NamesRequest, ValueAt, Numbered}
@@ -130,7 +130,14 @@ decides f p h =
     let attrs = p .attributes in
     let numbers = numbered attrs (b .some-attribute) (b .attributes-good) in
     record {
-      each-number = λ n l. rw (h, numbers .to-line (requestOf (sizes attrs) n) (numbers .number-again n l .0));
-      each-line = λ r q e. rw (h, e, numbers .request-again q (numbers .by-line r q .0 e .0) .1);
-      no-request = λ r n place e. rw (h, e);
+      each-number = λ n l room fits. rw (h, numbers .to-line (requestOf (sizes attrs) n) (numbers .number-again n l .0), le-ltb room (length (outcome p n .obligations)) fits);
+      each-line = λ r q e room. same r q e (λ o. length (o .obligations) ≤ room → decideFile room f r ≡ given o) (λ fits. rw (h, e, le-ltb room (length (decide p q .obligations)) fits));
+      too-short = λ r q e room. same r q e (λ o. room < length (o .obligations) → decideFile room f r ≡ refused 11 (length (o .obligations))) (λ short. rw (h, e, lt-ltb room (length (decide p q .obligations)) short));
+      no-request = λ r n place e room. rw (h, e);
     }
+  where
+    same : (r : Bytes) (q : Request) → requestLine (p .attributes) r ≡ given q → (P : Outcome → Type 0) → P (decide p q) → P (outcome p (numberOf (sizes (p .attributes)) q))
+    same r q e P x =
+        let b = bounded f p h in
+        let numbers = numbered (p .attributes) (b .some-attribute) (b .attributes-good) in
+        subst P (ap (decide p) (sym (numbers .request-again q (numbers .by-line r q .0 e .0) .1))) x

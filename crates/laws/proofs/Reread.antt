@@ -1,147 +1,51 @@
 -- Elements that were written, read again: the same elements.
-use mathlib.Core.Path.{_≡_, refl, sym, ap, _∙_, subst, subst⁻¹}
-use Prim.Native.Nat.{ℕ, suc, _+_, _-_, _≤_}
-use native.Mathlib.Omega.{arith}
-use mathlib.Core.Bool.{true, false, not}
+use mathlib.Core.Path.{_≡_, refl, sym, ap, _∙_, subst, ap₂}
+use Prim.Native.Nat.{ℕ, suc, _+_, _≤_}
+use mathlib.Core.Bool.{false}
 use mathlib.Core.List.{append-cancel-right, List, [], _∷_, _++_, map, reverse}
-use mathlib.Core.Option.{some}
-use lib.ListN.{length, take, drop, replicate, take-append-drop, length-drop}
-use lib.Seq.{length-take-le}
-use lib.Dec.{eqb, leb, ltb}
-use borrow.Author.Tests.{leb-true, le-leb, eqb-true, eq-eqb, not-false}
-use Rattle.laws.proofs.Types.{Kind, Word, deny-overrides, permit-overrides, first-applicable, only-one-applicable, Element}
-use Rattle.meaning.specs.Text.{Bytes, empty, front, isNone, between, cut, join, newline, tab, line, decimal}
-use Rattle.meaning.specs.Model.{Attribute, padded, nameOf, Policy, refused, given, _then_, kindText, wordText}
-use Rattle.meaning.specs.Reading.{Line, attributeLine, treeLine, otherLine, lineOf, spelled, depthOf, wordOf, masksOf, orPermit, elementOf, Sofar, nonZero, badMasks, elementTests, lineTests, lowest, wrongFields, withElement, extended, readLines, nothing, readText, short, finished, read}
+use lib.ListN.{length}
+use lib.Dec.{ltb}
+use Rattle.laws.proofs.Types.{Element, Obligation}
+use Rattle.meaning.specs.Text.{Bytes, empty, front, cut, newline, tab, line, gathered}
+use Rattle.meaning.specs.Model.{Attribute, Policy, refused, given, _then_, obligationsOf}
+use Rattle.meaning.specs.Reading.{Line, attributeLine, treeLine, otherLine, lineOf, Sofar, lineTests, withElement, extended, readLines, nothing, readText, short, finished, read, obligationLine}
 use Rattle.meaning.specs.Report.{fitted}
-use Rattle.meaning.specs.Writing.{headerTests, readElements, targetTexts, elementFields, writeFile}
+use Rattle.meaning.specs.Writing.{headerTests, readElements, elementFields, writeFile, readElement, obligationFields}
 use Rattle.meaning.specs.Claims.Writing.{attributeLines, Shaped, RoundTrips}
 use Rattle.meaning.specs.Claims.Texts.{All}
 use Rattle.meaning.specs.Claims.PolicyFile.{GoodAttribute}
-use Rattle.laws.proofs.Bounds.{GoodElement}
-use Rattle.laws.proofs.Bools.{Test, passed, failed, test, contradiction, or-false, and-true}
-use Rattle.laws.proofs.Text.{Frees, cut-frees, cut-join, join-free, frees-append}
-use Rattle.laws.proofs.Names.{names-distinct}
-use Rattle.laws.proofs.Reading.{refused-given, given-given, step-then, step-unless, Passes, lowest-zero, element-numbered, line-numbered, PassesLine, read-step, read-step⁻, lines-keep, ReadText, text-read, short-given, policyOf, finished-given, read-lines}
-use Rattle.laws.proofs.Lines.{tree-line, unlines, unlines-append, text-unlines, cut-unlines, frees-front}
-use Rattle.laws.proofs.Targets.{mask-read}
-use Rattle.laws.proofs.Bounds.{Good, nothing-good, element-good, named, masks-good, header-numbered, header-good}
-use Rattle.laws.proofs.Fields.{digit, fields-free, element-fields}
-use Rattle.laws.proofs.Rewritten.{file-text, word-again, treeText, elements-taken, rewritten}
-
--- A depth and a word, read again
-pub depth-back : (d : ℕ) → d ≤ 7 → depthOf (decimal d) ≡ d
-depth-back d l =
-    let octal : between 48 55 (48 + d) ≡ true = rw (le-leb 48 (48 + d) (omega arith), le-leb (48 + d) 55 (omega arith)) in
-    rw (digit d (omega arith), octal) (omega arith)
-
-abbrev every-word : List Word
-every-word = Word.Permit ∷ Word.Deny ∷ deny-overrides ∷ permit-overrides ∷ first-applicable ∷ only-one-applicable ∷ []
-
-word-read : (w : Word) → spelled wordText (wordText w) every-word ≡ some w
-word-read Word.Permit = refl
-word-read Word.Deny = refl
-word-read deny-overrides = refl
-word-read permit-overrides = refl
-word-read first-applicable = refl
-word-read only-one-applicable = refl
-
-word-same : (v w : Word) → wordText v ≡ wordText w → v ≡ w
-word-same v w h = let e : some v ≡ some w = sym (word-read v) ∙ ap (λ t. spelled wordText t every-word) h ∙ word-read w in cc
-
-word-back : (k : Kind) (w : Word) → isNone (wordOf k (wordText w)) ≡ false → orPermit (wordOf k (wordText w)) ≡ w
-word-back k w h = word-same (orPermit (wordOf k (wordText w))) w (word-again k (wordText w) h)
-
--- Zeros behind a list
-only-zeros : (xs : List ℕ) → nonZero xs ≡ false → xs ≡ replicate (length xs) 0
-only-zeros [] h = refl
-only-zeros (x ∷ xs) h =
-    let (own, others) = or-false (not (eqb x 0)) (nonZero xs) h in
-    let zero-here : x ≡ 0 = eqb-true x 0 (not-false (eqb x 0) own) in
-    let zeros = only-zeros xs others in
-    cc
-
-pub padded-take : (size k : ℕ) (xs : List ℕ) → length xs ≡ size → k ≤ size → nonZero (drop k xs) ≡ false → padded size (take k xs) ≡ xs
-padded-take size k xs e l z =
-    let t : length (take k xs) ≡ k = length-take-le k xs (omega arith) in
-    let d : size - k ≡ length (drop k xs) = sym (length-drop k xs ∙ ap (λ n. n - k) e) in
-    rw (t, d, ← only-zeros (drop k xs) z) (take-append-drop k xs)
-
--- The masks, read again
-pub record MasksBack (attrs : List Attribute) (ms : List ℕ) : Type 0 where
-  pub count : length (targetTexts attrs ms) ≡ length attrs
-  pub masks : masksOf attrs (targetTexts attrs ms) ≡ take (length attrs) ms
-  pub zeros-behind : nonZero (drop (length attrs) ms) ≡ false
-
-pub masks-back : (attrs : List Attribute) (ms : List ℕ) → All GoodAttribute attrs → badMasks attrs ms ≡ false → MasksBack attrs ms
-masks-back [] ms g h = record { count = refl; masks = refl; zeros-behind = h }
-masks-back (a ∷ attrs) [] g h = contradiction refl h
-masks-back (a ∷ attrs) (m ∷ ms) g h =
-    let b = masks-good a attrs m ms h in
-    let later = masks-back attrs ms (g .1) (b .others) in
-    let own = mask-read (a .values) m (g .0 .values-named) (names-distinct (a .values) (g .0 .distinct)) (b .not-empty) (b .no-high-bit) in
-    record { count = ap suc (later .count); masks = rw (own, later .masks); zeros-behind = later .zeros-behind }
-
--- An element that passed: its line, without the newline, is read as that element
-abbrev pub bare : List Attribute → Element → Bytes
-bare attrs e = join tab (elementFields attrs e)
-
-abbrev lineFor : List Attribute → Element → Line
-lineFor attrs e = treeLine (e .kind) (decimal (e .depth)) (nameOf e) (wordText (e .word)) (targetTexts attrs (e .masks))
-
-module _ (attrs : List Attribute) (e : Element) (attributes-good : All GoodAttribute attrs) (few : length attrs ≤ 6) (g : GoodElement attrs e) where
-  bare-line : (cut tab (bare attrs e) ≡ elementFields attrs e) × (lineOf (elementFields attrs e) ≡ lineFor attrs e)
-  bare-line =
-      let rest = decimal (e .depth) ∷ nameOf e ∷ wordText (e .word) ∷ targetTexts attrs (e .masks) in
-      (cut-join tab (kindText (e .kind)) rest (fields-free tab (elementFields attrs e) refl (element-fields attrs e attributes-good g)), tree-line (e .kind) (decimal (e .depth)) (nameOf e) (wordText (e .word)) (targetTexts attrs (e .masks)))
-
-  element-back : isNone (wordOf (e .kind) (wordText (e .word))) ≡ false → elementOf attrs (e .kind) (decimal (e .depth)) (nameOf e) (wordText (e .word)) (targetTexts attrs (e .masks)) ≡ e
-  element-back w =
-      let n = named e (g .named) in
-      let m = masks-back attrs (e .masks) attributes-good (g .masked) in
-      let short = leb-true (e .len) 16 (and-true (leb 1 (e .len)) (leb (e .len) 16) (n .size) .1) in
-      let depth : depthOf (decimal (e .depth)) ≡ e .depth = depth-back (e .depth) (g .shallow) in
-      let name : padded 16 (nameOf e) ≡ e .name = padded-take 16 (e .len) (e .name) (g .shaped .name-size) short (n .zeros-behind) in
-      let len : length (nameOf e) ≡ e .len = length-take-le (e .len) (e .name) (omega (arith, g .shaped .name-size)) in
-      let word : orPermit (wordOf (e .kind) (wordText (e .word))) ≡ e .word = word-back (e .kind) (e .word) w in
-      let masks : padded 6 (masksOf attrs (targetTexts attrs (e .masks))) ≡ e .masks = rw (m .masks) (padded-take 6 (length attrs) (e .masks) (g .shaped .masks-size) few (m .zeros-behind)) in
-      λ i. record { kind = e .kind; depth = depth i; name = name i; len = len i; word = word i; masks = masks i }
+use Rattle.laws.proofs.Places.{GoodObligation, element-read, element-kept}
+use Rattle.laws.proofs.Bounds.{GoodElement, Good, nothing-good, header-numbered, header-good}
+use Rattle.laws.proofs.Bools.{Test, passed, failed, test, contradiction}
+use Rattle.laws.proofs.Text.{Frees, cut-frees, join-free, frees-append}
+use Rattle.laws.proofs.Reading.{refused-given, given-given, step-then, line-numbered, PassesLine, read-step, read-step⁻, lines-keep, ReadText, text-read, short-given, policyOf, finished-given, read-lines}
+use Rattle.laws.proofs.Lines.{unlines, unlines-append, text-unlines, cut-unlines, frees-front}
+use Rattle.laws.proofs.Fields.{fields-free, element-fields}
+use Rattle.laws.proofs.Rewritten.{file-text, treeText, elements-taken, rewritten}
+use Rattle.laws.proofs.LinesBack.{bareLines, taken-good, bareObligation, element-lines, fields-of-obligation}
 
 -- The elements that the writer took: their lines, read again
 record ElementsBack (s : Sofar) (es : List Element) (z : Sofar) : Type 0 where
   pub elements-good : All (GoodElement (s .attributes)) es
-  pub lines-read : (n : ℕ) → readLines lineTests [] n s (map (bare (s .attributes)) es) ≡ given z
-
-pub element-line : (rest : Bytes) (s : Sofar) (e : Element) → Good s → GoodElement (s .attributes) e → Passes (elementTests s (wordText (e .word)) e) → (n : ℕ) (ls : List Bytes)
-    → readLines lineTests rest n s (bare (s .attributes) e ∷ ls) ≡ readLines lineTests rest (suc n) (withElement s e) ls
-element-line rest s e g h p n ls =
-    let attrs = s .attributes in
-    let (pieces, is-tree) = bare-line attrs e (g .attributes-good) (g .few-attributes) h in
-    let back = element-back attrs e (g .attributes-good) (g .few-attributes) h (p .1 .1 .1 .1 .0) in
-    let count = masks-back attrs (e .masks) (g .attributes-good) (h .masked) .count in
-    let fields : wrongFields s (elementFields attrs e) (lineFor attrs e) ≡ false = rw (element-fields attrs e (g .attributes-good) h, eq-eqb (length (targetTexts attrs (e .masks))) (length attrs) count) in
-    let passes : PassesLine lineTests line-numbered s (elementFields attrs e) (lineFor attrs e) = (fields, subst⁻¹ (λ x. Passes (elementTests s (wordText (e .word)) x)) back p) in
-    read-step⁻ lineTests line-numbered rest n s (bare attrs e) ls (rw (pieces, is-tree) passes)
-    ∙ ap (λ x. readLines lineTests rest (suc n) (extended s x) ls) (ap lineOf pieces ∙ is-tree)
-    ∙ ap (λ x. readLines lineTests rest (suc n) (withElement s x) ls) back
+  pub lines-read : (n : ℕ) → readLines lineTests [] n s (gathered (bareLines (s .attributes)) es) ≡ given z
 
 elements-back : (m : ℕ) (s : Sofar) (es : List Element) (z : Sofar) → Good s → All Shaped es → readElements m s es ≡ given z → ElementsBack s es z
 elements-back m s [] z g shaped h = record { elements-good = tt; lines-read = λ n. h }
 elements-back m s (e ∷ es) z g shaped h =
-    let tests = elementTests s (wordText (e .word)) e in
-    let (none-holds, r) = step-unless (lowest tests) m (readElements (suc m) (withElement s e) es) z h in
-    let p = lowest-zero tests (element-numbered s (wordText (e .word)) e) none-holds in
-    let next = element-good s (wordText (e .word)) e (shaped .0) p g in
-    let later = elements-back (suc m) (withElement s e) es z next (shaped .1) r in
+    let (t, a, b) = step-then (readElement m s e) (λ t. readElements (m + suc (e .obligations)) t es) z h in
+    let r = element-read m s e t a in
+    let next = taken-good s e t g (shaped .0) r in
+    let later = elements-back (m + suc (e .obligations)) (withElement s e) es z next (shaped .1) (subst (λ t. readElements (m + suc (e .obligations)) t es ≡ given z) (element-kept s e t (shaped .0) r) b) in
     record {
       elements-good = (next .elements-good .0, later .elements-good);
-      lines-read = λ n. element-line [] s e g (next .elements-good .0) p n (map (bare (s .attributes)) es) ∙ later .lines-read (suc n);
+      lines-read = λ n. element-lines [] s e g (next .elements-good .0) (r .passes) (r .obligations-pass) n (gathered (bareLines (s .attributes)) es) ∙ later .lines-read (n + suc (e .obligations));
     }
 
 -- The attribute lines that the writer read: a file reads them alike
 pub header-passes : (s : Sofar) (fs : List Bytes) (l : Line) → PassesLine headerTests header-numbered s fs l → PassesLine lineTests line-numbered s fs l
 header-passes s fs (attributeLine a) p = p
 header-passes s fs (treeLine k d n w ts) (f2, (f3, (f6, f))) = contradiction refl f6
+header-passes s fs (obligationLine n w) (f2, (f3, (f14, f))) = contradiction refl f14
 header-passes s fs otherLine p = p
 
 header-back : (n : ℕ) (s : Sofar) (own : List Bytes) (z : Sofar) (more : List Bytes) → readLines headerTests [] n s own ≡ given z → (k : ℕ) × (readLines lineTests [] n s (own ++ more) ≡ readLines lineTests [] k z more)
@@ -155,6 +59,7 @@ header-back n s (l ∷ own) z more h =
 pub no-element : (s : Sofar) (fs : List Bytes) (l : Line) → lineOf fs ≡ l → PassesLine headerTests header-numbered s fs l → s .before ≡ [] → extended s l .before ≡ []
 no-element s fs (attributeLine a) e p h = h
 no-element s fs (treeLine k d n w ts) e (f2, (f3, (f6, f))) h = contradiction refl f6
+no-element s fs (obligationLine n w) e (f2, (f3, (f14, f))) h = contradiction refl f14
 no-element s fs otherLine e p h = h
 
 -- A file that was written
@@ -167,7 +72,7 @@ record Writes (header : Bytes) (es : List Element) (t : Bytes) : Type 0 where
   pub text : header ++ treeText (sofar .attributes) (reverse (sofar .before)) ≡ t
   pub size : length t ≤ 16384
 
-fitted-given : (room : ℕ) (t u : Bytes) → fitted room t ≡ given u → t ≡ u
+pub fitted-given : (room : ℕ) (t u : Bytes) → fitted room t ≡ given u → t ≡ u
 fitted-given room t u h = go (test (ltb room (length t)))
   where
     go : Test (ltb room (length t)) → t ≡ u
@@ -202,13 +107,24 @@ writes room header es t h =
         }
 
 -- Its lines
-tree-lines : (attrs : List Attribute) (es : List Element) → treeText attrs es ≡ unlines (map (bare attrs) es)
-tree-lines attrs [] = refl
-tree-lines attrs (e ∷ es) = ap (λ x. line (elementFields attrs e) ++ x) (tree-lines attrs es)
+obligation-lines : (os : List Obligation) → gathered (λ o. line (obligationFields o)) os ≡ unlines (map bareObligation os)
+obligation-lines [] = refl
+obligation-lines (o ∷ os) = ap (λ x. line (obligationFields o) ++ x) (obligation-lines os)
 
-pub lines-free : (attrs : List Attribute) (es : List Element) → All GoodAttribute attrs → All (GoodElement attrs) es → Frees newline (map (bare attrs) es)
+tree-lines : (attrs : List Attribute) (es : List Element) → treeText attrs es ≡ unlines (gathered (bareLines attrs) es)
+tree-lines attrs [] = refl
+tree-lines attrs (e ∷ es) =
+    ap₂ (λ x y. (line (elementFields attrs e) ++ x) ++ y) (obligation-lines (obligationsOf e)) (tree-lines attrs es)
+    ∙ sym (unlines-append (bareLines attrs e) (gathered (bareLines attrs) es))
+
+obligation-lines-free : (os : List Obligation) → All GoodObligation os → Frees newline (map bareObligation os)
+obligation-lines-free [] g = tt
+obligation-lines-free (o ∷ os) g = (join-free newline tab (obligationFields o) refl (fields-free newline (obligationFields o) refl (fields-of-obligation o (g .0))), obligation-lines-free os (g .1))
+
+pub lines-free : (attrs : List Attribute) (es : List Element) → All GoodAttribute attrs → All (GoodElement attrs) es → Frees newline (gathered (bareLines attrs) es)
 lines-free attrs [] g h = tt
-lines-free attrs (e ∷ es) g h = (join-free newline tab (elementFields attrs e) refl (fields-free newline (elementFields attrs e) refl (element-fields attrs e g (h .0))), lines-free attrs es g (h .1))
+lines-free attrs (e ∷ es) g h =
+    (join-free newline tab (elementFields attrs e) refl (fields-free newline (elementFields attrs e) refl (element-fields attrs e g (h .0))), frees-append newline (map bareObligation (obligationsOf e)) (gathered (bareLines attrs) es) (obligation-lines-free (obligationsOf e) (h .0 .carried .each-good)) (lines-free attrs es g (h .1)))
 
 -- Elements written and read again are the same elements, behind the same attribute lines
 written-reread : (header t : Bytes) (es : List Element) → All Shaped es → Writes header es t → ((read t then λ p. given (p .elements)) ≡ given es) × (attributeLines t ≡ header)
@@ -216,11 +132,11 @@ written-reread header t es shaped w =
     let own = front (cut newline header) in
     let s = w .start in
     let z = w .sofar in
-    let more = map (bare (s .attributes)) es in
+    let more = gathered (bareLines (s .attributes)) es in
     let header-lines = w .header-read .lines-read in
     let g = lines-keep headerTests header-numbered Good header-good [] 1 nothing own s header-lines nothing-good in
     let no-elements = lines-keep headerTests header-numbered (λ x. x .before ≡ []) no-element [] 1 nothing own s header-lines refl in
-    let taken = elements-taken (suc (length (s .attributes))) s es z (w .elements-read) in
+    let taken = elements-taken (suc (length (s .attributes))) s es z shaped (w .elements-read) in
     let same-elements : reverse (z .before) ≡ es = taken .elements-added ∙ ap (λ x. reverse x ++ es) no-elements in
     let tree : treeText (z .attributes) (reverse (z .before)) ≡ unlines more = rw (taken .attributes-stay, same-elements) (tree-lines (s .attributes) es) in
     let whole : t ≡ unlines (own ++ more) = sym (w .text) ∙ ap (λ x. x ++ treeText (z .attributes) (reverse (z .before))) (text-unlines header own (w .header-read .pieces)) ∙ ap (λ x. unlines own ++ x) tree ∙ sym (unlines-append own more) in

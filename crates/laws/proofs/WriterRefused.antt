@@ -1,37 +1,37 @@
 -- The writer refuses, with two numbers, exactly as the table says.
 use mathlib.Core.Path.{_≡_, refl, sym, ap, _∙_, subst}
 use mathlib.Core.Logic.{inl, inr, _↔_}
-use Prim.Native.Nat.{ℕ, zero, suc, _≤_, zero-le, suc-le-suc}
+use Prim.Native.Nat.{ℕ, zero, suc, _≤_, zero-le, suc-le-suc, _+_}
 use native.Mathlib.Omega.{arith}
-use mathlib.Core.Bool.{false}
+use mathlib.Core.Bool.{false, cond}
 use mathlib.Core.List.{List, [], _∷_, _++_, map, reverse, reverse-cons, reverse-reverse, append-nil}
 use lib.ListN.{length, length-append, length-map, length-reverse}
 use lib.Seq.{append-snoc}
 use lib.Dec.{ltb, lit≤}
 use borrow.Author.Tests.{ltb-true, ltb-false, lt-ltb, le-ltb}
 use Rattle.meaning.specs.Text.{Bytes, empty, gathered, cut, join, tab, line}
-use Rattle.meaning.specs.Model.{Attribute, Result, refused, given, _then_, unless, wordText}
+use Rattle.meaning.specs.Model.{Attribute, Result, refused, given, _then_, unless, wordText, withObligations, obligationsOf, placesOf}
 use Rattle.meaning.specs.Reading.{Sofar, lineOf, Tests, lowest, elementTests, withElement, extended, nothing, readText, short, finished}
 use Rattle.meaning.specs.Report.{fitted}
-use Rattle.meaning.specs.Writing.{headerTests, readElements, elementFields, writeFile}
+use Rattle.meaning.specs.Writing.{headerTests, readElements, elementFields, writeFile, elementLines, readObligations}
 use Rattle.meaning.specs.Claims.Texts.{All}
 use Rattle.meaning.specs.Claims.PolicyFile.{attributeFields, GoodLines}
 use Rattle.meaning.specs.Claims.Refusals.{Lowest}
 use Rattle.meaning.specs.Claims.Writing.{Shaped}
-use Rattle.meaning.specs.Claims.WriterRefusals.{BadAttributeLine, elementRows, FileLines, BadElement, BadFile, RefusesToWrite}
+use Rattle.meaning.specs.Claims.WriterRefusals.{BadAttributeLine, elementRows, FileLines, BadElement, BadFile, RefusesToWrite, BadObligation}
 use Rattle.laws.proofs.Types.{Element}
 use Rattle.laws.proofs.Bools.{Test, passed, failed, test}
 use Rattle.laws.proofs.Reading.{refused-given, Passes, lowest-zero, element-numbered, PassesLine, short-text, text-read}
 use Rattle.laws.proofs.Bounds.{header-numbered}
-use Rattle.laws.proofs.Rewritten.{only, treeText, gathered-append, gathered-map}
+use Rattle.laws.proofs.Rewritten.{only, treeText, gathered-append, lineFields, tree-fields-text}
 use Rattle.laws.proofs.Reread.{header-passes, no-element}
-use Rattle.laws.proofs.TreeLines.{of-lines}
 use Rattle.laws.proofs.FirstBad.{refused-refused, unless-refused, FirstBad, text-refused, text-given, bad-refused, rows-read}
 use Rattle.laws.proofs.GoodSofar.{not-empty, GoodSofar, nothing-sofar, line-sofar, element-sofar, good-lines}
-use Rattle.laws.proofs.WellFormed.{header-read, header-free, good-taken}
+use Rattle.laws.proofs.WellFormed.{header-read, header-free, good-taken, rows-are}
 use Rattle.laws.proofs.Reflects.{lowest-row, row-lowest, row-number}
 use Rattle.laws.proofs.BadFields.{Beside, fails-row, row-fails}
 use Rattle.laws.proofs.WriterTable.{laterHeaderRows, writer-rows, element-matches}
+use Rattle.laws.proofs.WriterObligations.{Ended, obligation-refused, obligations-end}
 
 -- What was read of the attribute lines: no rule is broken, and no element is among them
 record HeaderSofar (s : Sofar) (rows : List (List Bytes)) : Type 0 where
@@ -48,7 +48,7 @@ nothing-header : HeaderSofar nothing []
 nothing-header = record { sofar = nothing-sofar; alone = refl }
 
 header-rows : (s : Sofar) (rows : List (List Bytes)) → HeaderSofar s rows → rows ≡ map attributeFields (s .attributes)
-header-rows s rows h = h .sofar .are ∙ ap (λ x. map attributeFields (s .attributes) ++ map (elementFields (s .attributes)) (reverse (x .before))) (h .alone) ∙ append-nil (map attributeFields (s .attributes))
+header-rows s rows h = h .sofar .are ∙ ap (λ x. map attributeFields (s .attributes) ++ gathered (lineFields (s .attributes)) (reverse (x .before))) (h .alone) ∙ append-nil (map attributeFields (s .attributes))
 
 -- The first bad line of them
 attribute-line : (header : Bytes) (n m : ℕ) → FirstBad headerTests header-numbered HeaderSofar header-sofar nothing-header header n m → BadAttributeLine header n m
@@ -73,15 +73,11 @@ attribute-line-refused header n m b =
     let attrs = b .attributes in
     let rows = map attributeFields attrs in
     let fs = cut tab (b .bad) in
-    let fails = row-fails headerTests header-numbered (only attrs) fs (laterHeaderRows attrs fs) (writer-rows attrs fs) (lit≤ tt, (lit≤ tt, (lit≤ tt, (lit≤ tt, tt)))) n (b .after) (b .number) in
+    let fails = row-fails headerTests header-numbered (only attrs) fs (laterHeaderRows attrs fs) (writer-rows attrs fs) (lit≤ tt, (lit≤ tt, (lit≤ tt, (lit≤ tt, (lit≤ tt, tt))))) n (b .after) (b .number) in
     bad-refused headerTests header-numbered (only attrs) rows (header-read rows attrs [] (b .good)) header (b .bad) (b .after) n (b .are) (b .is-line) fails
     ∙ ap (refused n) (ap suc (length-map attrs attributeFields) ∙ sym (b .second))
 
--- Elements behind attribute lines: one is the first bad one, or all are lines of the file
-abbrev Ended : Bytes → List Element → Result Sofar → Type 0
-Ended header es (refused n m) = BadElement header es n m
-Ended header es (given z) = FileLines header es
-
+-- Elements behind attribute lines: one of them or of its obligations is the first bad one, or all are lines of the file
 module _ (header : Bytes) (size : length header ≤ 16384) (whole : List Element) where
   elements-end : (j : ℕ) (s : Sofar) (rows : List (List Bytes)) (es : List Element) → GoodSofar s rows → header ≡ gathered line (map attributeFields (s .attributes)) → All Shaped es → whole ≡ reverse (s .before) ++ es → j ≡ suc (length rows)
       → Ended header whole (readElements j s es)
@@ -89,8 +85,9 @@ module _ (header : Bytes) (size : length header ≤ 16384) (whole : List Element
       record { attributes = s .attributes; rows = rows; header-size = size; header-text = text; good = subst (GoodLines rows (s .attributes)) (sym (at ∙ append-nil (reverse (s .before)))) (good-lines s rows g) }
   elements-end j s rows (e ∷ es) g text shaped at count =
       go (lowest tests) refl
-      (λ p. elements-end (suc j) (withElement s e) (rows ++ (row ∷ [])) es (element-sofar s rows e (shaped .0) p g) text (shaped .1)
-      (at ∙ sym (append-snoc (reverse (s .before)) e es) ∙ ap (λ x. x ++ es) (sym (reverse-cons e (s .before)))) (omega (arith, count, length-append rows (row ∷ []))))
+      (λ p. obligations-end header size whole j s rows e es (shaped .0) p text at count
+      (λ done h reached. elements-end (j + suc (e .obligations)) (withElement s e) done es h text (shaped .1) (at ∙ sym (append-snoc (reverse (s .before)) e es) ∙ ap (λ x. x ++ es) (sym (reverse-cons e (s .before)))) reached)
+      (e .obligations) (suc j) [] (placesOf e) (rows ++ (row ∷ [])) refl (omega arith) (shaped .0 .places-size) (element-sofar s rows e (shaped .0) p g) (length-append rows (row ∷ [])) (omega (arith, count, length-append rows (row ∷ []))))
     where
       tests : Tests
       tests = elementTests s (wordText (e .word)) e
@@ -99,11 +96,14 @@ module _ (header : Bytes) (size : length header ≤ 16384) (whole : List Element
       row = elementFields (s .attributes) e
 
       later : Result Sofar
-      later = readElements (suc j) (withElement s e) es
+      later = readObligations (suc j) (withElement s (withObligations [] e)) (obligationsOf e)
 
-      go : (c : ℕ) → lowest tests ≡ c → (Passes tests → Ended header whole later) → Ended header whole (unless c j later)
+      others : Result Sofar → Result Sofar
+      others x = x then (λ t. unless (cond (ltb 2 (e .obligations)) 14 0) (j + 3) (given t)) then λ t. readElements (j + suc (e .obligations)) t es
+
+      go : (c : ℕ) → lowest tests ≡ c → (Passes tests → Ended header whole (others later)) → Ended header whole (others (unless c j later))
       go zero i more = more (lowest-zero tests (element-numbered s (wordText (e .word)) e) i)
-      go (suc c) i more = record {
+      go (suc c) i more = inl (record {
         before = reverse (s .before);
         bad = e;
         after = es;
@@ -111,11 +111,11 @@ module _ (header : Bytes) (size : length header ≤ 16384) (whole : List Element
         lines = record { attributes = s .attributes; rows = rows; header-size = size; header-text = text; good = good-lines s rows g };
         number = subst (λ x. Lowest (suc c) (elementRows (s .attributes) x e)) (sym (reverse-reverse (s .before))) (lowest-row tests (elementRows (s .attributes) (s .before) e) c (element-matches s e) i);
         second = count;
-      }
+      })
 
 -- What the writer does behind the attribute lines
 abbrev behind : ℕ → Bytes → Result Sofar → Result Bytes
-behind room header r = r then finished then λ p. short (header ++ gathered (λ e. line (elementFields (p .attributes) e)) (p .elements)) then fitted room
+behind room header r = r then finished then λ p. short (header ++ gathered (elementLines (p .attributes)) (p .elements)) then fitted room
 
 module _ (room : ℕ) (header : Bytes) where
   header-taken : (good : List Element) (f : FileLines header good) (es : List Element) → writeFile room header es ≡ behind room header (readElements (suc (length (f .attributes))) (only (f .attributes)) es)
@@ -132,9 +132,12 @@ module _ (room : ℕ) (header : Bytes) where
       let rows = elementRows (f .attributes) (reverse (b .before)) (b .bad) in
       let number = row-lowest tests rows n (element-matches s (b .bad)) (b .number) in
       let big = row-number rows n (lit≤ tt, (lit≤ tt, (lit≤ tt, (lit≤ tt, (lit≤ tt, (lit≤ tt, tt)))))) (b .number) in
-      let later = readElements (suc (suc (length (f .rows)))) (withElement s (b .bad)) (b .after) in
+      let j = suc (length (f .rows)) in
+      let own = unless-refused (lowest tests) n j (readObligations (suc j) (withElement s (withObligations [] (b .bad))) (obligationsOf (b .bad))) number big in
       header-taken (b .before) f es
-      ∙ ap (behind room header) (ap (readElements (suc (length (f .attributes))) (only (f .attributes))) (b .are) ∙ good-taken (f .rows) (f .attributes) (b .before) (f .good) (b .bad ∷ b .after) ∙ unless-refused (lowest tests) n (suc (length (f .rows))) later number big)
+      ∙ ap (behind room header)
+      (ap (readElements (suc (length (f .attributes))) (only (f .attributes))) (b .are) ∙ good-taken (f .rows) (f .attributes) (b .before) (f .good) (b .bad ∷ b .after)
+      ∙ ap (λ x. x then (λ t. unless (cond (ltb 2 (b .bad .obligations)) 14 0) (j + 3) (given t)) then λ t. readElements (j + suc (b .bad .obligations)) t (b .after)) own)
       ∙ ap (refused n) (sym (b .second))
 
 -- All lines are good: 9, 1, 11
@@ -145,11 +148,10 @@ ending room (e ∷ es) t = short t then fitted room
 file-text : (header : Bytes) (es : List Element) (f : FileLines header es) → header ++ treeText (f .attributes) es ≡ gathered line (f .rows)
 file-text header es f =
     let attrs = f .attributes in
-    let g = f .good in
-    let fields = of-lines attrs (g .attributes-good) (g .few-attributes) (g .tree) es (g .tree-lines) .fields in
+    let tree = gathered (lineFields attrs) es in
     ap (λ x. x ++ treeText attrs es) (f .header-text)
-    ∙ ap (λ x. gathered line (map attributeFields attrs) ++ x) (sym (gathered-map line (elementFields attrs) es) ∙ ap (gathered line) (sym fields))
-    ∙ sym (gathered-append line (map attributeFields attrs) (g .tree)) ∙ ap (gathered line) (sym (g .are))
+    ∙ ap (λ x. gathered line (map attributeFields attrs) ++ x) (sym (tree-fields-text attrs es))
+    ∙ sym (gathered-append line (map attributeFields attrs) tree) ∙ ap (gathered line) (sym (rows-are (f .rows) attrs es (f .good)))
 
 file-written : (room : ℕ) (header : Bytes) (es : List Element) (f : FileLines header es) → writeFile room header es ≡ ending room es (gathered line (f .rows))
 file-written room header es f =
@@ -194,8 +196,9 @@ module _ (room : ℕ) (header : Bytes) (es : List Element) (n m : ℕ) where
   refused-so shaped h = go (test (ltb 16384 (length header)))
     where
       after-elements : (x : Result Sofar) → Ended header es x → behind room header x ≡ refused n m → RefusesToWrite room header es n m
-      after-elements (refused a b) o i = let (c, d) = refused-refused i in inr (inr (inl (subst (λ x. BadElement header es x m) c (subst (λ x. BadElement header es a x) d o))))
-      after-elements (given z) o i = inr (inr (inr (o, ended-badly room es (gathered line (o .rows)) n m (sym (file-written room header es o) ∙ h))))
+      after-elements (refused a b) (inl o) i = let (c, d) = refused-refused i in inr (inr (inl (subst (λ x. BadElement header es x m) c (subst (λ x. BadElement header es a x) d o))))
+      after-elements (refused a b) (inr o) i = let (c, d) = refused-refused i in inr (inr (inr (inl (subst (λ x. BadObligation header es x m) c (subst (λ x. BadObligation header es a x) d o)))))
+      after-elements (given z) o i = inr (inr (inr (inr (o, ended-badly room es (gathered line (o .rows)) n m (sym (file-written room header es o) ∙ h)))))
 
       after-lines : length header ≤ 16384 → (x : Result Sofar) → readText headerTests header ≡ x → (x then λ s. behind room header (readElements (suc (length (s .attributes))) s es)) ≡ refused n m → RefusesToWrite room header es n m
       after-lines size (refused a b) e i =
@@ -221,7 +224,8 @@ module _ (room : ℕ) (header : Bytes) (es : List Element) (n m : ℕ) where
   so-refused (inl (l, a, b)) = rw (lt-ltb 16384 (length header) l, a, b)
   so-refused (inr (inl (l, b))) = rw (short-text header l, attribute-line-refused header n m b)
   so-refused (inr (inr (inl b))) = element-refused room header es n m b
-  so-refused (inr (inr (inr (f, b)))) = file-written room header es f ∙ badly-ended room es (gathered line (f .rows)) n m b
+  so-refused (inr (inr (inr (inl b)))) = header-taken room header (b .before ++ (withObligations (b .earlier) (b .bad) ∷ [])) (b .lines) es ∙ ap (behind room header) (obligation-refused header es n m b)
+  so-refused (inr (inr (inr (inr (f, b))))) = file-written room header es f ∙ badly-ended room es (gathered line (f .rows)) n m b
 
 pub refuses-to-write : (room : ℕ) (header : Bytes) (es : List Element) (n m : ℕ) → All Shaped es → writeFile room header es ≡ refused n m ↔ RefusesToWrite room header es n m
 refuses-to-write room header es n m shaped = (refused-so room header es n m shaped, so-refused room header es n m)
