@@ -5,7 +5,7 @@ use mathlib.Core.Bool.{Bool, true, false, not, _&&_, _||_}
 use mathlib.Core.List.{[], _∷_}
 use Rattle.meaning.specs.declared.Word.the-variants.{DenyOverrides, PermitOverrides, FirstApplicable, OnlyOneApplicable}
 use lib.Bits.{bitAnd, bitXor}
-use Rattle.meaning.specs.Deciding.{bit, combined}
+use Rattle.meaning.specs.Deciding.{bit, is, combined}
 use Rattle.laws.proofs.Bits.{xor, bit-and, bit-xor}
 use Rattle.decisions.specs.Replies.{nextOf}
 use Rattle.blocks.specs.Bits.{decisionBy}
@@ -28,6 +28,12 @@ lacking = two (λ a b. xor a (a && b) ≡ (a && not b)) (refl, refl, refl, refl)
 
 pub bit-without : (w x v : ℕ) → bit (bitXor w (bitAnd w x)) v ≡ (bit w v && not (bit x v))
 bit-without w x v = rw (bit-xor, bit-and) (lacking (bit w v) (bit x v))
+
+pub differ-bits : (p d q e : Bool) → (xor p q || xor d e) ≡ not (is (decisionBy p d) (decisionBy q e))
+differ-bits =
+    four
+    (λ p d q e. (xor p q || xor d e) ≡ not (is (decisionBy p d) (decisionBy q e)))
+    ((refl, refl, refl, refl), (refl, refl, refl, refl), (refl, refl, refl, refl), (refl, refl, refl, refl))
 
 pub deny-bits : (p d cp cd : Bool) → decisionBy ((p || cp) && not (d || cd)) (d || cd) ≡ nextOf DenyOverrides (decisionBy p d) (decisionBy cp cd)
 deny-bits =

@@ -2,3 +2,4 @@
 pub mod Combining
 pub mod Words
 pub mod Replying
+pub mod LowBits

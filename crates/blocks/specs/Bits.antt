@@ -37,3 +37,9 @@ pub record Block (t struck hits : List ℕ) (n block i : ℕ) : Type 0 where
   pub few : n ≤ 64
   pub within : block < 64
   pub place : i ≤ n
+
+-- bit r is set, and none below it
+pub record Lowest (word r : ℕ) : Type 0 where
+  pub small : r < 64
+  pub set : bit word r ≡ true
+  pub none-below : (v : ℕ) → v < r → bit word v ≡ false

@@ -5,10 +5,10 @@ ghost use mathlib.Core.Bool.{Bool, not, _&&_};
 ghost use Rattle.meaning.specs.declared.Element.{Element};
 ghost use mathlib.Core.List.{[], _∷_};
 ghost use Rattle.meaning.specs.declared.Word.the-variants.{DenyOverrides, PermitOverrides, FirstApplicable, OnlyOneApplicable};
-ghost use Rattle.meaning.specs.Deciding.{bit, decisionNumber, combined};
+ghost use Rattle.meaning.specs.Deciding.{bit, is, decisionNumber, combined};
 ghost use Rattle.table.specs.Rows.{algorithmAt};
 ghost use Rattle.decisions.specs.Replies.{nextOf, stepOf, repliesFrom, replyAt};
-ghost use Rattle.blocks.specs.Bits.{decisionBit, replyBit, Answers, Block};
+ghost use Rattle.blocks.specs.Bits.{decisionBit, replyBit, Answers, Block, Lowest};
 
 // Which requests are permitted and which denied: both is indeterminate, none not-applicable.
 pub struct Effects {
@@ -27,6 +27,13 @@ pub fn without(word: u64, other: u64) -> u64
     ensures { λ r. ⌜ ((v : ℕ) → bit r v ≡ (bit word v && not (bit other v))) ⌝ }
 {
     word ^ (word & other)
+}
+
+// The requests on which two give another decision.
+pub fn differing(one: Effects, other: Effects) -> u64
+    ensures { λ r. ⌜ ((v : ℕ) → bit r v ≡ not (is (decisionBit one v) (decisionBit other v))) ⌝ }
+{
+    (one.permits ^ other.permits) | (one.denies ^ other.denies)
 }
 
 // The children so far and one more, by the algorithms that look at decisions alone.
@@ -91,7 +98,7 @@ fn next(algorithm: usize, so_far: Replies, child: Replies) -> Effects
 }
 
 // The children so far and one more, taken as one.
-fn step(algorithm: usize, so_far: Replies, child: Replies) -> Replies
+pub fn step(algorithm: usize, so_far: Replies, child: Replies) -> Replies
     ensures { λ r. ⌜ ((v : ℕ) → replyBit r v ≡ stepOf (algorithmAt algorithm) (replyBit «so_far» v) (replyBit child v)) ⌝ }
 {
     let given = next(algorithm, so_far, child);
@@ -213,4 +220,12 @@ pub fn outcome_number(effects: Effects, v: usize) -> usize
     } else {
         2
     }
+}
+
+// The lowest bit that is set.
+pub fn lowest(word: u64) -> u32
+    requires { ⌜ 0 < word ⌝ }
+    ensures { λ r. ⌜ Lowest word r ⌝ }
+{
+    u64::trailing_zeros(word)
 }

@@ -1,13 +1,11 @@
 -- The first request that shows a conflict: the lowest bit of the first block whose word has one.
-use Prim.Native.Nat.{ℕ, zero, suc, _+_, _*_, _/_, _%_, _^_, _≤_, _<_, zero-le}
-use mathlib.Core.Path.{_≡_, refl, sym, ap, ap₂, _∙_}
-use mathlib.Core.Bool.{Bool, true, false, _&&_, _||_}
+use Prim.Native.Nat.{ℕ, _+_, _*_, _/_, _%_, _≤_, _<_, zero-le}
+use mathlib.Core.Path.{_≡_, sym, ap, ap₂, _∙_}
+use mathlib.Core.Bool.{Bool, false, _&&_, _||_}
 use mathlib.Core.List.{List}
 use mathlib.Core.Option.{none, some}
-use native.Mathlib.Nat.{pow-succ'}
 use native.Mathlib.Omega.{arith}
 use lib.Bits.{bitAnd, bitOr}
-use lib.Count.{trailingZeros}
 use lib.Dec.{leb}
 use lib.ListN.{getD}
 use borrow.Author.Tests.{leb-true, leb-false}
@@ -20,38 +18,9 @@ use Rattle.laws.proofs.Bools.{Test, passed, failed, test}
 use Rattle.laws.proofs.Search.{first-is, first-absent}
 use Rattle.table.specs.Tree.{placeOr}
 use Rattle.outcomes.proofs.Searching.{first-alike}
+use Rattle.blocks.specs.Bits.{Lowest}
 use Rattle.rows.specs.Rows.{Applied, Given}
-use Rattle.rows.proofs.Marks.{bit-lowest, bit-higher}
-use Rattle.conflicts.specs.Pairs.{Lowest, showsAt, shownBy, shownFor, Pairs}
-
--- The lowest set bit of a word of k bits
-record LowestOf (k word r : ℕ) : Type 0 where
-  small : r < k
-  set : bit word r ≡ true
-  none-below : (v : ℕ) → v < r → bit word v ≡ false
-
-lowest-of : (k word : ℕ) → 0 < word → word < 2 ^ k → LowestOf k word (trailingZeros k word)
-unfolding trailingZeros
-lowest-of zero word pos fits = absurd (omega arith)
-lowest-of (suc k) word pos fits = go (word % 2) refl (lowest-of k (word / 2))
-  where
-    go : (d : ℕ) → word % 2 ≡ d → (0 < word / 2 → word / 2 < 2 ^ k → LowestOf k (word / 2) (trailingZeros k (word / 2))) → LowestOf (suc k) word (trailingZeros (suc k) word)
-    go zero even later =
-        let half = later (omega arith) (omega (arith, pow-succ' 2 k)) in
-        rw even
-        record {
-          small = omega (arith, half .small);
-          set = bit-higher word (trailingZeros k (word / 2)) ∙ half .set;
-          none-below = λ v l. below half v l;
-        }
-      where
-        below : LowestOf k (word / 2) (trailingZeros k (word / 2)) → (v : ℕ) → v < suc (trailingZeros k (word / 2)) → bit word v ≡ false
-        below half zero l = bit-lowest word ∙ rw even
-        below half (suc v) l = bit-higher word v ∙ half .none-below v (omega arith)
-    go (suc d) odd later = let one : d ≡ 0 = omega arith in rw odd record { small = omega arith; set = bit-lowest word ∙ rw (odd, one); none-below = λ v l. absurd (omega arith) }
-
-pub lowest-is : (word : ℕ) → 0 < word → word < 2 ^ 64 → Lowest word (trailingZeros 64 word)
-lowest-is word pos fits = let found = lowest-of 64 word pos fits in record { small = found .small; set = found .set; none-below = found .none-below }
+use Rattle.conflicts.specs.Pairs.{showsAt, shownBy, shownFor, Pairs}
 
 -- The word of block b: its bits are the requests of the block that show the conflict
 module _ (applied permits denies : List ℕ) (i j k : ℕ) where

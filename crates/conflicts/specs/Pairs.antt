@@ -1,22 +1,15 @@
 -- Conflicts of pairs: by the elements' parents and rows, the request that shows each.
 use Prim.Native.Nat.{ℕ, _+_, _*_, _/_, _%_, _≤_, _<_}
 use mathlib.Core.Path.{_≡_}
-use mathlib.Core.Bool.{Bool, true, false, _&&_, _||_}
+use mathlib.Core.Bool.{Bool, _&&_, _||_}
 use mathlib.Core.List.{List}
 use lib.ListN.{length, getD}
 use Rattle.meaning.specs.declared.Decision.{Decision}
 use Rattle.meaning.specs.Text.{firstFrom}
-use Rattle.meaning.specs.Deciding.{bit}
 use Rattle.meaning.specs.declared.Element.{Element}
 use Rattle.table.specs.Tree.{placeOr}
 use Rattle.matching.specs.Hits.{bitOf}
 use Rattle.rows.specs.Words.{appliesAt, givesAt}
-
--- bit r is set, and none below it
-pub record Lowest (word r : ℕ) : Type 0 where
-  pub small : r < 64
-  pub set : bit word r ≡ true
-  pub none-below : (v : ℕ) → v < r → bit word v ≡ false
 
 -- on request m element i applies, and of j and k one permits and the other denies: by a table, and by rows
 unfoldable pub showsAt : (t struck : List ℕ) (n : ℕ) (hit : ℕ → Element → Bool) → (i j k m : ℕ) → Bool

@@ -4,15 +4,7 @@ ghost use Prim.Native.Nat.{ℕ, _*_, _/_, _%_, _≤_, _<_};
 ghost use lib.ListN.{getD};
 ghost use Rattle.meaning.specs.Text.{firstFrom};
 ghost use Rattle.table.specs.Tree.{placeOr};
-ghost use Rattle.conflicts.specs.Pairs.{Lowest, shownBy, Later, PairsOf, Pairs, OthersStay, Laid, Pairing};
-
-// The lowest bit that is set.
-fn lowest(word: u64) -> u32
-    requires { ⌜ 0 < word ⌝ }
-    ensures { λ r. ⌜ Lowest word r ⌝ }
-{
-    u64::trailing_zeros(word)
-}
+ghost use Rattle.conflicts.specs.Pairs.{shownBy, Later, PairsOf, Pairs, OthersStay, Laid, Pairing};
 
 // The first request that shows a conflict of j and k under i, or the number of requests.
 fn first_shown(
@@ -34,7 +26,7 @@ fn first_shown(
         let second = denies[64 * j + b] & permits[64 * k + b];
         let word = applied[64 * i + b] & (first | second);
         if word != 0 {
-            let m = 64 * b + lowest(word) as usize;
+            let m = 64 * b + blocks::lowest(word) as usize;
             if m < space {
                 return m;
             }

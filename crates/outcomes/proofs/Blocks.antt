@@ -10,9 +10,10 @@ use lib.ListN.{getD}
 use borrow.Author.Tests.{leb-true, leb-false}
 use Rattle.meaning.specs.declared.Decision.the-variants.{NotApplicable}
 use Rattle.meaning.specs.declared.Element.{Element}
-use Rattle.meaning.specs.Deciding.{Outcome, sameOutcome}
+use Rattle.meaning.specs.declared.Decision.{Decision}
+use Rattle.meaning.specs.Deciding.{is}
 use Rattle.laws.proofs.Bools.{Test, passed, failed, test}
-use Rattle.laws.proofs.Outcomes.{same-outcome, outcome-same}
+use Rattle.laws.proofs.Outcomes.{same-decision, decision-same}
 use Rattle.table.specs.declared.Shape.{Shape}
 use Rattle.table.specs.Shape.{hitOf}
 use Rattle.decisions.specs.Replies.{replyAt}
@@ -34,14 +35,14 @@ abbrev pub blockOutcomes : List ℕ → ℕ → Effects
 blockOutcomes outcomes block = record { permits = getD outcomes block 0; denies = getD outcomes (64 + block) 0 }
 
 -- what the bits of request m are to tell: behind the requests nothing
-abbrev pub outcomeUpTo : List ℕ → List ℕ → Shape → ℕ → Outcome
+abbrev pub outcomeUpTo : List ℕ → List ℕ → Shape → ℕ → Decision
 outcomeUpTo t struck s m = cond (leb (s .space) m) NotApplicable (decidedAt t (s .n) (hitOf s) struck m)
 
 module _ (t struck hits : List ℕ) (s : Shape) (ready : PolicyTable t struck s) (matched : HitsLaid t hits s) (block : ℕ) where
   pub block-room : block < 64 → Block t struck hits (s .n) block 1
   block-room l = record { rows = ready .rows; flags = ready .flags; words = matched .room; few = ready .few; within = l; place = ready .some }
 
-  module _ (r : Replies) (is : Replied t struck hits (s .n) block r) where
+  module _ (r : Replies) (replied : Replied t struck hits (s .n) block r) where
     -- request m of the block gets what its bits tell
     given-at : (m : ℕ) → m < s .space → m / 64 ≡ block → decisionBit (r .given) (m % 64) ≡ decidedAt t (s .n) (hitOf s) struck m
     unfolding decidedAt
@@ -49,14 +50,14 @@ module _ (t struck hits : List ℕ) (s : Shape) (ready : PolicyTable t struck s)
         let hit = hitOf s m in
         let answers : Answers t hits (s .n) block (m % 64) hit = λ i below. rw e at (matched .hits-are i m below l) in
         let first = first-left hit t struck (s .n) 0 (omega (arith, ready .some)) (ready .stays) in
-        ap (λ x. x .decision) (is (m % 64) hit answers) ∙ sym (rw sub-zero at first)
+        ap (λ x. x .decision) (replied (m % 64) hit answers) ∙ sym (rw sub-zero at first)
 
     -- a bit behind the requests tells nothing
     given-none : (m : ℕ) → s .space ≤ m → m < 64 * wordsOf (s .space) → m / 64 ≡ block → decisionBit (r .given) (m % 64) ≡ NotApplicable
     unfolding replyAt
     given-none m past l e =
         let answers : Answers t hits (s .n) block (m % 64) (λ x. false) = λ i below. rw e at (matched .clear i m below past l) in
-        ap (λ x. x .decision) (is (m % 64) (λ x. false) answers)
+        ap (λ x. x .decision) (replied (m % 64) (λ x. false) answers)
 
     pub given-outcome : 64 * block < s .space → (m : ℕ) → m / 64 ≡ block → decisionBit (r .given) (m % 64) ≡ outcomeUpTo t struck s m
     given-outcome some m e = go (test (leb (s .space) m))
@@ -74,14 +75,14 @@ module _ (t struck hits : List ℕ) (s : Shape) (ready : PolicyTable t struck s)
       unfolding differsAt
       same-bits m l e alike =
           let gets = decidedAt t (s .n) (hitOf s) struck m in
-          ap (λ d. not (sameOutcome d gets)) (outcome-there m e ∙ sym alike ∙ given-at m l e) ∙ ap not (outcome-same gets)
+          ap (λ d. not (is d gets)) (outcome-there m e ∙ sym alike ∙ given-at m l e) ∙ ap not (decision-same gets)
 
       other-bits : (m : ℕ) → m < s .space → m / 64 ≡ block → (decisionBit (r .given) (m % 64) ≡ decisionBit (blockOutcomes outcomes block) (m % 64) → ⊥) → differsAt t (s .n) (hitOf s) outcomes struck m ≡ true
       unfolding differsAt
-      other-bits m l e other = go (test (sameOutcome (outcomeAt outcomes m) (decidedAt t (s .n) (hitOf s) struck m)))
+      other-bits m l e other = go (test (is (outcomeAt outcomes m) (decidedAt t (s .n) (hitOf s) struck m)))
         where
-          go : Test (sameOutcome (outcomeAt outcomes m) (decidedAt t (s .n) (hitOf s) struck m)) → not (sameOutcome (outcomeAt outcomes m) (decidedAt t (s .n) (hitOf s) struck m)) ≡ true
-          go (passed same) = absurd (other (given-at m l e ∙ sym (same-outcome _ _ same) ∙ outcome-there m e))
+          go : Test (is (outcomeAt outcomes m) (decidedAt t (s .n) (hitOf s) struck m)) → not (is (outcomeAt outcomes m) (decidedAt t (s .n) (hitOf s) struck m)) ≡ true
+          go (passed same) = absurd (other (given-at m l e ∙ sym (same-decision _ _ same) ∙ outcome-there m e))
           go (failed differ) = ap not differ
 
       pub block-alike : r .given .permits ≡ getD outcomes block 0 → r .given .denies ≡ getD outcomes (64 + block) 0 → InBlock (differsAt t (s .n) (hitOf s) outcomes struck) (s .space) block (s .space)

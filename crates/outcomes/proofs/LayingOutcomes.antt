@@ -9,7 +9,8 @@ use lib.ListN.{length, getD, set, length-set}
 use lib.Seq.{getD-set-same, getD-set-other}
 use borrow.Author.Tests.{eqb-true, eqb-false, le-leb, lt-leb}
 use Rattle.meaning.specs.declared.Decision.the-variants.{NotApplicable}
-use Rattle.meaning.specs.Deciding.{Outcome, bit}
+use Rattle.meaning.specs.declared.Decision.{Decision}
+use Rattle.meaning.specs.Deciding.{bit}
 use Rattle.laws.proofs.Bools.{Test, passed, failed, test}
 use Rattle.table.specs.declared.Shape.{Shape}
 use Rattle.matching.specs.Hits.{bitOf, wordsOf, Rest}
@@ -20,16 +21,16 @@ use Rattle.outcomes.specs.PolicyTable.{OutcomesLaid}
 use Rattle.outcomes.proofs.Blocks.{outcomeUpTo}
 
 -- the words of the blocks before `block` tell what f gives on each request, and all others are as they were
-pub record OutcomesTo (f : ℕ → Outcome) (old outcomes : List ℕ) (block : ℕ) : Type 0 where
+pub record OutcomesTo (f : ℕ → Decision) (old outcomes : List ℕ) (block : ℕ) : Type 0 where
   pub size : length outcomes ≡ length old
   pub done : (m : ℕ) → m < 64 * block → outcomeAt outcomes m ≡ f m
   pub others : (k : ℕ) → (k < 128 → block ≤ k % 64) → getD outcomes k 0 ≡ getD old k 0
 
-pub outcomes-none : (f : ℕ → Outcome) (old : List ℕ) → OutcomesTo f old old 0
+pub outcomes-none : (f : ℕ → Decision) (old : List ℕ) → OutcomesTo f old old 0
 outcomes-none f old = record { size = refl; done = λ m l. absurd (omega arith); others = λ k h. refl }
 
 -- one block more
-pub outcomes-next : {f : ℕ → Outcome} {old outcomes : List ℕ} {block : ℕ} (e : Effects) → ((m : ℕ) → m / 64 ≡ block → decisionBit e (m % 64) ≡ f m) → block < 64 → 128 ≤ length outcomes
+pub outcomes-next : {f : ℕ → Decision} {old outcomes : List ℕ} {block : ℕ} (e : Effects) → ((m : ℕ) → m / 64 ≡ block → decisionBit e (m % 64) ≡ f m) → block < 64 → 128 ≤ length outcomes
     → OutcomesTo f old outcomes block → OutcomesTo f old (set (set outcomes block (e .permits)) (64 + block) (e .denies)) (block + 1)
 outcomes-next {f} {old} {outcomes} {block} e here l room so-far =
     record {

@@ -1,7 +1,6 @@
 -- A word's bits are the tests that it was made of.
 use mathlib.Core.Path.{_≡_, refl, sym, ap, _∙_}
-use Prim.Native.Nat.{ℕ, zero, suc, _+_, _*_, _/_, _%_, _^_, _<_}
-use native.Mathlib.Nat.{pow-succ', div-one, div-div-eq-div-mul}
+use Prim.Native.Nat.{ℕ, zero, suc, _+_, _*_, _/_, _%_, _<_}
 use native.Mathlib.Omega.{arith}
 use mathlib.Core.Bool.{Bool, true, false, cond}
 use mathlib.Core.List.{List, [], _∷_, map}
@@ -9,6 +8,7 @@ use lib.Dec.{eqb}
 use lib.ListN.{length, getD}
 use Rattle.meaning.specs.Text.{counting}
 use Rattle.meaning.specs.Deciding.{bit}
+use Rattle.blocks.proofs.LowBits.{bit-lowest, bit-higher}
 use Rattle.rows.specs.Words.{marks, wordFrom}
 
 abbrev one-if : Bool → ℕ
@@ -25,24 +25,14 @@ lowest false m = let even : (0 + 2 * m) % 2 ≡ 0 = omega arith in rw even
 halved : (b : Bool) (m : ℕ) → (one-if b + 2 * m) / 2 ≡ m
 halved b m = let l = small b in omega arith
 
-higher : (x i : ℕ) → x / (2 ^ suc i) ≡ (x / 2) / (2 ^ i)
-higher x i = ap (λ y. x / y) (pow-succ' 2 i) ∙ sym (div-div-eq-div-mul x 2 (2 ^ i))
-
--- a word's lowest bit, and the bits above it
-pub bit-lowest : (x : ℕ) → bit x 0 ≡ eqb (x % 2) 1
-bit-lowest x = ap (λ y. eqb (y % 2) 1) (div-one x)
-
-pub bit-higher : (x i : ℕ) → bit x (suc i) ≡ bit (x / 2) i
-bit-higher x i = ap (λ y. eqb (y % 2) 1) (higher x i)
-
 none-set : (i : ℕ) → bit 0 i ≡ false
 none-set zero = refl
-none-set (suc i) = ap (λ y. eqb (y % 2) 1) (higher 0 i) ∙ none-set i
+none-set (suc i) = bit-higher 0 i ∙ none-set i
 
 pub bit-mark : (bs : List Bool) (i : ℕ) → bit (marks bs) i ≡ getD bs i false
 bit-mark [] i = none-set i
-bit-mark (b ∷ bs) zero = ap (λ y. eqb (y % 2) 1) (div-one (one-if b + 2 * marks bs)) ∙ lowest b (marks bs)
-bit-mark (b ∷ bs) (suc i) = ap (λ y. eqb (y % 2) 1) (higher (one-if b + 2 * marks bs) i ∙ ap (λ y. y / (2 ^ i)) (halved b (marks bs))) ∙ bit-mark bs i
+bit-mark (b ∷ bs) zero = bit-lowest (one-if b + 2 * marks bs) ∙ lowest b (marks bs)
+bit-mark (b ∷ bs) (suc i) = bit-higher (one-if b + 2 * marks bs) i ∙ ap (λ y. bit y i) (halved b (marks bs)) ∙ bit-mark bs i
 
 -- the word of one test
 pub test-at : (test : ℕ → Bool) (i k j : ℕ) → j < k → getD (map test (counting i k)) j false ≡ test (i + j)

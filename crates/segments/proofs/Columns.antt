@@ -16,7 +16,8 @@ use Rattle.laws.proofs.Bools.{Test, passed, failed, test}
 use Rattle.matching.specs.Hits.{bitOf}
 use Rattle.rows.specs.Words.{wordFrom, applyingAt}
 use Rattle.rows.specs.Rows.{Applied}
-use Rattle.rows.proofs.Marks.{bit-lowest, bit-higher, bit-word}
+use Rattle.blocks.proofs.LowBits.{bit-lowest, bit-higher}
+use Rattle.rows.proofs.Marks.{bit-word}
 use Rattle.rows.proofs.Making.{word-small}
 use Rattle.segments.specs.Across.{wordAcross, Column}
 use Rattle.segments.specs.Turning.{Turned}

@@ -7,6 +7,7 @@ use native.Mathlib.Omega.{arith}
 use lib.ListN.{length, getD, set, take, drop, drop-of-length-le, length-drop, List·getD-append, take-append-drop, replicate}
 use lib.Seq.{sets, sets-eq, drop-cons, length-sets, length-take-le, drop-append-le, take-append-le, drop-append-add, take-at, getD-append-seam, getD-append-add}
 use Rattle.laws.proofs.Types.{rule, Element}
+use Rattle.meaning.specs.Model.{unused}
 use Rattle.table.specs.Rows.{Rows, wordAt, wordNumber, depthOf, masksAt, withRow, elementAt}
 
 -- the six numbers from `at` on
@@ -56,7 +57,7 @@ row-front t x i room =
 
 -- the element of a row that stands behind n others
 abbrev pub rowElement : (word depth : ℕ) → List ℕ → Element
-rowElement word depth masks = record { kind = rule; depth = depth; name = replicate 16 0; len = 0; word = wordAt word; masks = masks }
+rowElement word depth masks = record { kind = rule; depth = depth; name = replicate 16 0; len = 0; word = wordAt word; masks = masks; obligations = 0; first = unused; second = unused }
 
 row-behind : (t x : List ℕ) (n word depth : ℕ) (masks : List ℕ) → length t ≡ 8 * n → length masks ≡ 6 → elementAt (t ++ word ∷ depth ∷ (masks ++ x)) n ≡ rowElement word depth masks
 unfolding elementAt wordNumber depthOf masksAt

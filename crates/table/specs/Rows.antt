@@ -7,6 +7,7 @@ use Rattle.meaning.specs.declared.Kind.the-variants.{Rule}
 use Rattle.meaning.specs.declared.Word.{Word}
 use Rattle.meaning.specs.declared.Word.the-variants.{Permit, Deny, DenyOverrides, PermitOverrides, FirstApplicable, OnlyOneApplicable}
 use Rattle.meaning.specs.declared.Element.{Element}
+use Rattle.meaning.specs.Model.{unused}
 
 -- the combining algorithms, and with the two effects before them the words, by their numbers
 abbrev pub algorithmAt : ℕ → Word
@@ -38,7 +39,7 @@ masksAt t i = take 6 (drop (8 * i + 2) t)
 unfoldable pub withRow : List ℕ → (i word depth : ℕ) → List ℕ → List ℕ
 withRow t i word depth masks = sets t (8 * i) (word ∷ depth ∷ masks)
 
--- element i; the table has neither kinds nor names, and no decision looks at them
+-- element i; the table has neither kinds nor names nor obligations, and no decision looks at them
 unfoldable pub elementAt : List ℕ → ℕ → Element
 elementAt t i =
     record {
@@ -48,4 +49,7 @@ elementAt t i =
       len = 0;
       word = wordAt (wordNumber t i);
       masks = masksAt t i;
+      obligations = 0;
+      first = unused;
+      second = unused;
     }

@@ -1,8 +1,8 @@
 -- `lowest`: the zeros below the lowest bit that is set. Assumes nothing.
-use Rattle.conflicts.proofs.Showing.{lowest-is}
+use Rattle.blocks.proofs.LowBits.{lowest-is}
 use borrow.Author.Needs.{needs}
-use Rattle.conflicts.proofs.lowest.Statement.{statement}
-use Rattle.conflicts.proofs.lowest.Tie as tie
+use Rattle.blocks.proofs.lowest.Statement.{statement}
+use Rattle.blocks.proofs.lowest.Tie as tie
 
 returns : tie.Need-returns
 returns c = lowest-is _ (c .pre) (search needs)

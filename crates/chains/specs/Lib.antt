@@ -1,0 +1,2 @@
+-- What the contracts of chains cite.
+pub mod Chain
