@@ -16,7 +16,7 @@ use Rattle.meaning.specs.Model.{Attribute, choices, mostValues, space as spaceO
 use Rattle.meaning.specs.Reading.{attributeLine, lineOf, Sofar, Tests, lowest, attributeTests}
 use Rattle.laws.proofs.Lines.{letter-attribute, letter-several, attribute-fields}
 use Rattle.layout.specs.declared.Attributes.{Attributes}
-use Rattle.layout.specs.Places.{part, attributesOf, elementsTo, lineStart, placed}
+use Rattle.layout.specs.Places.{part, attributesOf, elementsTo, lineStart, placed, linesTo}
 use Rattle.layout.proofs.Adding.{added-behind, SixEach, placed-six, placed-more}
 use Rattle.layout.proofs.Laws.{attributes-length}
 use Rattle.attribute_lines.specs.Sofar.{refusalBy, refusalOf, attributeIn, Tested, AttributeRefusal, AttributeLine}
@@ -129,6 +129,10 @@ unfolding elementsTo
 no-elements f table places zero = refl
 no-elements f table places (suc n) = sym (ne-eqb (suc n) 0 (λ e. omega arith))
 
+no-lines : (places : List ℕ) (n : ℕ) → n ≡ 0 → linesTo places n ≡ 0
+unfolding linesTo
+no-lines places n none = rw none
+
 letter-length : (several : Bool) → length (letterText several) ≡ 1
 letter-length true = refl
 letter-length false = refl
@@ -173,8 +177,8 @@ module _ {f : Bytes} {st : State} {end : ℕ} {several : Bool} {fields : ℕ} {t
       let count : fields - 2 ≡ length (drop 2 fs) = ap (λ n. n - 2) (is .count) ∙ sym (length-drop 2 fs) in
       let attributes-are : attributesOf f (behindAttribute st end several fs fields .attributes) ≡ old ++ (attributeIn several fs ∷ []) = added .behind f ∙ rw (parts .name-is, parts .values-are) in
       let size = a .len in
-      let no-line : size + st .tree .len ≡ size = omega arith in
-      let starts : st .at ≡ lineStart f size = ready .lined .next ∙ ap (lineStart f) no-line in
+      let no-line : linesTo places (st .tree .len) ≡ 0 = no-lines places (st .tree .len) none in
+      let starts : st .at ≡ lineStart f size = ready .lined .next ∙ ap (lineStart f) (omega (arith, no-line)) in
       let space-is : st .space * choicesOf several (fields - 2) ≡ spaceOf (attributesOf f (behindAttribute st end several fs fields .attributes)) = ap₂ (λ m n. m * choicesOf several n) (in-file .space-is) count ∙ sym (ap spaceOf attributes-are ∙ space-more old (attributeIn several fs)) in
       record {
         ready = record {
@@ -193,10 +197,12 @@ module _ {f : Bytes} {st : State} {end : ℕ} {several : Bool} {fields : ℕ} {t
           rooms = ready .rooms;
           tree = ready .tree;
           lined = record {
-            next = next-start (a .len + st .tree .len) here (ready .lined .next) ∙ ap (lineStart f) (omega arith);
+            next = next-start (a .len + linesTo places (st .tree .len)) here (ready .lined .next) ∙ ap (lineStart f) (omega arith);
             starts = λ i l. absurd (omega arith);
           };
           places-are = placed-more f size (st .at) end fields several (getD fs 1 []) a (ready .places-are) starts (next-start size here starts) (is .letter) refl (is .count) ∙ ap (placed f) (sym (add-one size));
+          clear = ready .clear;
+          obliged = ready .obliged;
         };
         at-next = refl;
         line-next = refl;

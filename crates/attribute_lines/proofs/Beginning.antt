@@ -7,13 +7,13 @@ use lib.Dec.{lit≤}
 use lib.ListN.{length}
 use Rattle.meaning.specs.Reading.{nothing}
 use Rattle.table.specs.Rows.{Rows}
-use Rattle.layout.specs.Places.{attributesFrom, elementsTo, lineStart, placed}
+use Rattle.layout.specs.Places.{attributesFrom, elementsTo, Clear, lineStart, placed, linesTo}
 use Rattle.layout.proofs.Laws.{empty-stands}
 use Rattle.attribute_lines.specs.Steps.{BeforeLine, beginning, readSofar}
 
-pub beginning-ready : (f table places : List ℕ) → Rows table 64 → 128 ≤ length places → BeforeLine f table places beginning × (readSofar f table places beginning ≡ nothing)
-unfolding attributesFrom elementsTo lineStart placed
-beginning-ready f table places rows pairs = (
+pub beginning-ready : (f table places : List ℕ) → Rows table 64 → 384 ≤ length places → Clear places 0 → BeforeLine f table places beginning × (readSofar f table places beginning ≡ nothing)
+unfolding attributesFrom elementsTo lineStart placed linesTo
+beginning-ready f table places rows pairs clear = (
   record {
     in-file = record {
       inside = zero-le;
@@ -27,6 +27,8 @@ beginning-ready f table places rows pairs = (
     tree = empty-stands;
     lined = record { next = refl; starts = λ i l. absurd (omega arith) };
     places-are = refl;
+    clear = clear;
+    obliged = λ i l. absurd (omega arith);
   },
   refl,
 )

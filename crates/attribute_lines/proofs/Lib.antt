@@ -4,4 +4,5 @@ pub mod Beginning
 pub mod LineKinds
 pub mod AttributeLines
 pub mod TreeShape
+pub mod ObligationShape
 pub mod Remaining

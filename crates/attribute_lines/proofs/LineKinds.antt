@@ -1,4 +1,4 @@
--- A line by its first field: an attribute line, a tree line, or one that test 2 refuses.
+-- A line by its first field: an attribute line, a tree line, an obligation's, or one that test 2 refuses.
 use mathlib.Core.Path.{_≡_, refl, sym, ap, _∙_, subst, subst⁻¹}
 use Prim.Native.Nat.{ℕ, _≤_, _<_}
 use native.Mathlib.Omega.{arith}
@@ -9,7 +9,7 @@ use lib.Dec.{ltb}
 use lib.ListN.{length, getD}
 use borrow.Author.Tests.{ltb-true, ltb-false}
 use Rattle.meaning.specs.Text.{Bytes, all, cut, tab, isField}
-use Rattle.meaning.specs.Reading.{Line, otherLine, kindOf, attributeLetter, lineOf, Sofar, Tests, wrongFields, lineTests}
+use Rattle.meaning.specs.Reading.{Line, otherLine, kindOf, attributeLetter, obligationLetter, lineOf, Sofar, Tests, wrongFields, lineTests}
 use Rattle.laws.proofs.Bools.{Test, passed, failed, test, or-true}
 use Rattle.syntax.specs.declared.LineKind.{LineKind}
 use Rattle.syntax.specs.Fields.{lineKind}
@@ -17,7 +17,7 @@ use Rattle.syntax.proofs.Fields.{ByLetter, by-letter}
 use Rattle.layout.specs.Places.{part}
 use Rattle.attribute_lines.specs.declared.State.{State}
 use Rattle.attribute_lines.specs.declared.LineShape.{LineShape}
-use Rattle.attribute_lines.specs.Sofar.{refusalBy, refusalOf, AttributeLine, TreeLine, shapeOf}
+use Rattle.attribute_lines.specs.Sofar.{refusalBy, refusalOf, AttributeLine, TreeLine, ObligationLine, shapeOf}
 use Rattle.attribute_lines.specs.Steps.{readSofar, StepIs}
 
 -- A refused line leaves all as it was
@@ -36,6 +36,7 @@ refused-2 f t p st end h = stopped (sym (wrong-refused lineTests (readSofar f t 
 abbrev pub ShapeIs : List Bytes → LineKind → ℕ → Type 0
 ShapeIs fs (LineKind.Attribute several) n = AttributeLine several fs n
 ShapeIs fs (LineKind.Tree k) n = TreeLine fs k n
+ShapeIs fs LineKind.Obligation n = ObligationLine fs n
 ShapeIs fs LineKind.Other n = (s : Sofar) → wrongFields s fs (lineOf fs) ≡ true
 
 -- Lines of fewer than three fields, and lines of another letter
@@ -45,11 +46,11 @@ few-other (f ∷ []) l = refl
 few-other (f ∷ g ∷ []) l = refl
 few-other (f ∷ g ∷ h ∷ more) l = absurd (omega arith)
 
-letter-other : (fs : List Bytes) → attributeLetter (getD fs 0 []) ≡ false → kindOf (getD fs 0 []) ≡ none → lineOf fs ≡ otherLine
-letter-other [] a t = refl
-letter-other (f ∷ []) a t = refl
-letter-other (f ∷ g ∷ []) a t = refl
-letter-other (f ∷ g ∷ h ∷ more) a t = rw (a, t)
+letter-other : (fs : List Bytes) → attributeLetter (getD fs 0 []) ≡ false → obligationLetter (getD fs 0 []) ≡ false → kindOf (getD fs 0 []) ≡ none → lineOf fs ≡ otherLine
+letter-other [] a o t = refl
+letter-other (f ∷ []) a o t = refl
+letter-other (f ∷ g ∷ []) a o t = refl
+letter-other (f ∷ g ∷ h ∷ more) a o t = rw (a, o, t)
 
 -- how many fields there are, 0 where one is bad
 module _ (fs : List Bytes) (n : ℕ) (counted : n ≡ cond (all isField fs) (length fs) 0) where
@@ -74,8 +75,9 @@ module _ (fs : List Bytes) (n : ℕ) (counted : n ≡ cond (all isField fs) (len
     where
       go : (k : LineKind) → (all isField fs ≡ true) × (n ≡ length fs) → ByLetter (getD fs 0 []) k → ShapeIs fs k n
       go (LineKind.Attribute several) (g, m) a = record { fields = g; count = m; three = l; letter = a }
-      go (LineKind.Tree kind) (g, m) (a, t) = record { fields = g; count = m; three = l; no-attribute = a; letter = t }
-      go LineKind.Other g (a, t) = λ s. rw (letter-other fs a t) (or-true (not (all isField fs)) true refl)
+      go (LineKind.Tree kind) (g, m) (a, o, t) = record { fields = g; count = m; three = l; no-attribute = a; no-obligation = o; letter = t }
+      go LineKind.Obligation (g, m) (a, o) = record { fields = g; count = m; three = l; no-attribute = a; letter = o }
+      go LineKind.Other g (a, o, t) = λ s. rw (letter-other fs a o t) (or-true (not (all isField fs)) true refl)
 
   shaped : Test (ltb n 3) → (k : LineKind) → k ≡ cond (ltb n 3) LineKind.Other (lineKind (getD fs 0 [])) → ShapeIs fs k n
   shaped (passed few) k is = subst⁻¹ (λ k. ShapeIs fs k n) (rw few at is) (few-fields (ltb-true n 3 few))

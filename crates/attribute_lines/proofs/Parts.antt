@@ -4,7 +4,7 @@ use mathlib.Core.Path.{_≡_, sym, ap, _∙_, subst}
 use mathlib.Core.List.{List, [], _∷_, _++_}
 use native.Mathlib.Omega.{arith}
 use lib.ListN.{length, take, drop, getD, length-append, length-drop}
-use lib.Seq.{length-take-le, take-append-seam, drop-append-add, take-take, take-add, drop-at, drop-drop}
+use lib.Seq.{length-take-le, take-append-seam, drop-append-add, take-take, take-add, drop-at, drop-drop, getD-take, getD-drop}
 use Rattle.meaning.specs.Text.{Bytes, cut, join, tab, newline}
 use Rattle.laws.proofs.Text.{Frees, join-cut, cut-join, cut-frees}
 use Rattle.layout.specs.Places.{part, lineStart}
@@ -29,6 +29,9 @@ module _ (f : Bytes) (at end n : ℕ) (short : at + n ≤ end) where
 
 pub part-length : (f : Bytes) (at end : ℕ) → end ≤ length f → length (part f at end) ≡ end - at
 part-length f at end inside = length-take-le (end - at) (drop at f) (omega (arith, length-drop at f))
+
+pub first-byte : (f : Bytes) (a b : ℕ) → a < b → getD (part f a b) 0 0 ≡ getD f a 0
+first-byte f a b l = getD-take (b - a) (drop a f) 0 0 (omega arith) ∙ getD-drop a f 0 0 ∙ ap (λ m. getD f m 0) (omega arith)
 
 -- A field that starts at `at`, and the fields behind it up to `end`
 pub record FieldAt (f : Bytes) (at end : ℕ) (field : Bytes) (others : List Bytes) : Type 0 where

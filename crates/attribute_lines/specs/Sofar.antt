@@ -9,7 +9,7 @@ use lib.ListN.{length, drop, getD}
 use Rattle.meaning.specs.declared.Kind.{Kind}
 use Rattle.meaning.specs.Text.{Bytes, empty, all, isField}
 use Rattle.meaning.specs.Model.{Attribute, space as spaceOf, letterText, choicesOf}
-use Rattle.meaning.specs.Reading.{Line, kindOf, attributeLetter, lineOf, Sofar, Tests, lowest, wrongFields, attributeTests, lineTests}
+use Rattle.meaning.specs.Reading.{Line, kindOf, attributeLetter, obligationLetter, lineOf, Sofar, Tests, lowest, wrongFields, attributeTests, lineTests}
 use Rattle.syntax.specs.declared.LineKind.{LineKind}
 use Rattle.syntax.specs.Fields.{lineKind}
 use Rattle.layout.specs.declared.Attributes.{Attributes}
@@ -46,7 +46,7 @@ pub record AttributeRefusal (f : Bytes) (a : Attributes) (space elements : ℕ) 
   pub small-space : r ≡ 0 → space * choicesOf several (fields - 2) ≤ 4096
   pub no-element : r ≡ 0 → elements ≡ 0
 
--- the fields of an attribute line, and of a tree line of this kind: all are fields, so many
+-- the fields of an attribute line, of a tree line of this kind and of an obligation's: all are fields, so many
 pub record AttributeLine (several : Bool) (fs : List Bytes) (n : ℕ) : Type 0 where
   pub fields : all isField fs ≡ true
   pub count : n ≡ length fs
@@ -58,7 +58,15 @@ pub record TreeLine (fs : List Bytes) (k : Kind) (n : ℕ) : Type 0 where
   pub count : n ≡ length fs
   pub three : 3 ≤ n
   pub no-attribute : attributeLetter (getD fs 0 []) ≡ false
+  pub no-obligation : obligationLetter (getD fs 0 []) ≡ false
   pub letter : kindOf (getD fs 0 []) ≡ some k
+
+pub record ObligationLine (fs : List Bytes) (n : ℕ) : Type 0 where
+  pub fields : all isField fs ≡ true
+  pub count : n ≡ length fs
+  pub three : 3 ≤ n
+  pub no-attribute : attributeLetter (getD fs 0 []) ≡ false
+  pub letter : obligationLetter (getD fs 0 []) ≡ true
 
 -- so many fields, or 0 where one of them is none
 abbrev pub CountIs : List Bytes → ℕ → Type 0

@@ -10,7 +10,7 @@ use Rattle.meaning.specs.Model.{space, choicesOf}
 use Rattle.meaning.specs.Reading.{lineOf, Sofar}
 use Rattle.table.specs.Rows.{Rows}
 use Rattle.layout.specs.declared.Attributes.{Attributes}
-use Rattle.layout.specs.Places.{part, attributesOf, AllStanding, FewValues, noAttributes, added, elementsTo, Named, lineStart, placed, Lined}
+use Rattle.layout.specs.Places.{part, attributesOf, AllStanding, FewValues, noAttributes, added, elementsTo, Named, Obliged, Clear, lineStart, placed, Lined}
 use Rattle.layout.specs.Nearest.{Stands}
 use Rattle.attribute_lines.specs.declared.State.{State}
 use Rattle.attribute_lines.specs.declared.Step.{Step}
@@ -23,10 +23,10 @@ pub record Spaced (f : Bytes) (a : Attributes) : Type 0 where
   pub few-values : FewValues a
   pub small : space (attributesOf f a) ≤ 4096
 
--- room for 64 elements, of which n are there
+-- room for 64 elements and two obligations of each, of which n elements are there
 pub record Rooms (f : Bytes) (table places : List ℕ) (n : ℕ) : Type 0 where
   pub rows : Rows table 64
-  pub pairs : 128 ≤ length places
+  pub pairs : 384 ≤ length places
   pub named : Named f places n
 
 -- A state before a line: what it says of the file alone, and with the table and the places
@@ -44,6 +44,8 @@ pub record BeforeLine (f : Bytes) (table places : List ℕ) (st : State) : Type 
   pub tree : Stands (st .tree) (elementsTo f table places (st .tree .len))
   pub lined : Lined (lineStart f) places (st .attributes .len) (st .tree .len) (st .at)
   pub places-are : st .attributes ≡ placed f (st .attributes .len)
+  pub clear : Clear places (st .tree .len)
+  pub obliged : (i : ℕ) → i < st .tree .len → Obliged f places i
 
 -- the line at a state's place, which the newline at `end` ends
 pub record EndedLine (f : Bytes) (st : State) (end : ℕ) : Type 0 where

@@ -1,16 +1,15 @@
 -- The tests 3 to 7 of a tree line, by what the places, the tree and the fields show.
-use Prim.Native.Nat.{ℕ, suc, _-_}
+use Prim.Native.Nat.{ℕ, suc}
 use mathlib.Core.Path.{_≡_, refl, sym, ap, _∙_}
-use mathlib.Core.Bool.{Bool, true, false, not, _&&_, _||_}
+use mathlib.Core.Bool.{Bool, not, _||_, or-false}
 use mathlib.Core.List.{List, [], _∷_}
 use native.Mathlib.Omega.{arith}
 use lib.Dec.{eqb, leb}
-use lib.ListN.{length, take, drop, getD, replicate}
-use lib.Seq.{drop-append-seam}
+use lib.ListN.{length, drop, getD}
 use borrow.Author.Tests.{ne-eqb}
-use Rattle.meaning.specs.Text.{Bytes, bytes, empty, all, between, same, amongNames, nameByte, isName}
+use Rattle.meaning.specs.Text.{Bytes, empty, amongNames, isName}
 use Rattle.meaning.specs.Model.{Attribute}
-use Rattle.meaning.specs.Reading.{depthOf, wordOf, elementOf, Sofar, wellPlaced, lowest, badName}
+use Rattle.meaning.specs.Reading.{depthOf, wordOf, elementOf, Sofar, wellPlaced, lowest, badName, badUnused}
 use Rattle.laws.proofs.Types.{Kind}
 use Rattle.laws.proofs.Bounds.{padded-name}
 use Rattle.syntax.specs.Fields.{numberOfWord}
@@ -19,20 +18,12 @@ use Rattle.layout.specs.declared.Attributes.{Attributes}
 use Rattle.layout.specs.declared.Tree.{Tree}
 use Rattle.layout.specs.Places.{namesTo}
 use Rattle.layout.proofs.Laws.{attributes-length}
-use Rattle.tree_fields.proofs.TargetWalk.{zeros}
+use Rattle.attribute_lines.proofs.ObligationShape.{stored-test}
 use Rattle.element_lines.specs.Elements.{elementFrom, Behind, earlierTests}
 
--- 3: a name's size is tested twice, and zeros stand behind the name
-size-twice : (size bytes-good start-good : Bool) → (not size || not (size && bytes-good && start-good) || false) ≡ not (size && bytes-good && start-good)
-size-twice false b c = refl
-size-twice true false c = refl
-size-twice true true false = refl
-size-twice true true true = refl
-
-bad-name : (attrs : List Attribute) (k : Kind) (d n w : Bytes) (ts : List Bytes) → badName (elementOf attrs k d n w ts) ≡ not (isName n)
-bad-name attrs k d n w ts =
-    rw (padded-name attrs k d n w ts, drop-append-seam n (replicate (16 - length n) 0), zeros (16 - length n))
-    (size-twice (between 1 16 (length n)) (all nameByte n) (not (same (take 1 n) (bytes "-"))))
+-- 3: the name is stored as it is, and both places for obligations are unused
+bad-name : (attrs : List Attribute) (k : Kind) (d n w : Bytes) (ts : List Bytes) → let e = elementOf attrs k d n w ts in (badName e || badUnused e) ≡ not (isName n)
+bad-name attrs k d n w ts = or-false (badName (elementOf attrs k d n w ts)) ∙ stored-test n
 
 -- 6: whether there is an attribute, by their number
 empty-count : (attrs : List Attribute) → empty attrs ≡ eqb (length attrs) 0

@@ -1,6 +1,6 @@
 -- A tree line: its refusals, and the element that it adds.
 use mathlib.Core.Path.{_≡_, refl, sym, ap, ap₂, _∙_, subst, subst⁻¹}
-use Prim.Native.Nat.{ℕ, suc, _+_, _*_, _-_, _≤_, _<_, zero-le, suc-le-suc}
+use Prim.Native.Nat.{ℕ, suc, _+_, _*_, _≤_, _<_, zero-le, suc-le-suc}
 use native.Mathlib.Numerals.{add-one}
 use native.Mathlib.Omega.{arith}
 use mathlib.Core.Bool.{true, false, not, cond, false≢true}
@@ -8,14 +8,14 @@ use mathlib.Core.List.{List, [], _∷_, _++_}
 use mathlib.Core.Option.{Option, none, some}
 use lib.Dec.{lit≤}
 use lib.ListN.{length, drop, getD}
-use lib.Seq.{sets, length-sets, getD-take, getD-drop}
+use lib.Seq.{sets, length-sets}
 use borrow.Author.Tests.{leb-false, not-false}
 use Rattle.meaning.specs.declared.Kind.{Kind}
 use Rattle.meaning.specs.declared.Kind.the-variants.{Set, Policy, Rule}
 use Rattle.meaning.specs.declared.Word.{Word}
 use Rattle.meaning.specs.declared.Element.{Element}
 use Rattle.meaning.specs.Text.{Bytes, empty, isNone, cut, tab}
-use Rattle.meaning.specs.Model.{padded, kindText}
+use Rattle.meaning.specs.Model.{padded, unused, kindText}
 use Rattle.meaning.specs.Reading.{depthOf, wordOf, orPermit, masksOf, Sofar, wellPlaced, Tests, lowest, badMasks, lineTests}
 use Rattle.laws.proofs.Bools.{Test, passed, failed, test, or-false}
 use Rattle.laws.proofs.Reading.{Passes, Numbered, lowest-zero}
@@ -23,16 +23,16 @@ use Rattle.laws.proofs.Bounds.{placed-depth, length-padded, masks-count}
 use Rattle.table.specs.Rows.{wordAt, withRow}
 use Rattle.table.proofs.Rows.{row-length}
 use Rattle.syntax.specs.Fields.{numberOfWord}
-use Rattle.layout.specs.Places.{part, kindAt, elementsTo, lineStart}
+use Rattle.layout.specs.Places.{part, kindAt, elementsTo, Clear, lineStart, linesTo}
 use Rattle.layout.specs.Nearest.{Stands}
 use Rattle.layout.proofs.Placing.{stands-more}
-use Rattle.layout.proofs.Laws.{attributes-length, elements-more, named-more, lined-more}
+use Rattle.layout.proofs.Laws.{attributes-length, elements-more, named-more, lined-more, clear-more, obliged-more}
 use Rattle.attribute_lines.specs.declared.State.{State}
 use Rattle.attribute_lines.specs.Sofar.{refusalOf, TreeLine}
 use Rattle.element_lines.specs.Elements.{elementFrom, earlierTests, Fits, behindTree}
 use Rattle.attribute_lines.specs.Steps.{Rooms, BeforeLine, EndedLine, readSofar, Next}
 use Rattle.attribute_lines.proofs.TreeShape.{right-fields, by-tests}
-use Rattle.attribute_lines.proofs.Parts.{field-at, next-start}
+use Rattle.attribute_lines.proofs.Parts.{first-byte, field-at, next-start}
 
 -- The first of two lists of tests that refuses
 lowest-first : (ts more : Tests) → (lowest ts ≡ 0 → ⊥) → lowest (ts ++ more) ≡ lowest ts
@@ -115,9 +115,6 @@ name-at f at end k d name w ts inside e l =
       here = third .here;
       within = third .within;
     }
-  where
-    first-byte : (f : Bytes) (a b : ℕ) → a < b → getD (part f a b) 0 0 ≡ getD f a 0
-    first-byte f a b l = getD-take (b - a) (drop a f) 0 0 (omega arith) ∙ getD-drop a f 0 0 ∙ ap (λ m. getD f m 0) (omega arith)
 
 -- the word again from its number
 word-number : (o : Option Word) → isNone o ≡ false → wordAt (numberOfWord o) ≡ orPermit o
@@ -177,6 +174,9 @@ module _ (f table places : List ℕ) (st : State) (end : ℕ) (k : Kind) (n : �
       ends = l;
     }
 
+    pair-room : 2 * size + 2 ≤ length places
+    pair-room = omega (arith, ready .rooms .pairs, few)
+
     six : length masks ≡ 6
     six =
         let few-masks = masks-count (s .attributes) (drop 4 fs) in
@@ -184,7 +184,7 @@ module _ (f table places : List ℕ) (st : State) (end : ℕ) (k : Kind) (n : �
 
     added : elementsTo f table′ places′ (suc size) ≡ el s fs k n line ∷ s .before
     added =
-        elements-more f table places size (st .at) name-end word (depthOf (getD fs 1 [])) masks (omega (arith, ready .rooms .rows, few)) (omega (arith, ready .rooms .pairs, few)) six
+        elements-more f table places size (st .at) name-end word (depthOf (getD fs 1 [])) masks (omega (arith, ready .rooms .rows, few)) pair-room six few (ready .clear)
         ∙ ap (λ x. x ∷ s .before) (λ i. record {
           kind = named .letter i;
           depth = depthOf (getD fs 1 []);
@@ -192,6 +192,9 @@ module _ (f table places : List ℕ) (st : State) (end : ℕ) (k : Kind) (n : �
           len = length (named .here i);
           word = word-number (wordOf k (getD fs 3 [])) (known .2) i;
           masks = masks;
+          obligations = 0;
+          first = unused;
+          second = unused;
         })
 
     more : elementsTo f table′ places′ (size + 1) ≡ el s fs k n line ∷ s .before
@@ -213,11 +216,13 @@ module _ (f table places : List ℕ) (st : State) (end : ℕ) (k : Kind) (n : �
             rooms = subst⁻¹ (Rooms f table′ places′) (add-one size) (record {
               rows = omega (arith, row-length table size word (depthOf (getD fs 1 [])) masks, ready .rooms .rows);
               pairs = omega (arith, length-sets places (2 * size) (st .at ∷ name-end ∷ []), ready .rooms .pairs);
-              named = named-more f places size (st .at) name-end (omega (arith, ready .rooms .pairs, few)) (omega arith) (omega (arith, named .within, at .ends)) (ready .rooms .named);
+              named = named-more f places size (st .at) name-end pair-room (omega arith) (omega (arith, named .within, at .ends)) (ready .rooms .named);
             });
             tree = subst⁻¹ (Stands (behindTree st end k fs .tree)) more (stands-more (st .tree) k (depthOf (getD fs 1 [])) (el s fs k n line) (s .before) (ready .tree) refl refl (known .1) refl);
-            lined = rw (add-one size) (lined-more f places size (st .at) name-end (omega (arith, ready .rooms .pairs, few)) (lineStart f) (st .attributes .len) (end + 1) (ready .lined) (next-start (st .attributes .len + size) at (ready .lined .next)));
+            lined = rw (add-one size) (lined-more f places size (st .at) name-end pair-room (lineStart f) (st .attributes .len) (end + 1) few (ready .clear) (ready .lined) (next-start (st .attributes .len + linesTo places size) at (ready .lined .next)));
             places-are = ready .places-are;
+            clear = subst⁻¹ (Clear places′) (add-one size) (clear-more f places size (st .at) name-end pair-room few (ready .clear));
+            obliged = λ i l. obliged-more f places size (st .at) name-end pair-room few (ready .rooms .pairs) (ready .clear) (ready .obliged) i (omega arith);
           };
           at-next = refl;
           line-next = refl;

@@ -9,7 +9,7 @@ use Rattle.meaning.specs.declared.Kind.{Kind}
 use Rattle.meaning.specs.declared.Element.{Element}
 use Rattle.meaning.specs.Text.{Bytes, empty, isNone, amongNames}
 use Rattle.meaning.specs.Model.{Attribute, nameOf, space}
-use Rattle.meaning.specs.Reading.{wordOf, elementOf, Sofar, wellPlaced, Tests, badName, depthOf}
+use Rattle.meaning.specs.Reading.{wordOf, elementOf, Sofar, wellPlaced, Tests, badName, badUnused, depthOf}
 use Rattle.table.specs.Rows.{Rows}
 use Rattle.layout.specs.declared.Attributes.{Attributes}
 use Rattle.layout.specs.declared.Tree.{Tree}
@@ -30,7 +30,7 @@ pub record Behind (f : Bytes) (a : Attributes) (places : List ℕ) (tree : Tree)
 -- 3 to 7 of an element: the tests before that of its targets
 abbrev pub earlierTests : Sofar → Bytes → Element → Tests
 earlierTests s w e =
-    (3, badName e)
+    (3, badName e || badUnused e)
     ∷ (4, amongNames (nameOf e) (map nameOf (s .before)))
     ∷ (5, leb 64 (length (s .before)))
     ∷ (6, empty (s .attributes) || not (wellPlaced (e .kind) (e .depth) (s .before)))

@@ -9,11 +9,12 @@ use lib.ListN.{length, getD, drop, length-replicate}
 use borrow.Author.Tests.{le-ltb, lt-ltb, eq-eqb, ne-eqb}
 use Rattle.meaning.specs.Text.{Bytes, cut, newline, tab}
 use Rattle.meaning.specs.Model.{Result, refused, given, _then_}
-use Rattle.meaning.specs.Reading.{Line, attributeLine, treeLine, otherLine, lineOf, Sofar, wrongFields, readText, short}
+use Rattle.meaning.specs.Reading.{Line, attributeLine, treeLine, obligationLine, otherLine, lineOf, Sofar, wrongFields, readText, short}
 use Rattle.meaning.specs.Writing.{headerTests}
 use Rattle.meaning.specs.Claims.Texts.{All}
 use Rattle.table.specs.Rows.{Rows}
-use Rattle.layout.specs.Places.{part}
+use Rattle.layout.specs.Places.{part, Clear}
+use Rattle.layout.proofs.Slots.{zeros-clear}
 use Rattle.attribute_lines.specs.declared.State.{State}
 use Rattle.attribute_lines.specs.Sofar.{refusalBy}
 use Rattle.attribute_lines.specs.Steps.{beginning, Next}
@@ -32,6 +33,10 @@ blank-room : Rows blank 64
 unfolding blank
 blank-room = omega (arith, length-replicate {A = ℕ} 512 0)
 
+blank-clear : Clear blank 0
+unfolding blank
+blank-clear = zeros-clear 512
+
 -- 1: they are too long
 pub too-long : (h : Bytes) {r : Header} → r ≡ refusedWith 1 0 → 16384 < length h → HeaderAs h r (readHeader h)
 too-long h is l = rw (lt-ltb 16384 (length h) l) (record { is = is; not-zero = lit≤ tt; low = lit≤ tt; small = zero-le })
@@ -44,17 +49,18 @@ pub record Keeps (h : Bytes) (st : State) : Type 0 where
 
 pub keeps-first : (h : Bytes) {st : State} → length h ≤ 16384 → st ≡ beginning → Keeps h st
 keeps-first h l is =
-    let (ready, none) = beginning-ready h blank blank blank-room (omega (arith, blank-room)) in
+    let (ready, none) = beginning-ready h blank blank blank-room (omega (arith, blank-room)) blank-clear in
     subst⁻¹ (Keeps h) is (record { among = record { ready = ready; no-element = ap (λ s. s .before) none }; size = l; reads = rw (le-ltb 16384 (length h) l, none) })
 
--- a line's refusal is 6 at most
-refusal-low : (s : Sofar) (fs : List Bytes) → refusalBy headerTests s fs ≤ 6
+-- a line's refusal is 14 at most
+refusal-low : (s : Sofar) (fs : List Bytes) → refusalBy headerTests s fs ≤ 14
 unfolding refusalBy
-refusal-low s fs = lowest-within 6 ((2, wrongFields s fs (lineOf fs)) ∷ headerTests s (lineOf fs)) (lit≤ tt, by-line (lineOf fs))
+refusal-low s fs = lowest-within 14 ((2, wrongFields s fs (lineOf fs)) ∷ headerTests s (lineOf fs)) (lit≤ tt, by-line (lineOf fs))
   where
-    by-line : (l : Line) → All (λ t. t .0 ≤ 6) (headerTests s l)
+    by-line : (l : Line) → All (λ t. t .0 ≤ 14) (headerTests s l)
     by-line (attributeLine a) = (lit≤ tt, (lit≤ tt, (lit≤ tt, (lit≤ tt, tt))))
     by-line (treeLine k d n w ts) = (lit≤ tt, (lit≤ tt, tt))
+    by-line (obligationLine n w) = (lit≤ tt, (lit≤ tt, tt))
     by-line otherLine = tt
 
 module _ (h : Bytes) (st : State) (keeps : Keeps h st) (end : ℕ) (ends : end ≡ st .at + length (getD (cut newline (drop (st .at) h)) 0 [])) where
@@ -62,7 +68,7 @@ module _ (h : Bytes) (st : State) (keeps : Keeps h st) (end : ℕ) (ends : end �
   few-lines = omega (arith, keeps .size, keeps .among .ready .in-file .inside, keeps .among .ready .in-file .lines-passed)
 
   -- what is told of a refusal
-  told : (n : ℕ) {r : Header} → readHeader h ≡ refused n (st .line) → r ≡ refusedWith n (st .line) → 1 ≤ n → n ≤ 6 → HeaderAs h r (readHeader h)
+  told : (n : ℕ) {r : Header} → readHeader h ≡ refused n (st .line) → r ≡ refusedWith n (st .line) → 1 ≤ n → n ≤ 14 → HeaderAs h r (readHeader h)
   told n {r} e is some low = subst⁻¹ (HeaderAs h r) e (record { is = is; not-zero = some; low = low; small = few-lines })
 
   module _ (whole : end ≡ length h) where

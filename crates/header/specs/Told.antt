@@ -17,7 +17,7 @@ refusedWith n m = record { number = n; second = m; attributes = noAttributes }
 pub record HeaderRefused (n m : ℕ) (r : Header) : Type 0 where
   pub is : r ≡ refusedWith n m
   pub not-zero : 1 ≤ n
-  pub low : n ≤ 6
+  pub low : n ≤ 14
   pub small : m ≤ 16385
 
 pub record HeaderHolds (h : Bytes) (r : Header) (s : Sofar) : Type 0 where

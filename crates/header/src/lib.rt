@@ -11,7 +11,7 @@ ghost use Rattle.meaning.specs.Text.{cut, tab};
 ghost use Rattle.meaning.specs.Model.{_then_};
 ghost use Rattle.meaning.specs.Reading.{Sofar, readText, short};
 ghost use Rattle.meaning.specs.Writing.{headerTests};
-ghost use Rattle.attribute_lines.specs.Sofar.{TreeLine, refusalBy};
+ghost use Rattle.attribute_lines.specs.Sofar.{TreeLine, ObligationLine, refusalBy};
 ghost use Rattle.attribute_lines.specs.Steps.{EndedLine};
 ghost use Rattle.header.specs.Among.{Among, Past};
 ghost use Rattle.header.specs.Told.{refusedWith, HeaderAs};
@@ -37,6 +37,20 @@ fn tree_refusal(line: &[u8], attributes: usize, fields: usize) -> usize
     6
 }
 
+// The number that refuses an obligation's line of so many fields.
+fn obligation_refusal(line: &[u8], fields: usize) -> usize
+    requires { ⌜ ObligationLine (cut tab (now line)) fields ⌝ }
+    ensures { λ r. ⌜ ((s : Sofar) → r ≡ refusalBy headerTests s (cut tab (now (line .entry)))) × (1 ≤ r) ⌝ }
+{
+    if fields != 3 {
+        return 2;
+    }
+    if !names::is_name(fields::field(line, 1)) {
+        return 3;
+    }
+    14
+}
+
 // One line, which a newline at `end` ends.
 fn header_line(header: &[u8], st: State, end: usize) -> Step
     requires { ⌜ Among (now header) st × EndedLine (now header) st end ⌝ }
@@ -54,6 +68,10 @@ fn header_line(header: &[u8], st: State, end: usize) -> Step
         LineKind::Tree(_) => {
             let attributes = st.attributes;
             let refusal = tree_refusal(line, attributes.len, fields);
+            Step { refusal, state: st }
+        }
+        LineKind::Obligation => {
+            let refusal = obligation_refusal(line, fields);
             Step { refusal, state: st }
         }
         LineKind::Other => Step {

@@ -11,7 +11,7 @@ use lib.ListN.{length, getD, set, length-set, replicate, getD-replicate}
 use lib.Seq.{sets, getD-set-same, getD-set-other, take-append-seam, length-sets}
 use borrow.Author.Tests.{eq-eqb}
 use Rattle.meaning.specs.Text.{Bytes}
-use Rattle.meaning.specs.Model.{padded, nameOf, Policy, severals}
+use Rattle.meaning.specs.Model.{padded, nameOf, unused, Policy, severals}
 use Rattle.meaning.specs.Deciding.{matches, childReplies, firstDecision, decide}
 use Rattle.meaning.specs.Claims.Texts.{All}
 use Rattle.laws.proofs.Types.{rule, Element}
@@ -19,7 +19,8 @@ use Rattle.table.specs.Rows.{wordAt, elementAt, Rows, withRow}
 use Rattle.table.specs.Tree.{left, before}
 use Rattle.table.proofs.Rows.{row-here, row-other}
 use Rattle.layout.specs.declared.Attributes.{Attributes}
-use Rattle.layout.specs.Places.{part, attributeAt, attributesFrom, attributesOf, kindAt, startOf, nameIn, elementIn, elementsTo, namesTo, Named, Lined}
+use Rattle.layout.specs.Places.{part, attributeAt, attributesFrom, attributesOf, kindAt, startOf, nameIn, obligationPlace, obligationCount, elementIn, elementsTo, namesTo, Named, Obliged, Clear, linesTo, Lined}
+use Rattle.layout.proofs.Slots.{SameSlots, count-alike, obligations-alike, lines-alike, obliged-alike, none-in, none-obliged}
 use Rattle.layout.specs.Nearest.{nearest, Stands}
 
 -- The element of a row: its line's start, its name's end, its word's number, its depth and its masks
@@ -32,6 +33,9 @@ rowElement f start end word depth masks =
       len = length (part f (start + 4) end);
       word = wordAt word;
       masks = masks;
+      obligations = 0;
+      first = unused;
+      second = unused;
     }
 
 -- One name more that lies in the file, and one line more
@@ -62,15 +66,40 @@ module _ (f : Bytes) (places : List ℕ) (n start end : ℕ) (room : 2 * n + 2 �
         ends = λ i l. ⊎-elim (λ (e : i ≡ n). rw (e, end-new) inside) (λ (below : i < n). rw (end-old i below) (named .ends i below)) (eq-or-lt-of-le (last i l));
       }
 
-  pub lined-more : (lines : ℕ → ℕ) (a at : ℕ) → Lined lines places a n start → at ≡ lines (suc (a + n)) → Lined lines more a (suc n) at
-  lined-more lines a at lined behind =
+  -- the places of obligations stay, so the new element has none
+  pub same-slots : n < 64 → (i : ℕ) → SameSlots places more i
+  same-slots few i k l = (other (obligationPlace i k) (omega arith), other (obligationPlace i k + 1) (omega arith))
+    where
+      other : (j : ℕ) → 128 ≤ j → getD more j 0 ≡ getD places j 0
+      other j far = getD-set-other (set places (2 * n) start) (suc (2 * n)) j end 0 (λ e. omega arith) ∙ getD-set-other places (2 * n) j start 0 (λ e. omega arith)
+
+  same-lines : n < 64 → (k : ℕ) → linesTo more k ≡ linesTo places k
+  same-lines few k = lines-alike places more k (λ i l. same-slots few i)
+
+  pub lined-more : (lines : ℕ → ℕ) (a at : ℕ) → n < 64 → Clear places n → Lined lines places a n start → at ≡ lines (suc (a + linesTo places n)) → Lined lines more a (suc n) at
+  unfolding linesTo
+  lined-more lines a at few clear lined behind =
+      let none : obligationCount more n ≡ 0 = count-alike places more n (same-slots few n) ∙ none-in f places n (clear n 0 (omega arith) (omega arith) .1) .1 in
       record {
-        next = behind ∙ ap lines (omega arith);
-        starts = λ i l. ⊎-elim (λ (e : i ≡ n). rw (e, start-new) (lined .next)) (λ (below : i < n). start-old i below ∙ lined .starts i below) (eq-or-lt-of-le (last i l));
+        next = behind ∙ ap lines (omega (arith, none, same-lines few n));
+        starts = λ i l. ⊎-elim (λ (e : i ≡ n). rw (e, start-new, same-lines few n) (lined .next)) (λ (below : i < n). start-old i below ∙ lined .starts i below ∙ ap (λ x. lines (a + x)) (sym (same-lines few i))) (eq-or-lt-of-le (last i l));
       }
 
+  pub clear-more : n < 64 → Clear places n → Clear more (suc n)
+  clear-more few clear i k from l = let same = same-slots few i k l in (same .0 ∙ clear i k (omega arith) l .0, same .1 ∙ clear i k (omega arith) l .1)
+
+  pub obliged-more : n < 64 → 384 ≤ length places → Clear places n → ((i : ℕ) → i < n → Obliged f places i) → (i : ℕ) → i < suc n → Obliged f more i
+  obliged-more few long clear each i l =
+      ⊎-elim
+      (λ (e : i ≡ n). rw e (none-obliged f more n (omega (arith, size)) (λ k m. let same = same-slots few n k m in (same .0 ∙ clear n k (omega arith) m .0, same .1 ∙ clear n k (omega arith) m .1))))
+      (λ (below : i < n). obliged-alike places more f i size (same-slots few i) (each i below))
+      (eq-or-lt-of-le (last i l))
+    where
+      size : length more ≡ length places
+      size = length-sets places (2 * n) (start ∷ end ∷ [])
+
 -- One element more, put where there is room
-module _ (f : Bytes) (table places : List ℕ) (n start end word depth : ℕ) (masks : List ℕ) (rows : Rows table (n + 1)) (room : 2 * n + 2 ≤ length places) (six : length masks ≡ 6) where
+module _ (f : Bytes) (table places : List ℕ) (n start end word depth : ℕ) (masks : List ℕ) (rows : Rows table (n + 1)) (room : 2 * n + 2 ≤ length places) (six : length masks ≡ 6) (few : n < 64) (clear : Clear places n) where
   abbrev new-table : List ℕ
   new-table = withRow table n word depth masks
 
@@ -79,11 +108,13 @@ module _ (f : Bytes) (table places : List ℕ) (n start end word depth : ℕ) (m
 
   element-new : elementIn f new-table new-places n ≡ rowElement f start end word depth masks
   unfolding elementIn
-  element-new = rw (start-new f places n start end room, end-new f places n start end room, row-here table n word depth masks rows six)
+  element-new =
+      let none = obligations-alike places new-places f n (same-slots f places n start end room few n) ∙ none-in f places n (clear n 0 (omega arith) (omega arith) .1) .0 in
+      rw (none, start-new f places n start end room, end-new f places n start end room, row-here table n word depth masks rows six)
 
   element-old : (i : ℕ) → i < n → elementIn f new-table new-places i ≡ elementIn f table places i
   unfolding elementIn
-  element-old i l = rw (start-old f places n start end room i l, end-old f places n start end room i l, row-other table n word depth masks rows six i l)
+  element-old i l = rw (obligations-alike places new-places f i (same-slots f places n start end room few i), start-old f places n start end room i l, end-old f places n start end room i l, row-other table n word depth masks rows six i l)
 
   elements-old : (k : ℕ) → k ≤ n → elementsTo f new-table new-places k ≡ elementsTo f table places k
   unfolding elementsTo
@@ -133,12 +164,12 @@ pub empty-stands : Stands (record { len = 0; depth = 0; kinds = replicate 8 0 })
 unfolding nearest
 empty-stands = record { room = refl; count = refl; last = refl; kinds = λ d l. getD-replicate 8 d 0 0 l }
 
--- A decision looks at neither kinds nor names: at elements as a table has them it is the same
+-- A decision looks at neither kinds nor names nor obligations: at elements as a table has them it is the same
 abbrev pub bare : Element → Element
-bare e = record { kind = rule; depth = e .depth; name = replicate 16 0; len = 0; word = e .word; masks = e .masks }
+bare e = record { kind = rule; depth = e .depth; name = replicate 16 0; len = 0; word = e .word; masks = e .masks; obligations = 0; first = unused; second = unused }
 
 module _ (bs : List Bool) (q : List ℕ) where
-  replies-bare : (d : ℕ) (es : List Element) → childReplies (matches bs q) d (map bare es) ≡ childReplies (matches bs q) d es
+  pub replies-bare : (d : ℕ) (es : List Element) → childReplies (matches bs q) d (map bare es) ≡ childReplies (matches bs q) d es
   replies-bare d [] = refl
   replies-bare d (e ∷ es) = rw (replies-bare d es, replies-bare (suc d) es)
 
@@ -174,7 +205,7 @@ module _ (table struck : List ℕ) where
 
 -- The decision on the table is that of the policy of its elements
 pub decided : (f : Bytes) (table places struck : List ℕ) (n : ℕ) (p : Policy) (q : List ℕ) → p .elements ≡ reverse (elementsTo f table places n) → ((k : ℕ) → k < n → getD struck k 0 ≡ 0)
-    → firstDecision (matches (severals (p .attributes)) q) (left table struck 0 n) ≡ decide p q
+    → firstDecision (matches (severals (p .attributes)) q) (left table struck 0 n) ≡ decide p q .decision
 decided f table places struck n p q is live =
     ap (firstDecision (matches (severals (p .attributes)) q)) (all-left table struck n live ∙ ap reverse (sym (elements-bare f table places n)) ∙ sym (map-reverse bare (elementsTo f table places n)))
     ∙ decision-bare (severals (p .attributes)) q (reverse (elementsTo f table places n))

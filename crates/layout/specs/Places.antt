@@ -3,13 +3,17 @@ use Prim.Native.Nat.{ℕ, zero, suc, _+_, _-_, _*_, _≤_, _<_}
 use mathlib.Core.Bool.{Bool, true, false, cond}
 use mathlib.Core.List.{List, [], _∷_, map}
 use mathlib.Core.Path.{_≡_}
+use mathlib.Core.Logic.{_≢_}
 use lib.Dec.{eqb}
 use lib.ListN.{length, take, drop, getD, set, replicate}
 use Rattle.meaning.specs.declared.Kind.{Kind}
 use Rattle.meaning.specs.declared.Kind.the-variants.{Set, Policy, Rule}
+use Rattle.meaning.specs.declared.Word.{Word}
+use Rattle.meaning.specs.declared.Word.the-variants.{Permit, Deny}
+use Rattle.meaning.specs.declared.Obligation.{Obligation}
 use Rattle.meaning.specs.declared.Element.{Element}
 use Rattle.meaning.specs.Text.{Bytes, same, cut, tab, newline}
-use Rattle.meaning.specs.Model.{Attribute, padded, letterText, choicesOf}
+use Rattle.meaning.specs.Model.{Attribute, padded, unused, withObligations, letterText, choicesOf}
 use Rattle.table.specs.Rows.{elementAt}
 use Rattle.layout.specs.declared.Attributes.{Attributes}
 
@@ -88,16 +92,51 @@ startOf places i = getD places (2 * i) 0
 abbrev pub nameIn : Bytes → List ℕ → ℕ → Bytes
 nameIn f places i = part f (startOf places i + 4) (getD places (2 * i + 1) 0)
 
+-- Its obligations: behind the places of 64 elements there are four more for each, where the names of its two obligations
+-- start and end; an end of 0 is none. Behind the tab that ends a name stands the effect, told by its first byte
+abbrev pub obligationPlace : ℕ → ℕ → ℕ
+obligationPlace i k = 128 + 4 * i + 2 * k
+
+abbrev pub obligationStart : List ℕ → ℕ → ℕ → ℕ
+obligationStart places i k = getD places (obligationPlace i k) 0
+
+abbrev pub obligationEnd : List ℕ → ℕ → ℕ → ℕ
+obligationEnd places i k = getD places (obligationPlace i k + 1) 0
+
+abbrev pub effectAt : ℕ → Word
+effectAt b = cond (eqb b 112) Permit Deny
+
+abbrev pub obligationIn : Bytes → (start end : ℕ) → Obligation
+obligationIn f start end =
+    let name = part f start end in
+    record { name = padded 16 name; len = length name; word = effectAt (getD f (end + 1) 0) }
+
+abbrev pub obligationAt : Bytes → List ℕ → ℕ → ℕ → Obligation
+obligationAt f places i k = obligationIn f (obligationStart places i k) (obligationEnd places i k)
+
+unfoldable pub obligationsIn : Bytes → List ℕ → ℕ → List Obligation
+obligationsIn f places i =
+    let second = cond (eqb (obligationEnd places i 1) 0) [] (obligationAt f places i 1 ∷ []) in
+    cond (eqb (obligationEnd places i 0) 0) [] (obligationAt f places i 0 ∷ second)
+
+-- how many they are
+unfoldable pub obligationCount : List ℕ → ℕ → ℕ
+obligationCount places i = cond (eqb (obligationEnd places i 0) 0) 0 (cond (eqb (obligationEnd places i 1) 0) 1 2)
+
 unfoldable pub elementIn : Bytes → List ℕ → List ℕ → ℕ → Element
 elementIn f table places i =
-    record {
+    withObligations (obligationsIn f places i)
+    (record {
       kind = kindAt (getD f (startOf places i) 0);
       depth = elementAt table i .depth;
       name = padded 16 (nameIn f places i);
       len = length (nameIn f places i);
       word = elementAt table i .word;
       masks = elementAt table i .masks;
-    }
+      obligations = 0;
+      first = unused;
+      second = unused;
+    })
 
 -- the first n elements and their names, the nearest first
 unfoldable pub elementsTo : Bytes → List ℕ → List ℕ → ℕ → List Element
@@ -121,6 +160,18 @@ pub record NameAt (f : Bytes) (places : List ℕ) (i : ℕ) : Type 0 where
   pub ends : getD places (2 * i + 1) 0 ≤ length f
   pub short : getD places (2 * i + 1) 0 ≤ startOf places i + 4 + 16
 
+-- the obligations of element i lie in the file, with names of at most 16 bytes
+pub record Obliged (f : Bytes) (places : List ℕ) (i : ℕ) : Type 0 where
+  pub room : 132 + 4 * i ≤ length places
+  pub starts : (k : ℕ) → k < 2 → obligationStart places i k ≤ obligationEnd places i k
+  pub ends : (k : ℕ) → k < 2 → obligationEnd places i k ≢ 0 → obligationEnd places i k + 1 < length f
+  pub short : (k : ℕ) → k < 2 → obligationEnd places i k ≤ obligationStart places i k + 16
+  pub in-order : obligationEnd places i 0 ≡ 0 → obligationEnd places i 1 ≡ 0
+
+-- and from element n on there are none
+abbrev pub Clear : List ℕ → ℕ → Type 0
+Clear places n = (i k : ℕ) → n ≤ i → k < 2 → (obligationStart places i k ≡ 0) × (obligationEnd places i k ≡ 0)
+
 -- each of at most 64 elements has
 pub record Naming (f : Bytes) (places : List ℕ) (n : ℕ) : Type 0 where
   pub few : n ≤ 64
@@ -141,7 +192,12 @@ placed f (suc n) =
     let fields = cut tab (part f at end) in
     added before (same (getD fields 0 []) (letterText true)) (at + 2) (at + 3 + length (getD fields 1 [])) end (length fields - 2)
 
--- So many attributes have a line each and n elements behind them too; the next line starts at `at`
+-- how many lines the first n elements have: one each, and one for each obligation
+unfoldable pub linesTo : List ℕ → ℕ → ℕ
+linesTo places zero = 0
+linesTo places (suc n) = linesTo places n + suc (obligationCount places n)
+
+-- So many attributes have a line each, and n elements behind them their lines; the next line starts at `at`
 pub record Lined (start : ℕ → ℕ) (places : List ℕ) (attributes n at : ℕ) : Type 0 where
-  pub next : at ≡ start (attributes + n)
-  pub starts : (i : ℕ) → i < n → startOf places i ≡ start (attributes + i)
+  pub next : at ≡ start (attributes + linesTo places n)
+  pub starts : (i : ℕ) → i < n → startOf places i ≡ start (attributes + linesTo places i)

@@ -8,10 +8,10 @@ ghost use lib.ListN.{length};
 ghost use lib.Seq.{sets};
 ghost use Rattle.meaning.specs.declared.Element.{Element};
 ghost use Rattle.meaning.specs.Text.{sameName, amongNames};
-ghost use Rattle.meaning.specs.Model.{choicesOf};
+ghost use Rattle.meaning.specs.Model.{choicesOf, obligationName};
 ghost use Rattle.meaning.specs.Reading.{wellPlaced};
 ghost use Rattle.table.specs.Rows.{Rows, withRow};
-ghost use Rattle.layout.specs.Places.{attributeAt, attributesOf, Standing, AllStanding, FewValues, sizesOf, noAttributes, added, namesTo, Named};
+ghost use Rattle.layout.specs.Places.{part, attributeAt, attributesOf, Standing, AllStanding, FewValues, sizesOf, noAttributes, added, namesTo, Named, obligationPlace, obligationStart, obligationEnd, obligationsIn, obligationCount, Obliged};
 ghost use Rattle.layout.specs.Nearest.{kindNumber, parentNumber, grown, Stands};
 
 // Whether each attribute may have several values in a request, and where it stands: the start of its name, of its first value, the
@@ -171,6 +171,58 @@ pub fn put_element(
     table::put_row(table, i, row);
     places[2 * i] = start;
     places[2 * i + 1] = name_end;
+}
+
+// How many obligations element i has.
+pub fn obligation_count(places: &[usize], i: usize) -> usize
+    requires { ⌜ 132 + 4 * i ≤ length (now places) ⌝ }
+    ensures { λ r. ⌜ r ≡ obligationCount (now (places .entry)) i ⌝ }
+    ensures within { λ r. ⌜ r ≤ 2 ⌝ }
+{
+    if places[129 + 4 * i] == 0 {
+        return 0;
+    }
+    if places[131 + 4 * i] == 0 {
+        return 1;
+    }
+    2
+}
+
+// Whether the obligation at place k of element i has this name.
+fn has_obligation(file: &[u8], places: &[usize], i: usize, k: usize, name: &[u8]) -> bool
+    requires { ⌜ Obliged (now file) (now places) i × (k < 2) ⌝ }
+    ensures { λ r. ⌜ r ≡ sameName (now (name .entry)) (part (now (file .entry)) (obligationStart (now (places .entry)) i k) (obligationEnd (now (places .entry)) i k)) ⌝ }
+{
+    let start = places[128 + 4 * i + 2 * k];
+    let end = places[128 + 4 * i + 2 * k + 1];
+    names::same_name(name, &file[start..end])
+}
+
+// Whether an obligation of element i has this name.
+pub fn known_obligation(file: &[u8], places: &[usize], i: usize, name: &[u8]) -> bool
+    requires { ⌜ Obliged (now file) (now places) i ⌝ }
+    ensures { λ r. ⌜ r ≡ amongNames (now (name .entry)) (map obligationName (obligationsIn (now (file .entry)) (now (places .entry)) i)) ⌝ }
+{
+    let count = obligation_count(places, i);
+    if count == 0 {
+        return false;
+    }
+    if has_obligation(file, places, i, 0, name) {
+        return true;
+    }
+    if count == 1 {
+        return false;
+    }
+    has_obligation(file, places, i, 1, name)
+}
+
+// Puts where the name of an obligation of element i starts and ends, at its place k.
+pub fn put_obligation(places: &mut [usize], i: usize, k: usize, start: usize, end: usize)
+    requires { ⌜ (132 + 4 * i ≤ length (now places)) × (k < 2) ⌝ }
+    ensures { λ _. ⌜ now (places .exit) ≡ sets (now (places .entry)) (obligationPlace i k) (start ∷ end ∷ []) ⌝ }
+{
+    places[128 + 4 * i + 2 * k] = start;
+    places[128 + 4 * i + 2 * k + 1] = end;
 }
 
 fn kind_number(kind: Kind) -> usize

@@ -37,4 +37,5 @@ ending f table places st end ready l whole = go (test (eqb (st .at) end)) (test 
           rooms = ready .rooms;
           lined = subst (Lined (lineStart f) places (st .attributes .len) (st .tree .len)) (eqb-true (st .at) end e ∙ whole) (ready .lined);
           places-are = ready .places-are;
+          obliged = ready .obliged;
         })

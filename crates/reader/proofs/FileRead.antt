@@ -17,10 +17,10 @@ use Rattle.reader.specs.declared.Reading.{Reading}
 use Rattle.reader.specs.Told.{ReadPolicy, ReadAs}
 
 module _ (f table places : List ℕ) (r : Reading) (is-read : ReadAs f table places r (read f)) where
-  pub small-numbers : (r .number ≡ 0 → ⊥) → (r .number ≤ 9) × (r .second ≤ 16385)
+  pub small-numbers : (r .number ≡ 0 → ⊥) → (r .number ≤ 14) × (r .second ≤ 16385)
   small-numbers h = go (read f) is-read
     where
-      go : (x : Result Policy) → ReadAs f table places r x → (r .number ≤ 9) × (r .second ≤ 16385)
+      go : (x : Result Policy) → ReadAs f table places r x → (r .number ≤ 14) × (r .second ≤ 16385)
       go (refused n m) t = rw (t .is) (t .low, t .small)
       go (given p) t = absurd (h (t .number))
 

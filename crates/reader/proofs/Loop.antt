@@ -9,7 +9,7 @@ use lib.ListN.{length, getD, drop}
 use borrow.Author.Tests.{le-ltb, lt-ltb, eq-eqb, ne-eqb}
 use Rattle.meaning.specs.Text.{Bytes, cut, newline, tab}
 use Rattle.meaning.specs.Model.{Policy, Result, refused, given, _then_}
-use Rattle.meaning.specs.Reading.{Line, attributeLine, treeLine, otherLine, lineOf, Sofar, wrongFields, lineTests, extended, nothing, finished, read}
+use Rattle.meaning.specs.Reading.{Line, attributeLine, treeLine, obligationLine, otherLine, lineOf, Sofar, wrongFields, lineTests, extended, nothing, finished, read}
 use Rattle.meaning.specs.Claims.Texts.{All}
 use Rattle.layout.specs.Places.{part}
 use Rattle.attribute_lines.specs.declared.State.{State}
@@ -54,14 +54,15 @@ module _ (f : Bytes) (at n : ℕ) (s : Sofar) (end : ℕ) (ends : end ≡ at + l
   pub line-read : end < length f → refusalOf s fields ≡ 0 → remaining f at n s ≡ remaining f (end + 1) (n + 1) (extended s (lineOf fields))
   line-read l z = ap (λ r. r then finished) (one-read lineTests f at n s end ends l z)
 
--- a line's refusal is 8 at most
-refusal-low : (s : Sofar) (fs : List Bytes) → refusalOf s fs ≤ 8
+-- a line's refusal is 14 at most
+refusal-low : (s : Sofar) (fs : List Bytes) → refusalOf s fs ≤ 14
 unfolding refusalBy
-refusal-low s fs = lowest-within 8 ((2, wrongFields s fs (lineOf fs)) ∷ lineTests s (lineOf fs)) (lit≤ tt, by-line (lineOf fs))
+refusal-low s fs = lowest-within 14 ((2, wrongFields s fs (lineOf fs)) ∷ lineTests s (lineOf fs)) (lit≤ tt, by-line (lineOf fs))
   where
-    by-line : (l : Line) → All (λ t. t .0 ≤ 8) (lineTests s l)
+    by-line : (l : Line) → All (λ t. t .0 ≤ 14) (lineTests s l)
     by-line (attributeLine a) = (lit≤ tt, (lit≤ tt, (lit≤ tt, (lit≤ tt, tt))))
     by-line (treeLine k d n w ts) = (lit≤ tt, (lit≤ tt, (lit≤ tt, (lit≤ tt, (lit≤ tt, (lit≤ tt, tt))))))
+    by-line (obligationLine n w) = (lit≤ tt, (lit≤ tt, (lit≤ tt, (lit≤ tt, tt))))
     by-line otherLine = tt
 
 -- What the lines that are left lay down behind those before
@@ -95,7 +96,7 @@ keeps-first f table places l e = record { reads = all-remains f l ∙ sym (rw e)
 told : {f table₀ places₀ table places : List ℕ} {s : Sofar} {r : Reading} → ReadAs f table places r (read f) → laidIn f table₀ places₀ ≡ record { sofar = s; table = table; places = places } → ReadIs f table₀ places₀ table places r
 told is lays = record { answer = is; table-is = sym (ap (λ x. x .table) lays); places-are = sym (ap (λ x. x .places) lays) }
 
-refusal-told : (f table places : List ℕ) (r : Reading) (n m : ℕ) → read f ≡ refused n m → r ≡ refusedWith n m → 1 ≤ n → n ≤ 9 → m ≤ 16385 → ReadAs f table places r (read f)
+refusal-told : (f table places : List ℕ) (r : Reading) (n m : ℕ) → read f ≡ refused n m → r ≡ refusedWith n m → 1 ≤ n → n ≤ 14 → m ≤ 16385 → ReadAs f table places r (read f)
 refusal-told f table places r n m e is p low l = subst⁻¹ (ReadAs f table places r) e (record { is = is; not-zero = p; low = low; small = l })
 
 pub long-told : (f table places : List ℕ) (r : Reading) → 16384 < length f → r ≡ refusedWith 1 0 → ReadIs f table places table places r

@@ -9,7 +9,7 @@ use Rattle.meaning.specs.Text.{Bytes, cut, tab, newline}
 use Rattle.meaning.specs.Model.{Policy, space, Result, refused, given}
 use Rattle.meaning.specs.Reading.{read}
 use Rattle.table.specs.declared.Shape.{Shape}
-use Rattle.layout.specs.Places.{part, attributesOf, sizesOf, noAttributes, elementsTo, lineStart, placed, Lined}
+use Rattle.layout.specs.Places.{part, attributesOf, sizesOf, noAttributes, elementsTo, Obliged, lineStart, placed, Lined}
 use Rattle.attribute_lines.specs.declared.State.{State}
 use Rattle.reader.specs.declared.Reading.{Reading}
 use Rattle.attribute_lines.specs.Sofar.{CountIs}
@@ -46,7 +46,7 @@ endedAt st end =
 pub record ReadRefusal (n m : ℕ) (r : Reading) : Type 0 where
   pub is : r ≡ refusedWith n m
   pub not-zero : 1 ≤ n
-  pub low : n ≤ 9
+  pub low : n ≤ 14
   pub small : m ≤ 16385
 
 pub record ReadPolicy (f table places : List ℕ) (r : Reading) (p : Policy) : Type 0 where
@@ -60,6 +60,7 @@ pub record ReadPolicy (f table places : List ℕ) (r : Reading) (p : Policy) : T
   pub rooms : Rooms f table places (r .elements)
   pub lined : Lined (lineStart f) places (r .attributes .len) (r .elements) (length f)
   pub places-are : r .attributes ≡ placed f (r .attributes .len)
+  pub obliged : (i : ℕ) → i < r .elements → Obliged f places i
 
 abbrev pub ReadAs : List ℕ → List ℕ → List ℕ → Reading → Result Policy → Type 0
 ReadAs f table places r (refused n m) = ReadRefusal n m r

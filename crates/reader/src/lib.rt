@@ -11,7 +11,7 @@ ghost use Prim.Native.Nat.{_≤_};
 ghost use lib.ListN.{length};
 ghost use Rattle.meaning.specs.Text.{cut, tab};
 ghost use Rattle.table.specs.Rows.{Rows};
-ghost use Rattle.layout.specs.Places.{part, FewValues};
+ghost use Rattle.layout.specs.Places.{part, FewValues, Clear};
 ghost use Rattle.attribute_lines.specs.Sofar.{CountIs};
 ghost use Rattle.attribute_lines.specs.Steps.{BeforeLine, EndedLine, StepIs};
 ghost use Rattle.reader.specs.Told.{LineAt, refusedWith, policyShape, endedAt, ReadIs};
@@ -57,6 +57,7 @@ fn read_line(
             attribute_lines::attribute_line(file, st, end, several, fields)
         }
         LineKind::Tree(k) => element_lines::tree_line(file, st, end, k, fields, table, places),
+        LineKind::Obligation => obligation_lines::obligation_line(file, st, end, fields, places),
         LineKind::Other => Step {
             refusal: 2,
             state: st,
@@ -101,9 +102,9 @@ fn finish(st: State, end: usize) -> Reading
     }
 }
 
-// Reads a file into the table and the places; a refused one up to the line that is refused.
+// Reads a file into the table and the places, which have no obligation before; a refused one up to the line that is refused.
 pub fn read(file: &[u8], table: &mut [u16], places: &mut [usize]) -> Reading
-    requires { ⌜ Rows (now table) 64 × (128 ≤ length (now places)) ⌝ }
+    requires { ⌜ Rows (now table) 64 × (384 ≤ length (now places)) × Clear (now places) 0 ⌝ }
     ensures { λ r. ⌜ ReadIs (now (file .entry)) (now (table .entry)) (now (places .entry)) (now (table .exit)) (now (places .exit)) r ⌝ }
 {
     let mut st = attribute_lines::start();
@@ -129,7 +130,7 @@ pub fn read(file: &[u8], table: &mut [u16], places: &mut [usize]) -> Reading
 
 // The answer of a file that was refused.
 pub fn refusal(reading: Reading) -> Answer
-    requires { ⌜ (reading .number ≤ 9) × (reading .second ≤ 16385) ⌝ }
+    requires { ⌜ (reading .number ≤ 14) × (reading .second ≤ 16385) ⌝ }
     ensures { λ r. ⌜ r ≡ record { number = reading .number; second = reading .second } ⌝ }
 {
     Answer {

@@ -10,7 +10,7 @@ use lib.ListN.{length, getD}
 use lib.Dec.{eqb}
 use Rattle.meaning.specs.Text.{Bytes, isNone, between, same}
 use Rattle.meaning.specs.Model.{letterText, wordText}
-use Rattle.meaning.specs.Reading.{kindOf, attributeLetter, depthOf, wordOf}
+use Rattle.meaning.specs.Reading.{kindOf, attributeLetter, obligationLetter, depthOf, wordOf}
 use Rattle.laws.proofs.Types.{Kind, set, policy, Word, deny-overrides, permit-overrides, first-applicable, only-one-applicable}
 use Rattle.laws.proofs.Bools.{Test, passed, failed, test}
 use Rattle.laws.proofs.Lines.{letter-is}
@@ -20,16 +20,18 @@ use Rattle.syntax.specs.declared.LineKind.{LineKind}
 -- First field: what each answer says of it
 abbrev pub ByLetter : Bytes → LineKind → Type 0
 ByLetter f (LineKind.Attribute several) = f ≡ letterText several
-ByLetter f (LineKind.Tree k) = (attributeLetter f ≡ false) × (kindOf f ≡ some k)
-ByLetter f LineKind.Other = (attributeLetter f ≡ false) × (kindOf f ≡ none)
+ByLetter f (LineKind.Tree k) = (attributeLetter f ≡ false) × (obligationLetter f ≡ false) × (kindOf f ≡ some k)
+ByLetter f LineKind.Obligation = (attributeLetter f ≡ false) × (obligationLetter f ≡ true)
+ByLetter f LineKind.Other = (attributeLetter f ≡ false) × (obligationLetter f ≡ false) × (kindOf f ≡ none)
 
 pub by-letter : (f : Bytes) → ByLetter f (lineKind f)
-by-letter f = go (test (attributeLetter f)) (kindOf f) refl
+by-letter f = go (test (attributeLetter f)) (test (obligationLetter f)) (kindOf f) refl
   where
-    go : Test (attributeLetter f) → (o : Option Kind) → kindOf f ≡ o → ByLetter f (lineKind f)
-    go (passed e) o i = rw e (letter-is f e)
-    go (failed e) none i = rw (e, i) (e, i)
-    go (failed e) (some k) i = rw (e, i) (e, i)
+    go : Test (attributeLetter f) → Test (obligationLetter f) → (k : Option Kind) → kindOf f ≡ k → ByLetter f (lineKind f)
+    go (passed a) t k i = rw a (letter-is f a)
+    go (failed a) (passed o) k i = rw (a, o) (a, o)
+    go (failed a) (failed o) none i = rw (a, o, i) (a, o, i)
+    go (failed a) (failed o) (some k) i = rw (a, o, i) (a, o, i)
 
 -- a field of one byte goes by that byte, any other is none
 pub kind-byte : (f : Bytes) → length f ≡ 1 → lineKind (getD f 0 0 ∷ []) ≡ lineKind f
@@ -40,7 +42,7 @@ kind-byte (x ∷ y ∷ ys) h = absurd (omega arith)
 pub kind-other : (f : Bytes) → length f ≢ 1 → LineKind.Other ≡ lineKind f
 kind-other [] h = refl
 kind-other (x ∷ []) h = absurd (h refl)
-kind-other (x ∷ y ∷ ys) h = rw (and-false, and-false, and-false, and-false, and-false)
+kind-other (x ∷ y ∷ ys) h = rw (and-false, and-false, and-false, and-false, and-false, and-false)
 
 -- Depth: a field of one byte goes by that byte, any other is none
 pub depth-byte : (f : Bytes) → length f ≡ 1 → depthOf f ≡ cond (between 48 55 (getD f 0 0)) (getD f 0 0 - 48) 8

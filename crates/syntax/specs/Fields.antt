@@ -6,7 +6,7 @@ use Rattle.meaning.specs.Text.{Bytes, same, lower}
 use Rattle.meaning.specs.declared.Kind.{Kind}
 use Rattle.meaning.specs.declared.Word.{Word}
 use Rattle.meaning.specs.Model.{letterText}
-use Rattle.meaning.specs.Reading.{kindOf, attributeLetter}
+use Rattle.meaning.specs.Reading.{kindOf, attributeLetter, obligationLetter}
 use Rattle.syntax.specs.declared.LineKind.{LineKind}
 
 -- A name as it is compared: to the byte, or letter case aside
@@ -20,7 +20,9 @@ treeKind none = LineKind.Other
 treeKind (some k) = LineKind.Tree k
 
 abbrev pub lineKind : Bytes → LineKind
-lineKind f = cond (attributeLetter f) (LineKind.Attribute (same f (letterText true))) (treeKind (kindOf f))
+lineKind f =
+    cond (attributeLetter f) (LineKind.Attribute (same f (letterText true)))
+    (cond (obligationLetter f) LineKind.Obligation (treeKind (kindOf f)))
 
 -- A word by its number; 6 is a word that is not allowed for its kind
 abbrev pub numberOfWord : Option Word → ℕ

@@ -12,6 +12,7 @@ use meaning::Kind;
 pub enum LineKind {
     Attribute(bool),
     Tree(Kind),
+    Obligation,
     Other,
 }
 
@@ -33,6 +34,9 @@ fn letter_kind(letter: u8) -> LineKind
     }
     if letter == b'M' {
         return LineKind::Attribute(true);
+    }
+    if letter == b'O' {
+        return LineKind::Obligation;
     }
     LineKind::Other
 }

@@ -4,7 +4,7 @@ use Rattle.meaning.specs.Text.{cut, tab}
 use Rattle.layout.specs.Places.{part}
 use Rattle.attribute_lines.proofs.LineKinds.{of-kind}
 use Rattle.attribute_lines.proofs.AttributeLines.{attribute-told}
-use Rattle.header.proofs.HeaderLines.{past-attribute, past-tree, past-other}
+use Rattle.header.proofs.HeaderLines.{past-attribute, past-tree, past-obligation, past-other}
 use borrow.Author.Needs.{needs}
 use Rattle.header.proofs.header_line.Statement.{statement}
 use Rattle.header.proofs.header_line.Tie as tie
@@ -28,10 +28,16 @@ tree-refusal-requires c κs =
 returns-2 : tie.Need-returns-2
 returns-2 c = past-tree _ _ _ _ _ refl (c .tree-refusal .ensures)
 
+obligation-refusal-requires : tie.Need-obligation-refusal-requires
+obligation-refusal-requires c κs = of-kind _ (c .before .before .line-shape .ensures) (c .enum-told2 .given .1)
+
 returns-3 : tie.Need-returns-3
-returns-3 c =
+returns-3 c = past-obligation _ _ _ _ (c .obligation-refusal .ensures)
+
+returns-4 : tie.Need-returns-4
+returns-4 c =
     let a = c .before .before .before .before .before .args in
-    past-other _ _ _ (of-kind (cut tab (part (a .header .now) (a .st .at) (a .end))) (c .before .before .line-shape .ensures) (c .enum-told2 .given .1) _)
+    past-other _ _ _ (of-kind (cut tab (part (a .header .now) (a .st .at) (a .end))) (c .before .before .line-shape .ensures) (c .enum-told3 .given .1) _)
 
 pub header-line-spec : {M : Type 1} → statement M
 header-line-spec =
@@ -46,6 +52,9 @@ header-line-spec =
     (λ c. search needs)
     tree-refusal-requires
     (λ c. search needs)
+    obligation-refusal-requires
+    (λ c. search needs)
     returns
     returns-2
-    returns-3)
+    returns-3
+    returns-4)

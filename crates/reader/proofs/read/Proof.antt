@@ -24,7 +24,7 @@ loop-holds : tie.Need-loop-holds Inv-loop μ-loop
 loop-holds c =
     let start = c .before .before .before .before .before in
     let args = start .args in
-    let (ready, none) = beginning-ready (args .file .now) (args .table .now) (args .places .now) (start .pre .0) (start .pre .1) in
+    let (ready, none) = beginning-ready (args .file .now) (args .table .now) (args .places .now) (start .pre .0) (start .pre .1) (start .pre .2) in
     let size : length (args .file .now) ≤ 16384 = omega arith in
     (refl, refl, rw (c .before .start .ensures) ready, size, rw (c .before .start .ensures) (keeps-first (args .file .now) (args .table .now) (args .places .now) size none))
 

@@ -1,4 +1,4 @@
--- Each letter's line is computed; another letter is none of the five.
+-- Each letter's line is computed; another letter is none of the six.
 use mathlib.Core.Path.{_≡_, sym}
 use borrow.Author.Tests.{ne-eqb}
 use Rattle.syntax.proofs.letter_kind.Statement.{statement}
@@ -20,9 +20,19 @@ returns-5 : tie.Need-returns-5
 returns-5 c = rw (c .if5 .taken)
 
 returns-6 : tie.Need-returns-6
-returns-6 c =
-    let b = c .before .before .before .before .before .args .letter in
-    rw (ne-eqb b 65 (c .before .if4 .left), ne-eqb b 77 (c .if5 .left), ne-eqb 83 b (λ e. c .before .before .if3 .left (sym e)), ne-eqb 80 b (λ e. c .before .before .before .if2 .left (sym e)), ne-eqb 82 b (λ e. c .before .before .before .before .if1 .left (sym e)))
+returns-6 c = rw (c .if6 .taken)
+
+returns-7 : tie.Need-returns-7
+returns-7 c =
+    let b = c .before .before .before .before .before .before .args .letter in
+    rw (
+      ne-eqb b 65 (c .before .before .if4 .left),
+      ne-eqb b 77 (c .before .if5 .left),
+      ne-eqb b 79 (c .if6 .left),
+      ne-eqb 83 b (λ e. c .before .before .before .if3 .left (sym e)),
+      ne-eqb 80 b (λ e. c .before .before .before .before .if2 .left (sym e)),
+      ne-eqb 82 b (λ e. c .before .before .before .before .before .if1 .left (sym e)),
+    )
 
 pub letter-kind-spec : {M : Type 1} → statement M
-letter-kind-spec = tie.close (tie.spec returns returns-2 returns-3 returns-4 returns-5 returns-6)
+letter-kind-spec = tie.close (tie.spec returns returns-2 returns-3 returns-4 returns-5 returns-6 returns-7)

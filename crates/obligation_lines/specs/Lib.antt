@@ -1,0 +1,2 @@
+-- What the contracts of obligations' lines cite.
+pub mod Obligations
