@@ -1,0 +1,2 @@
+-- What the proofs of deciding share.
+pub mod Telling

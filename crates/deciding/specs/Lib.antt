@@ -1,0 +1,2 @@
+-- What the contracts of deciding cite.
+pub mod Told

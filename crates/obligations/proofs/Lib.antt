@@ -1,0 +1,3 @@
+-- The laws that the functions' proofs cite, and the tie to the meaning's outcome.
+pub mod Texts
+pub mod Left

@@ -1,0 +1,2 @@
+-- What the contracts of obligations cite.
+pub mod Given
