@@ -14,11 +14,14 @@ use Rattle.meaning.specs.declared.Element.{Element}
 use Rattle.table.specs.Tree.{parentOf, placeOr}
 use Rattle.table.specs.declared.Shape.{Shape}
 use Rattle.table.specs.Shape.{hitOf}
+use Rattle.matching.specs.Hits.{HitsLaid}
 use Rattle.outcomes.specs.Decided.{none-struck, outcomeAt}
 use Rattle.outcomes.specs.PolicyTable.{OutcomesLaid}
 use Rattle.outcomes.proofs.Laying.{laid-at}
 use Rattle.trimming.specs.Decided.{onward, shownAt, nextAt, trimmingAt}
+use Rattle.trimming.specs.Trial.{Laid}
 use Rattle.trimming.specs.Trims.{Trims}
+use Rattle.trimmed_text.proofs.Steadying.{steady}
 use Rattle.layout.specs.Places.{Naming}
 use Rattle.rows.specs.Rows.{Applied, Given}
 use Rattle.segments.specs.Sizes.{sizeAt}
@@ -28,29 +31,31 @@ use Rattle.conflicts.specs.Pairs.{shownBy, Pairs}
 use Rattle.conflicts.proofs.Showing.{pairs-by-table}
 use Rattle.report_lines.specs.Ready.{Ordered}
 use Rattle.reporting.specs.Found.{trimmedAt, SegmentsFound, ConflictsFound, RulesFound}
+use Rattle.reporting.specs.Held.{PolicyHeld}
 use Rattle.reporting.proofs.StruckText.{order-below}
 
 -- striking takes no more steps than there are
-order-few : (t : List ℕ) (n : ℕ) (hit : ℕ → Element → Bool) (space : ℕ) (steps : ℕ) (struck : List ℕ) → length (trimmingAt t n hit space steps struck .order) ≤ steps
+order-few : (f : Bytes) (places t : List ℕ) (n : ℕ) (hit : ℕ → Element → Bool) (space : ℕ) (steps : ℕ) (struck : List ℕ) → length (trimmingAt f places t n hit space steps struck .order) ≤ steps
 unfolding trimmingAt
-order-few t n hit space zero struck = omega arith
-order-few t n hit space (suc k) struck = go (nextAt t n hit space struck) (λ i. order-few t n hit space k (set struck i 1))
+order-few f places t n hit space zero struck = omega arith
+order-few f places t n hit space (suc k) struck = go (nextAt f places t n hit space struck) (λ i. order-few f places t n hit space k (set struck i 1))
   where
-    go : (o : Option ℕ) → ((i : ℕ) → length (trimmingAt t n hit space k (set struck i 1) .order) ≤ k) → length (onward o struck (λ i. trimmingAt t n hit space k (set struck i 1)) .order) ≤ suc k
+    go : (o : Option ℕ) → ((i : ℕ) → length (trimmingAt f places t n hit space k (set struck i 1) .order) ≤ k) → length (onward o struck (λ i. trimmingAt f places t n hit space k (set struck i 1)) .order) ≤ suc k
     go none later = omega arith
     go (some i) later = omega (arith, later i)
 
 module _ (t : List ℕ) (s : Shape) where
   -- the rules, from the flags that striking left
-  module _ (outcomes flags old order behind shown : List ℕ) (count : ℕ) (trims : Trims t outcomes s none-struck flags old order count) where
-    pub rules-found : shown ≡ map (shownAt t (s .n) (hitOf s) (s .space) flags) (counting 0 (s .n)) ++ behind → RulesFound t (s .n) (hitOf s) (s .space) order shown count
+  module _ (f : Bytes) (places outcomes flags old order behind shown : List ℕ) (count : ℕ) (trims : Trims f places t outcomes s none-struck flags old order count) where
+    pub rules-found : shown ≡ map (shownAt f places t (s .n) (hitOf s) (s .space) flags) (counting 0 (s .n)) ++ behind → RulesFound f places t (s .n) (hitOf s) (s .space) order shown count
     rules-found e =
-        let end = trimmedAt t (s .n) (hitOf s) (s .space) in
+        let end = trimmedAt f places t (s .n) (hitOf s) (s .space) in
         record {
           struck = ap (take count) (trims .order-is) ∙ take-at (end .order) (drop count old) count (sym (trims .count-is));
           counted = trims .count-is;
-          few = omega (arith, trims .count-is, order-few t (s .n) (hitOf s) (s .space) (s .n) none-struck);
-          needed = λ i l. laid-at (shownAt t (s .n) (hitOf s) (s .space) flags) (s .n) behind e i l ∙ ap (λ fs. shownAt t (s .n) (hitOf s) (s .space) fs i) (trims .flags-are);
+          few = omega (arith, trims .count-is, order-few f places t (s .n) (hitOf s) (s .space) (s .n) none-struck);
+          stays = subst (λ fs. getD fs 0 0 ≡ 0) (trims .flags-are) (trims .ready .stays);
+          needed = λ i l. laid-at (shownAt f places t (s .n) (hitOf s) (s .space) flags) (s .n) behind e i l ∙ ap (λ fs. shownAt f places t (s .n) (hitOf s) (s .space) fs i) (trims .flags-are);
         }
 
   -- segments, from the words of all requests
@@ -72,11 +77,15 @@ module _ (t : List ℕ) (s : Shape) where
         paired = pairs-by-table t none-struck (s .n) (hitOf s) (s .space) rows permits denies applied permitted denied parents pairs paired;
       }
 
+-- what trimming asks, of a policy that is held
+pub laid : (f table places hits outcomes : List ℕ) (s : Shape) (held : PolicyHeld f table places s) → HitsLaid table hits s → OutcomesLaid table none-struck outcomes s → Laid f places table none-struck hits outcomes s
+laid f table places hits outcomes s held matched holds = record { steady = steady f (held .policy) (held .is-read) table places s (held .elements) (held .obliged); ready = held .ready; matched = matched; holds = holds }
+
 -- each place struck has a name
-pub struck-named : (f : Bytes) (places t : List ℕ) (n : ℕ) (hit : ℕ → Element → Bool) (space : ℕ) (order shown : List ℕ) (count : ℕ) → Naming f places n → RulesFound t n hit space order shown count → Ordered f places order count
+pub struck-named : (f : Bytes) (places t : List ℕ) (n : ℕ) (hit : ℕ → Element → Bool) (space : ℕ) (order shown : List ℕ) (count : ℕ) → Naming f places n → RulesFound f places t n hit space order shown count → Ordered f places order count
 struck-named f places t n hit space order shown count naming rules =
     record {
       few = omega (arith, naming .few, rules .few);
       each = λ k l. naming .each (getD order k 0)
-          (subst (λ m. m < n) (sym (ap (λ xs. getD xs k 0) (rules .struck)) ∙ getD-take count order k 0 l) (order-below t n hit space k (omega (arith, rules .counted))));
+          (subst (λ m. m < n) (sym (ap (λ xs. getD xs k 0) (rules .struck)) ∙ getD-take count order k 0 l) (order-below f places t n hit space k (omega (arith, rules .counted))));
     }

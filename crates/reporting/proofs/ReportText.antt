@@ -22,13 +22,13 @@ use Rattle.reporting.proofs.ConflictText.{conflicts-are}
 use Rattle.reporting.proofs.StruckText.{none-clear, struck-are, kept-are}
 
 module _ (f table places : List ℕ) (s : Shape) (held : PolicyHeld f table places s) (words lengths decided parents pairs order shown : List ℕ) (count : ℕ)
-    (found : SegmentsFound table (s .n) (hitOf s) (s .space) words lengths decided) (shown-pairs : ConflictsFound table (s .n) (hitOf s) (s .space) parents pairs) (rules : RulesFound table (s .n) (hitOf s) (s .space) order shown count) where
+    (found : SegmentsFound table (s .n) (hitOf s) (s .space) words lengths decided) (shown-pairs : ConflictsFound table (s .n) (hitOf s) (s .space) parents pairs) (rules : RulesFound f places table (s .n) (hitOf s) (s .space) order shown count) where
   -- the four kinds of lines, one behind the other
   abbrev text : Bytes
   text = segmentText f places (s .n) words lengths decided (s .space) ++ (conflictText f places (s .n) parents pairs (s .space) ++ (struckText f places order count ++ keptText f places (s .n) shown (s .space)))
 
   -- those of the rules struck
-  struck-lines : struckText f places order count ≡ gathered (struckLine f places) (trimmedAt table (s .n) (hitOf s) (s .space) .order)
+  struck-lines : struckText f places order count ≡ gathered (struckLine f places) (trimmedAt f places table (s .n) (hitOf s) (s .space) .order)
   unfolding struckText
   struck-lines =
       let room : count ≤ length order = omega (arith, ap length (rules .struck), length-take count order, rules .counted) in
@@ -47,7 +47,7 @@ module _ (f table places : List ℕ) (s : Shape) (held : PolicyHeld f table plac
       let space-is = held .space-is in
       ap₂ (λ g rest. g ++ rest) (segments-are f table places n p is hit space hits-are space-is words lengths decided none-struck (λ k l. none-clear k) (found .applying) (found .sized) (found .numbered))
       (ap₂ (λ c rest. c ++ rest) (conflicts-are f table places n p is hit space hits-are space-is parents none-struck none-clear (shown-pairs .parented) pairs (shown-pairs .paired))
-      (ap₂ (λ x k. x ++ k) (struck-lines ∙ struck-are f p h table places n is hit space hits-are space-is) (kept-are f p h table places n is hit space hits-are space-is shown (rules .needed))))
+      (ap₂ (λ x k. x ++ k) (struck-lines ∙ struck-are f p h table places n is hit space hits-are space-is) (kept-are f p h table places n is hit space hits-are space-is shown (rules .stays) (rules .needed))))
 
   -- that text fitted to the buffer is the report of the file
   pub reported : {old new : Bytes} {r : Answer} → Fitted old (text) new r → (r ≡ reportAnswer f old) × (new ≡ reportLent f old)

@@ -44,32 +44,32 @@ pub none-clear : Clear none-struck
 none-clear = zeros 64
 
 -- What is struck is one of n
-module _ (table : List ℕ) (n : ℕ) (hit : ℕ → Element → Bool) (space : ℕ) where
+module _ (f : Bytes) (places table : List ℕ) (n : ℕ) (hit : ℕ → Element → Bool) (space : ℕ) where
   -- the next one
-  next-below : (struck : List ℕ) (i : ℕ) → table-level.nextAt table n hit space struck ≡ some i → i < n
+  next-below : (struck : List ℕ) (i : ℕ) → table-level.nextAt f places table n hit space struck ≡ some i → i < n
   unfolding table-level.nextAt
-  next-below struck i e = last-some (table-level.needlessAt table n hit space struck) n i e .below
+  next-below struck i e = last-some (table-level.needlessAt f places table n hit space struck) n i e .below
 
   -- all of them
-  pub struck-below : (fuel : ℕ) (struck : List ℕ) (i : ℕ) → List·Memᴰ i (table-level.trimmingAt table n hit space fuel struck .order) → i < n
+  pub struck-below : (fuel : ℕ) (struck : List ℕ) (i : ℕ) → List·Memᴰ i (table-level.trimmingAt f places table n hit space fuel struck .order) → i < n
   unfolding table-level.trimmingAt
   struck-below zero struck i m = absurd (List·Memᴰ·not-nil m)
-  struck-below (suc fuel) struck i m = go (table-level.nextAt table n hit space struck) refl m (λ j. struck-below fuel (set struck j 1) i)
+  struck-below (suc fuel) struck i m = go (table-level.nextAt f places table n hit space struck) refl m (λ j. struck-below fuel (set struck j 1) i)
     where
       later : ℕ → table-level.Struck
-      later j = table-level.trimmingAt table n hit space fuel (set struck j 1)
+      later j = table-level.trimmingAt f places table n hit space fuel (set struck j 1)
 
-      either : (j : ℕ) → table-level.nextAt table n hit space struck ≡ some j → (i ≡ j) ⊎ List·Memᴰ i (later j .order) → (List·Memᴰ i (later j .order) → i < n) → i < n
+      either : (j : ℕ) → table-level.nextAt f places table n hit space struck ≡ some j → (i ≡ j) ⊎ List·Memᴰ i (later j .order) → (List·Memᴰ i (later j .order) → i < n) → i < n
       either j e (inl same) behind = omega (arith, next-below struck j e)
       either j e (inr m) behind = behind m
 
-      go : (o : Option ℕ) → table-level.nextAt table n hit space struck ≡ o → List·Memᴰ i (table-level.onward o struck later .order) → ((j : ℕ) → List·Memᴰ i (later j .order) → i < n) → i < n
+      go : (o : Option ℕ) → table-level.nextAt f places table n hit space struck ≡ o → List·Memᴰ i (table-level.onward o struck later .order) → ((j : ℕ) → List·Memᴰ i (later j .order) → i < n) → i < n
       go none e m behind = absurd (List·Memᴰ·not-nil m)
       go (some j) e m behind = either j e (List·Memᴰ·cases-cons m) (behind j)
 
   -- by their numbers
   abbrev order : List ℕ
-  order = trimmedAt table n hit space .order
+  order = trimmedAt f places table n hit space .order
 
   pub order-below : (k : ℕ) → k < length order → getD order k 0 < n
   order-below k l = struck-below n none-struck (getD order k 0) (has-at order 0 k l)
@@ -83,26 +83,26 @@ module _ (f : Bytes) (p : Policy) (h : read f ≡ given p) (table places : List 
   name i l = sym (name-at f table places n p is i l)
 
   -- the table's striking is the policy's
-  same-striking : trimmedAt table n hit space ≡ trimmingAt n p none-struck
-  same-striking = trimming-is f p h table places n is size hit space hits-are space-is n none-struck
+  same-striking : trimmedAt f places table n hit space ≡ trimmingAt n p none-struck
+  same-striking = trimming-is f p h table places n is size hit space hits-are space-is n none-struck refl
 
   -- the names struck stand at its places
-  struck-names : trimmed f .struck ≡ map (nameOfPlace (p .elements)) (trimmedAt table n hit space .order)
+  struck-names : trimmed f .struck ≡ map (nameOfPlace (p .elements)) (trimmedAt f places table n hit space .order)
   struck-names =
       ap (λ t. t .struck) (trimmed-flags f p h n none-struck none-clear (omega (arith, bounded f p h .few-elements)) (omega (arith, size)))
       ∙ ap (λ t. map (nameOfPlace (p .elements)) (t .order)) (sym same-striking)
 
   -- the `X` lines
-  pub struck-are : gathered (struckLine f places) (trimmedAt table n hit space .order) ≡ gathered (λ m. line (struckFields m)) (trimmed f .struck)
+  pub struck-are : gathered (struckLine f places) (trimmedAt f places table n hit space .order) ≡ gathered (λ m. line (struckFields m)) (trimmed f .struck)
   unfolding struckLine
   struck-are =
-      let order = trimmedAt table n hit space .order in
-      gathered-alike (struckLine f places) (λ i. line (struckFields (nameOfPlace (p .elements) i))) order (λ i m. ap (λ b. line (struckFields b)) (name i (struck-below table n hit space n none-struck i m)))
+      let order = trimmedAt f places table n hit space .order in
+      gathered-alike (struckLine f places) (λ i. line (struckFields (nameOfPlace (p .elements) i))) order (λ i m. ap (λ b. line (struckFields b)) (name i (struck-below f places table n hit space n none-struck i m)))
       ∙ sym (gathered-map (λ m. line (struckFields m)) (nameOfPlace (p .elements)) order)
       ∙ ap (gathered (λ m. line (struckFields m))) (sym struck-names)
 
   -- Requests that show the rules that flags leave
-  module _ (struck shown : List ℕ) (needed : (i : ℕ) → i < n → getD shown i 0 ≡ table-level.shownAt table n hit space struck i) where
+  module _ (struck shown : List ℕ) (stays : getD struck 0 0 ≡ 0) (needed : (i : ℕ) → i < n → getD shown i 0 ≡ table-level.shownAt f places table n hit space struck i) where
     -- the line of an element
     kept-line-is : (i : ℕ) → i < n → keptLine f places shown space i ≡ cond (keptAt p struck i) (keptLineAt p struck i) []
     unfolding keptLine table-level.shownAt table-level.firstChangeAt
@@ -112,7 +112,7 @@ module _ (f : Bytes) (p : Policy) (h : read f ≡ given p) (table places : List 
         s = space
 
         change : Option ℕ
-        change = table-level.firstChangeAt table n hit space struck i
+        change = table-level.firstChangeAt f places table n hit space struck i
 
         rule : ruleLeft table struck i ≡ keptAt p struck i
         rule = rule-is f p h table places n is size hit space hits-are space-is struck i l
@@ -124,8 +124,8 @@ module _ (f : Bytes) (p : Policy) (h : read f ≡ given p) (table places : List 
         go (passed e) found =
             let here : getD shown i 0 ≡ placeOr s change = found ∙ ap (λ b. cond b (placeOr s change) s) (rule ∙ e) in
             ap (λ m. cond (ltb m s) (lineFor (nameIn f places i) m) []) here
-            ∙ first-or (table-level.changesAt table n hit struck i) s (lineFor (nameIn f places i))
-            ∙ (λ t. ifSome (first-change-is f p h table places n is size hit space hits-are space-is struck i t) (lineFor (name i l t)))
+            ∙ first-or (table-level.changesAt f places table n hit struck i) s (lineFor (nameIn f places i))
+            ∙ (λ t. ifSome (first-change-is f p h table places n is size hit space hits-are space-is struck stays i e t) (lineFor (name i l t)))
             ∙ ap (λ b. cond b (keptLineAt p struck i) []) (sym e)
         go (failed e) found =
             let here : getD shown i 0 ≡ s = found ∙ ap (λ b. cond b (placeOr s change) s) (rule ∙ e) in
@@ -139,11 +139,11 @@ module _ (f : Bytes) (p : Policy) (h : read f ≡ given p) (table places : List 
         ∙ ap (λ k. gathered (λ i. cond (keptAt p struck i) (keptLineAt p struck i) []) (counting 0 k)) (sym size)
 
   -- the `K` lines
-  pub kept-are : (shown : List ℕ) → ((i : ℕ) → i < n → getD shown i 0 ≡ table-level.shownAt table n hit space (trimmedAt table n hit space .flags) i)
+  pub kept-are : (shown : List ℕ) → getD (trimmedAt f places table n hit space .flags) 0 0 ≡ 0 → ((i : ℕ) → i < n → getD shown i 0 ≡ table-level.shownAt f places table n hit space (trimmedAt f places table n hit space .flags) i)
       → keptText f places n shown space ≡ gathered (keptLineOf (trimmed f .text)) (ruleLines (trimmed f .text))
-  kept-are shown needed =
-      let end = trimmedAt table n hit space .flags in
-      kept-lines-are end shown needed
+  kept-are shown stays needed =
+      let end = trimmedAt f places table n hit space .flags in
+      kept-lines-are end shown stays needed
       ∙ sym (gathered-keep (keptAt p end) (keptLineAt p end) (counting 0 (length (p .elements))))
       ∙ ap (λ t. gathered (keptLineAt p (t .flags)) (keptPlaces p (t .flags))) same-striking
       ∙ sym (kept-flags f p h n none-struck none-clear (omega (arith, bounded f p h .few-elements)) (omega (arith, size)))

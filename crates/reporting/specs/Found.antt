@@ -4,6 +4,7 @@ use mathlib.Core.Path.{_≡_}
 use mathlib.Core.List.{List}
 use lib.ListN.{length, take, getD}
 use mathlib.Core.Bool.{Bool}
+use Rattle.meaning.specs.Text.{Bytes}
 use Rattle.meaning.specs.Deciding.{decisionNumber}
 use Rattle.meaning.specs.declared.Element.{Element}
 use Rattle.table.specs.Tree.{parentOf, placeOr}
@@ -14,8 +15,8 @@ use Rattle.segments.specs.Sizes.{sizeAt}
 use Rattle.conflicts.specs.Pairs.{showsAt, Pairs}
 
 -- what striking gives, from there on
-abbrev pub trimmedAt : List ℕ → ℕ → (ℕ → Element → Bool) → ℕ → Struck
-trimmedAt table n hit space = trimmingAt table n hit space n none-struck
+abbrev pub trimmedAt : Bytes → (places table : List ℕ) → ℕ → (ℕ → Element → Bool) → ℕ → Struck
+trimmedAt f places table n hit space = trimmingAt f places table n hit space n none-struck
 
 -- Of a table of n elements, which requests match an element's own target, and how many there are: what there is to say of each request
 pub record SegmentsFound (table : List ℕ) (n : ℕ) (hit : ℕ → Element → Bool) (space : ℕ) (words sizes decided : List ℕ) : Type 0 where
@@ -33,9 +34,10 @@ pub record ConflictsFound (table : List ℕ) (n : ℕ) (hit : ℕ → Element �
   -- the first request that shows the conflict of two children, at 64 j + k, or the number of requests
   pub paired : Pairs parents (showsAt table none-struck n hit) n space pairs
 
--- the rules: those struck, in order, and the first request that needs each one kept
-pub record RulesFound (table : List ℕ) (n : ℕ) (hit : ℕ → Element → Bool) (space : ℕ) (order shown : List ℕ) (count : ℕ) : Type 0 where
-  pub struck : take count order ≡ trimmedAt table n hit space .order
-  pub counted : count ≡ length (trimmedAt table n hit space .order)
+-- the rules: those struck, in order, and the first request that needs each one kept; the first element is left
+pub record RulesFound (f : Bytes) (places table : List ℕ) (n : ℕ) (hit : ℕ → Element → Bool) (space : ℕ) (order shown : List ℕ) (count : ℕ) : Type 0 where
+  pub struck : take count order ≡ trimmedAt f places table n hit space .order
+  pub counted : count ≡ length (trimmedAt f places table n hit space .order)
   pub few : count ≤ n
-  pub needed : (i : ℕ) → i < n → getD shown i 0 ≡ shownAt table n hit space (trimmedAt table n hit space .flags) i
+  pub stays : getD (trimmedAt f places table n hit space .flags) 0 0 ≡ 0
+  pub needed : (i : ℕ) → i < n → getD shown i 0 ≡ shownAt f places table n hit space (trimmedAt f places table n hit space .flags) i

@@ -1,6 +1,6 @@
 -- What the report asks of the table and the places that are lent.
 use mathlib.Core.Path.{_≡_}
-use Prim.Native.Nat.{ℕ}
+use Prim.Native.Nat.{ℕ, _<_}
 use mathlib.Core.List.{List, reverse}
 use Rattle.meaning.specs.Text.{Bytes}
 use Rattle.meaning.specs.Model.{Policy, given, space}
@@ -9,7 +9,7 @@ use Rattle.meaning.specs.Deciding.{hits}
 use Rattle.table.specs.declared.Shape.{Shape}
 use Rattle.table.specs.Shape.{hitOf}
 use Rattle.outcomes.specs.PolicyTable.{PolicyTable}
-use Rattle.layout.specs.Places.{elementsTo, Naming}
+use Rattle.layout.specs.Places.{elementsTo, Naming, Obliged}
 use Rattle.outcomes.specs.Decided.{none-struck}
 
 -- they hold the policy that reading f gives, which has this shape
@@ -21,3 +21,4 @@ pub record PolicyHeld (f : Bytes) (table places : List ℕ) (s : Shape) : Type 0
   pub space-is : s .space ≡ space (policy .attributes)
   pub ready : PolicyTable table none-struck s
   pub naming : Naming f places (s .n)
+  pub obliged : (i : ℕ) → i < s .n → Obliged f places i

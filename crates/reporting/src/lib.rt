@@ -13,6 +13,7 @@ ghost use Rattle.table.specs.Shape.{hitOf};
 ghost use Rattle.matching.specs.Hits.{HitsLaid};
 ghost use Rattle.outcomes.specs.PolicyTable.{PolicyTable, OutcomesLaid};
 ghost use Rattle.outcomes.specs.Decided.{none-struck};
+ghost use Rattle.trimming.specs.Trial.{Laid};
 ghost use Rattle.reporting.specs.Found.{SegmentsFound, ConflictsFound, RulesFound};
 ghost use Rattle.reporting.specs.Held.{PolicyHeld};
 
@@ -72,6 +73,8 @@ fn find_segments(
 
 // Lays down the rules struck, in order, and for each rule kept the request that needs it. How many are struck, is the result.
 fn find_rules(
+    file: &[u8],
+    places: &[usize],
     table: &[u16],
     hits: &[u64],
     shape: Shape,
@@ -79,12 +82,30 @@ fn find_rules(
     order: &mut [u8],
     shown: &mut [usize],
 ) -> usize
-    requires { ⌜ PolicyTable (now table) none-struck shape × HitsLaid (now table) (now hits) shape × OutcomesLaid (now table) none-struck (now outcomes) shape × (64 ≤ length (now order)) × (64 ≤ length (now shown)) ⌝ }
-    ensures { λ r. ⌜ RulesFound (now (table .entry)) (shape .n) (hitOf shape) (shape .space) (now (order .exit)) (now (shown .exit)) r ⌝ }
+    requires { ⌜ Laid (now file) (now places) (now table) none-struck (now hits) (now outcomes) shape × (64 ≤ length (now order)) × (64 ≤ length (now shown)) ⌝ }
+    ensures { λ r. ⌜ RulesFound (now (file .entry)) (now (places .entry)) (now (table .entry)) (shape .n) (hitOf shape) (shape .space) (now (order .exit)) (now (shown .exit)) r ⌝ }
 {
     let mut struck = [0u8; 64];
-    let count = trimming::trim_flags(table, &mut struck, hits, shape, outcomes, order);
-    trimming::needed_all(table, &mut struck, hits, shape, outcomes, shown);
+    let count = trimming::trim_flags(
+        file,
+        places,
+        table,
+        &mut struck,
+        hits,
+        shape,
+        outcomes,
+        order,
+    );
+    trimming::needed_all(
+        file,
+        places,
+        table,
+        &mut struck,
+        hits,
+        shape,
+        outcomes,
+        shown,
+    );
     count
 }
 
@@ -119,7 +140,16 @@ fn write_lines(
     );
     let mut order = [0u8; 64];
     let mut shown = [0usize; 64];
-    let count = find_rules(table, hits, shape, outcomes, &mut order, &mut shown);
+    let count = find_rules(
+        file,
+        places,
+        table,
+        hits,
+        shape,
+        outcomes,
+        &mut order,
+        &mut shown,
+    );
     let mut none = [0u8; 0];
     let conflicts = put_segments(file, places, shape, &words, &sizes, &decided, &mut none, 0);
     let struck = put_conflicts(file, places, shape, &parents, &pairs, &mut none, conflicts);

@@ -1,4 +1,4 @@
--- The text of the lines left, line by line: where each line lies, and what it adds to the text.
+-- The text of the lines left, element by element: where an element's lines lie, and what they add to the text.
 use mathlib.Core.Path.{_≡_, subst}
 use Prim.Native.Nat.{ℕ, _+_, _-_, _≤_, _<_}
 use native.Mathlib.Omega.{arith}
@@ -12,7 +12,7 @@ use Rattle.meaning.specs.Text.{Bytes}
 use Rattle.laws.proofs.Bools.{Test, passed, failed, test}
 use Rattle.layout.specs.Places.{part, startOf}
 use Rattle.printing.specs.Wrote.{Wrote}
-use Rattle.trimmed_text.specs.Copied.{lineEnd, pieceAt, Copies, Piece}
+use Rattle.trimmed_text.specs.Copied.{linesEnd, pieceAt, Copies, Piece}
 
 length-part : (f : Bytes) (a b : ℕ) → b ≤ length f → length (part f a b) ≡ b - a
 length-part f a b l = length-take-le (b - a) (drop a f) (omega (arith, length-drop a f))
@@ -29,22 +29,22 @@ module _ (f : Bytes) (places : List ℕ) (n : ℕ) where
   reached-end i l = rw (le-ltb i n l)
 
 module _ (f : Bytes) (places struck : List ℕ) (n : ℕ) where
-  -- What is left of a line: nothing, or all up to the next line or the file's end
+  -- What is left of an element's lines: nothing, or all up to the next element or the file's end
   module _ (h : Copies f places struck n) (i : ℕ) (l : i < n) where
-    line-lies : startOf places i ≤ lineEnd f places n i
-    line-lies = go (test (ltb (i + 1) n))
+    lines-lie : startOf places i ≤ linesEnd f places n i
+    lines-lie = go (test (ltb (i + 1) n))
       where
-        go : Test (ltb (i + 1) n) → startOf places i ≤ lineEnd f places n i
+        go : Test (ltb (i + 1) n) → startOf places i ≤ linesEnd f places n i
         go (passed e) = rw e (h .rising i (ltb-true (i + 1) n e))
         go (failed e) = rw e (h .inside i l)
 
     pub piece-struck : (getD struck i 0 ≡ 0 → ⊥) → Piece f places struck n i (startOf places i)
     piece-struck flag =
         let nothing : startOf places i - startOf places i ≡ 0 = omega arith in
-        record { is = rw (ne-eqb (getD struck i 0) 0 flag, nothing); starts = omega arith; ends = line-lies; inside = h .inside i l }
+        record { is = rw (ne-eqb (getD struck i 0) 0 flag, nothing); starts = omega arith; ends = lines-lie; inside = h .inside i l }
 
-    piece-left : getD struck i 0 ≡ 0 → lineEnd f places n i ≤ length f → Piece f places struck n i (lineEnd f places n i)
-    piece-left flag lies = record { is = rw (eq-eqb (getD struck i 0) 0 flag); starts = line-lies; ends = omega arith; inside = lies }
+    piece-left : getD struck i 0 ≡ 0 → linesEnd f places n i ≤ length f → Piece f places struck n i (linesEnd f places n i)
+    piece-left flag lies = record { is = rw (eq-eqb (getD struck i 0) 0 flag); starts = lines-lie; ends = omega arith; inside = lies }
 
     pub piece-inner : getD struck i 0 ≡ 0 → i + 1 < n → Piece f places struck n i (startOf places (i + 1))
     piece-inner flag more = let e = reached-line f places n (i + 1) more in rw e at (piece-left flag (rw e (h .inside (i + 1) more)))
@@ -55,7 +55,7 @@ module _ (f : Bytes) (places struck : List ℕ) (n : ℕ) where
   pub length-head : Copies f places struck n → length (part f 0 (startOf places 0)) ≡ startOf places 0
   length-head h = omega (arith, length-part f 0 (startOf places 0) (h .inside 0 (h .some)))
 
-  -- one more line left: how long it is, and stored behind the others
+  -- one more element's lines left: how long they are, and stored behind the others
   module _ (i e : ℕ) (p : Piece f places struck n i e) where
     pub length-piece : length (part f (startOf places i) e) ≡ e - startOf places i
     length-piece = length-part f (startOf places i) e (p .inside)

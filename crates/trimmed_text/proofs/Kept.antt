@@ -2,7 +2,6 @@
 use mathlib.Core.Path.{_≡_, refl, ap, _∙_}
 use Prim.Native.Nat.{ℕ, _<_, zero-le}
 use native.Mathlib.Nat.{zero-add}
-use native.Mathlib.Omega.{arith}
 use mathlib.Core.Bool.{Bool, true}
 use mathlib.Core.List.{List, [], _∷_, map, List·Memᴰ, Memᴰ·map, Memᴰ·of-map}
 use lib.ListN.{length}
@@ -17,8 +16,7 @@ use Rattle.laws.proofs.Search.{counting-has, keep-has, keep-only, counting-risi
 use Rattle.laws.proofs.Rewritten.{gathered-map}
 use Rattle.laws.proofs.Trimming.{rule-within}
 use Rattle.trimmed_text.specs.Flags.{textLeft, keptAt, keptPlaces, keptLineAt}
-use Rattle.trimmed_text.proofs.Left.{count-rises}
-use Rattle.trimmed_text.proofs.Steps.{Stands, lineAt, kept-left, kept-below, kept-line, rule-name, change-flag}
+use Rattle.trimmed_text.proofs.Steps.{Stands, lineAt, line-rises, kept-left, kept-below, kept-line, rule-name, change-flag}
 use Rattle.trimmed_text.proofs.Next.{rule-place}
 
 -- functions that agree where a test passes
@@ -48,7 +46,7 @@ module _ (f : Bytes) (p : Policy) (h : read f ≡ given p) (struck : List ℕ) (
       kept i m = keep-only (keptAt p struck) i (counting 0 (length (p .elements))) m .1
 
       rises : (i j : ℕ) → List·Memᴰ i (keptPlaces p struck) → List·Memᴰ j (keptPlaces p struck) → i < j → lineAt p struck i < lineAt p struck j
-      rises i j m n l = omega (arith, count-rises struck 0 i j l (rw zero-add (kept-left p struck i (kept i m))))
+      rises i j m n l = line-rises p struck i j (kept-below p struck i (kept i m)) (kept-left p struck i (kept i m)) l
 
       rising : Rising (map (lineAt p struck) (keptPlaces p struck))
       rising = rising-map (lineAt p struck) (keptPlaces p struck) rises (keep-rising (keptAt p struck) (counting 0 (length (p .elements))) (counting-rising 0 (length (p .elements))))

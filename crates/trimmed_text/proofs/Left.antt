@@ -4,7 +4,7 @@ use Prim.Native.Nat.{ℕ, zero, suc, _+_, _≤_, _<_}
 use native.Mathlib.Nat.{zero-add, add-zero}
 use native.Mathlib.Omega.{arith}
 use mathlib.Core.Bool.{true, false, cond}
-use mathlib.Core.List.{List, [], _∷_, _++_, map, append-nil}
+use mathlib.Core.List.{List, [], _∷_, map}
 use lib.ListN.{length, getD, set}
 use lib.Seq.{getD-set-same, getD-set-other}
 use Rattle.meaning.specs.Text.{without}
@@ -101,31 +101,27 @@ module _ {A : Type 0} where
             behind-left y c (later c (omega arith))
         go (failed y) c l later = behind-struck y c (later c (rw y at l))
 
-    -- one flag more strikes that element, before whatever stands behind the list
-    pub left-without : (i m at : ℕ) (xs ys : List A) → at ≡ i + m → m < length xs → at < length struck → isLeft struck at ≡ true
-        → without (leftCount struck i m) (leftFrom struck i xs ++ ys) ≡ leftFrom (set struck at 1) i xs ++ ys
+    -- one flag more strikes that element
+    left-without : (i m at : ℕ) (xs : List A) → at ≡ i + m → m < length xs → at < length struck → isLeft struck at ≡ true → without (leftCount struck i m) (leftFrom struck i xs) ≡ leftFrom (set struck at 1) i xs
     unfolding leftFrom leftCount
-    left-without i m at [] ys a l b e = absurd (omega arith)
-    left-without i zero at (x ∷ xs) ys a l b e =
+    left-without i m at [] a l b e = absurd (omega arith)
+    left-without i zero at (x ∷ xs) a l b e =
         let here : at ≡ i = omega arith in
         let left : isLeft struck i ≡ true = rw (← here) e in
         let gone : getD (set struck i 1) i 0 ≡ 1 = getD-set-same struck i 1 0 (omega arith) in
         rw (here, left, gone, left-agree (set struck i 1) struck (i + 1) xs (λ j low. getD-set-other struck i j 1 0 (omega arith)))
-    left-without i (suc m) at (x ∷ xs) ys a l b e =
+    left-without i (suc m) at (x ∷ xs) a l b e =
         let other : getD (set struck at 1) i 0 ≡ getD struck i 0 = getD-set-other struck at i 1 0 (omega arith) in
-        go other (test (isLeft struck i)) (left-without (i + 1) m at xs ys (omega arith) (omega arith) b e)
+        go other (test (isLeft struck i)) (left-without (i + 1) m at xs (omega arith) (omega arith) b e)
       where
-        go : getD (set struck at 1) i 0 ≡ getD struck i 0 → Test (isLeft struck i) → without (leftCount struck (i + 1) m) (leftFrom struck (i + 1) xs ++ ys) ≡ leftFrom (set struck at 1) (i + 1) xs ++ ys
-            → without (leftCount struck i (suc m)) (leftFrom struck i (x ∷ xs) ++ ys) ≡ leftFrom (set struck at 1) i (x ∷ xs) ++ ys
+        go : getD (set struck at 1) i 0 ≡ getD struck i 0 → Test (isLeft struck i) → without (leftCount struck (i + 1) m) (leftFrom struck (i + 1) xs) ≡ leftFrom (set struck at 1) (i + 1) xs
+            → without (leftCount struck i (suc m)) (leftFrom struck i (x ∷ xs)) ≡ leftFrom (set struck at 1) i (x ∷ xs)
         go other (passed y) later = rw (other, y, later)
         go other (failed y) later = rw (other, y, later)
 
     -- of the whole list
     pub left-strike : (i : ℕ) (xs : List A) → i < length xs → i < length struck → isLeft struck i ≡ true → without (leftCount struck 0 i) (leftFrom struck 0 xs) ≡ leftFrom (set struck i 1) 0 xs
-    left-strike i xs l b e =
-        ap (without (leftCount struck 0 i)) (sym (append-nil (leftFrom struck 0 xs)))
-        ∙ left-without 0 i i xs [] (sym (zero-add i)) l b e
-        ∙ append-nil (leftFrom (set struck i 1) 0 xs)
+    left-strike i xs l b e = left-without 0 i i xs (sym (zero-add i)) l b e
 
     pub left-fewer : (i : ℕ) (xs : List A) → i < length xs → i < length struck → isLeft struck i ≡ true → length (leftFrom struck 0 xs) ≡ suc (length (leftFrom (set struck i 1) 0 xs))
     left-fewer i xs l b e =

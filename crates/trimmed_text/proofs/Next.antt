@@ -1,15 +1,15 @@
 -- The next rule to strike is the same on flags and on bytes.
 use mathlib.Core.Path.{_≡_, refl, sym, ap, _∙_}
-use Prim.Native.Nat.{ℕ, _+_, _-_, _<_}
+use Prim.Native.Nat.{ℕ, _<_}
 use native.Mathlib.Nat.{zero-add}
 use native.Mathlib.Omega.{arith}
 use mathlib.Core.Logic.{_≢_}
 use mathlib.Core.Bool.{true, false}
 use mathlib.Core.List.{List}
 use mathlib.Core.Option.{Option, none, some, Option·map}
-use lib.Dec.{leb, eqb}
+use lib.Dec.{ltb, eqb}
 use lib.ListN.{length}
-use borrow.Author.Tests.{leb-true, leb-false, eqb-true, eqb-false}
+use borrow.Author.Tests.{ltb-true, ltb-false, eqb-true, eqb-false}
 use Rattle.meaning.specs.Text.{Bytes, isNone, lastBelow}
 use Rattle.meaning.specs.Model.{Policy, given}
 use Rattle.meaning.specs.Reading.{read}
@@ -17,10 +17,10 @@ use Rattle.meaning.specs.Trimming.{lines, isRuleLine, firstChange, needless, ne
 use Rattle.laws.proofs.Bools.{Test, passed, failed, test, contradiction, and-true}
 use Rattle.laws.proofs.Search.{Last, last-some, last-none, last-is, last-absent}
 use Rattle.laws.proofs.Trimming.{rule-within}
-use Rattle.laws.proofs.ElementLines.{rule-line-at, rule-line-behind}
-use Rattle.trimmed_text.specs.Flags.{isLeft, leftFrom, leftPolicy, textLeft, firstChangeAt, ruleIn, keptAt, needlessAt, nextAt}
-use Rattle.trimmed_text.proofs.Left.{leftCount, count-rises, left-place}
-use Rattle.trimmed_text.proofs.Steps.{Stands, lineAt, rule-below, rule-line, kept-left, kept-below, kept-line, needless-flag}
+use Rattle.laws.proofs.Striking.{strike-read}
+use Rattle.trimmed_text.specs.Flags.{isLeft, leftPolicy, textLeft, firstChangeAt, ruleIn, keptAt, needlessAt, nextAt}
+use Rattle.trimmed_text.proofs.Left.{left-place}
+use Rattle.trimmed_text.proofs.Steps.{Stands, lineAt, line-rises, struck-behind, rule-line, kept-left, kept-below, kept-line, needless-flag}
 
 -- A needless rule is left, and so is the next one to strike
 module _ (p : Policy) (struck : List ℕ) where
@@ -45,27 +45,22 @@ module _ (f : Bytes) (p : Policy) (h : read f ≡ given p) (struck : List ℕ) (
   pub rule-place : (k : ℕ) → isRuleLine text k ≡ true → RuleAt k
   rule-place k r =
       let es = p .elements in
-      let q = leftPolicy p struck in
-      let behind : length (p .attributes) + (k - length (p .attributes)) ≡ k = omega (arith, rule-line-behind text q (s .accepts) k r) in
-      let c = k - length (p .attributes) in
-      let is-rule : ruleIn (leftFrom struck 0 es) c ≡ true = sym (rule-line-at text q (s .accepts) c) ∙ rw behind r in
-      let x = left-place struck 0 es c (rule-below (leftFrom struck 0 es) c is-rule) in
-      let stays : isLeft struck (x .place) ≡ true = rw zero-add at (x .stays) in
-      let at : lineAt p struck (x .place) ≡ k = rw (x .counts) behind in
-      let rule : ruleIn es (x .place) ≡ true = sym (rule-line f p h struck s (x .place) (x .below) stays) ∙ rw at r in
-      record { place = x .place; kept = rw (stays, rule); line = at }
+      let x = strike-read text (leftPolicy p struck) (s .accepts) k r in
+      let b = struck-behind x in
+      let y = left-place struck 0 es (length (x .front)) (b .fewer) in
+      let stays : isLeft struck (y .place) ≡ true = rw zero-add at (y .stays) in
+      let at : lineAt p struck (y .place) ≡ k = rw (y .counts, b .first) (x .place) in
+      let is-rule : ruleIn es (y .place) ≡ true = sym (rule-line f p h struck s (y .place) (y .below) stays) ∙ rw at r in
+      record { place = y .place; kept = rw (stays, is-rule); line = at }
 
-  -- Lines rise with their places
-  line-rises : (i j : ℕ) → isLeft struck i ≡ true → lineAt p struck j < lineAt p struck i → j < i
-  line-rises i j e l = go (test (leb i j)) (test (eqb i j))
+  -- a lower line has a lower place
+  line-lower : (i j : ℕ) → i < length (p .elements) → isLeft struck i ≡ true → lineAt p struck j < lineAt p struck i → j < i
+  line-lower i j b e l = go (test (ltb i j)) (test (eqb i j))
     where
-      go : Test (leb i j) → Test (eqb i j) → j < i
-      go (failed x) y = leb-false i j x
-      go (passed x) (passed y) = let same = ap (leftCount struck 0) (eqb-true i j y) in absurd (omega arith)
-      go (passed x) (failed y) =
-          let other : i ≢ j = eqb-false i j y in
-          let more = count-rises struck 0 i j (omega (arith, leb-true i j x)) (rw zero-add e) in
-          absurd (omega arith)
+      go : Test (ltb i j) → Test (eqb i j) → j < i
+      go (passed x) y = absurd (omega (arith, line-rises p struck i j b e (ltb-true i j x)))
+      go (failed x) (passed y) = absurd (omega (arith, ap (lineAt p struck) (eqb-true i j y)))
+      go (failed x) (failed y) = let other : i ≢ j = eqb-false i j y in omega (arith, ltb-false i j x)
 
   -- Needless lines are the lines of needless rules
   needless-place : (k : ℕ) → needless text k ≡ true → (x : RuleAt k) × (needlessAt p struck (x .place) ≡ true)
@@ -95,8 +90,8 @@ module _ (f : Bytes) (p : Policy) (h : read f ≡ given p) (struck : List ℕ) (
       go : (k : ℕ) → lineAt p struck i < k → Test (needless text k) → needless text k ≡ false
       go k u (passed n) =
           let (x, y) = needless-place k n in
-          let later = line-rises (x .place) i (kept-left p struck (x .place) (x .kept)) (rw (x .line) u) in
-          contradiction y (l .no-later (x .place) later (kept-below p struck (x .place) (x .kept)))
+          let below = kept-below p struck (x .place) (x .kept) in
+          contradiction y (l .no-later (x .place) (line-lower (x .place) i below (kept-left p struck (x .place) (x .kept)) (rw (x .line) u)) below)
       go k u (failed n) = n
 
   pub next-flag : nextStruck text ≡ Option·map (lineAt p struck) (nextAt p struck)

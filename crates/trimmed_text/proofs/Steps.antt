@@ -5,10 +5,10 @@ use native.Mathlib.Nat.{zero-add, add-zero}
 use native.Mathlib.Omega.{arith}
 use mathlib.Core.Bool.{true, false}
 use mathlib.Core.List.{List, [], _∷_, _++_, map, append-assoc}
-use lib.ListN.{length, getD, take, drop, set, length-set, length-drop, take-append-drop, length-map}
-use lib.Seq.{length-take-le}
+use lib.ListN.{length, getD, take, drop, set, length-set, length-drop, length-append, take-append-drop, length-map}
+use lib.Seq.{length-take-le, take-append-seam}
 use Rattle.meaning.specs.declared.Element.{Element}
-use Rattle.meaning.specs.Text.{Bytes, without, front}
+use Rattle.meaning.specs.Text.{Bytes, without, front, gathered}
 use Rattle.meaning.specs.Model.{nameOf, Policy, given}
 use Rattle.meaning.specs.Reading.{read}
 use Rattle.meaning.specs.Trimming.{lines, isRuleLine, nameAt, strike, firstChange, needless}
@@ -17,10 +17,13 @@ use Rattle.meaning.specs.Claims.Trimming.{isRule}
 use Rattle.laws.proofs.Bools.{contradiction, and-true}
 use Rattle.laws.proofs.Reading.{accepted}
 use Rattle.laws.proofs.Lines.{unlines, text-unlines}
-use Rattle.laws.proofs.Striking.{strike-without, strike-read}
+use Rattle.laws.proofs.Places.{linesIn}
+use Rattle.laws.proofs.Bounds.{bounded}
+use Rattle.laws.proofs.Striking.{Lacking, strike-without, strike-read}
 use Rattle.laws.proofs.ElementLines.{file-count, rule-line-at, name-line-at}
-use Rattle.trimmed_text.specs.Flags.{isLeft, Clear, leftFrom, leftPolicy, linesLeft, textLeft, changesAt, firstChangeAt, ruleIn, keptAt, needlessAt}
-use Rattle.trimmed_text.proofs.Left.{leftCount, left-all, left-get, left-without, left-strike, left-map}
+use Rattle.trimmed_text.specs.Flags.{isLeft, Clear, leftFrom, leftPolicy, linesByElement, linesLeft, textLeft, changesAt, firstChangeAt, ruleIn, keptAt, needlessAt}
+use Rattle.trimmed_text.proofs.Left.{leftCount, count-rises, left-all, left-get, left-within, left-strike, left-map}
+use Rattle.trimmed_text.proofs.ByElement.{lines-rise, lines-same, rule-lines, lines-all, without-behind, line-struck}
 
 -- The text left is accepted, as the policy left, and its lines are the lines left; each element has a flag
 pub record Stands (f : Bytes) (p : Policy) (struck : List ℕ) : Type 0 where
@@ -28,16 +31,26 @@ pub record Stands (f : Bytes) (p : Policy) (struck : List ℕ) : Type 0 where
   pub pieces : lines (textLeft f p struck) ≡ linesLeft f p struck ++ ([] ∷ [])
   pub room : length (p .elements) ≤ length struck
 
--- the line of place i in the text left
+-- the line of place i in the text left: behind the attributes' lines and those of the elements left before it
 abbrev pub lineAt : Policy → List ℕ → ℕ → ℕ
-lineAt p struck i = length (p .attributes) + leftCount struck 0 i
+lineAt p struck i = length (p .attributes) + linesIn (take (leftCount struck 0 i) (leftFrom struck 0 (p .elements)))
 
--- a list without an element of its second part
-without-behind : {A : Type 0} (xs ys : List A) (n c : ℕ) → n ≡ length xs → without (n + c) (xs ++ ys) ≡ xs ++ without c ys
-without-behind [] ys n c e = rw (e, zero-add)
-without-behind (x ∷ xs) ys n c e =
-    let one : n + c ≡ suc (length xs + c) = omega arith in
-    rw one (ap (λ l. x ∷ l) (without-behind xs ys (length xs) c refl))
+-- lines rise with their places
+pub line-rises : (p : Policy) (struck : List ℕ) (i j : ℕ) → i < length (p .elements) → isLeft struck i ≡ true → i < j → lineAt p struck i < lineAt p struck j
+line-rises p struck i j l e more =
+    let here : isLeft struck (0 + i) ≡ true = rw zero-add e in
+    omega (arith, lines-rise (leftFrom struck 0 (p .elements)) (leftCount struck 0 i) (leftCount struck 0 j) (count-rises struck 0 i j more here) (left-within struck 0 i (p .elements) l here))
+
+-- the elements before a rule that is struck are the first of all
+pub record Before (es front : List Element) : Type 0 where
+  pub first : take (length front) es ≡ front
+  pub fewer : length front < length es
+
+pub struck-behind : {f : Bytes} {p : Policy} {k : ℕ} → (x : Lacking f p k) → Before (p .elements) (x .front)
+struck-behind x = record {
+  first = ap (take (length (x .front))) (x .whole) ∙ take-append-seam (x .front) (x .gone ∷ x .back);
+  fewer = omega (arith, ap length (x .whole), length-append (x .front) (x .gone ∷ x .back));
+}
 
 -- a rule has a place
 pub rule-below : (es : List Element) (i : ℕ) → ruleIn es i ≡ true → i < length es
@@ -50,17 +63,25 @@ module _ (p : Policy) (struck : List ℕ) (i : ℕ) (kept : keptAt p struck i �
   pub kept-left : isLeft struck i ≡ true
   kept-left = and-true (isLeft struck i) (ruleIn (p .elements) i) kept .0
 
-  kept-rule : ruleIn (p .elements) i ≡ true
+  pub kept-rule : ruleIn (p .elements) i ≡ true
   kept-rule = and-true (isLeft struck i) (ruleIn (p .elements) i) kept .1
 
   pub kept-below : i < length (p .elements)
   kept-below = rule-below (p .elements) i kept-rule
 
 module _ (f : Bytes) (p : Policy) (h : read f ≡ given p) where
+  abbrev own : List Bytes
+  own = front (lines f)
+
+  counted : length own ≡ length (p .attributes) + linesIn (p .elements)
+  counted = file-count f p h
+
   -- No place is struck: all is left
   module _ (struck : List ℕ) (clear : Clear struck) where
-    lines-whole : linesLeft f p struck ≡ front (lines f)
-    lines-whole = rw (left-all struck clear 0 (drop (length (p .attributes)) (front (lines f)))) (take-append-drop (length (p .attributes)) (front (lines f)))
+    lines-whole : linesLeft f p struck ≡ own
+    lines-whole =
+        let a = length (p .attributes) in
+        rw (left-all struck clear 0 (linesByElement (p .elements) (drop a own)), lines-all (p .elements) (drop a own) (omega (arith, length-drop a own, counted))) (take-append-drop a own)
 
     pub text-whole : textLeft f p struck ≡ f
     unfolding textLeft
@@ -106,14 +127,16 @@ module _ (f : Bytes) (p : Policy) (h : read f ≡ given p) where
       strike-lines =
           let k = lineAt p struck i in
           let a = length (p .attributes) in
-          let own = front (lines f) in
-          let counted = file-count f p h in
+          let es = p .elements in
+          let behind = drop a own in
+          let before = linesIn (take (leftCount struck 0 i) (leftFrom struck 0 es)) in
+          let left = gathered (λ ls. ls) (leftFrom struck 0 (linesByElement es behind)) in
+          let one = rule-lines (p .attributes) es (bounded f p h .elements-good) i (kept-rule p struck i kept) in
           strike-without text (leftPolicy p struck) (s .accepts) k kept-line
-          ∙ ap (without k) (s .pieces)
-          ∙ ap (without k) (append-assoc (take a own) (leftFrom struck 0 (drop a own)) ([] ∷ []))
-          ∙ without-behind (take a own) (leftFrom struck 0 (drop a own) ++ ([] ∷ [])) a (leftCount struck 0 i) (sym (length-take-le a own (omega arith)))
-          ∙ ap (λ ls. take a own ++ ls) (left-without struck 0 i i (drop a own) ([] ∷ []) (sym (zero-add i)) (omega (arith, below, length-drop a own)) (omega (arith, below, s .room)) is-left)
-          ∙ sym (append-assoc (take a own) (leftFrom (set struck i 1) 0 (drop a own)) ([] ∷ []))
+          ∙ ap (without k) (s .pieces ∙ append-assoc (take a own) left ([] ∷ []))
+          ∙ without-behind (take a own) (left ++ ([] ∷ [])) a before (sym (length-take-le a own (omega (arith, counted))))
+          ∙ ap (λ ls. take a own ++ ls) (line-struck struck es behind ([] ∷ []) i (omega (arith, counted, length-drop a own)) below (omega (arith, below, s .room)) is-left one)
+          ∙ sym (append-assoc (take a own) (gathered (λ ls. ls) (leftFrom (set struck i 1) 0 (linesByElement es behind))) ([] ∷ []))
 
       pub strike-flag : strike (lineAt p struck i) text ≡ textLeft f p (set struck i 1)
       unfolding textLeft
@@ -122,10 +145,13 @@ module _ (f : Bytes) (p : Policy) (h : read f ≡ given p) where
       policy-left : read (strike (lineAt p struck i) text) ≡ given (leftPolicy p (set struck i 1))
       policy-left =
           let x = strike-read text (leftPolicy p struck) (s .accepts) (lineAt p struck i) kept-line in
+          let b = struck-behind x in
           let c = leftCount struck 0 i in
           let es = p .elements in
+          let within = left-within struck 0 i es below (rw zero-add is-left) in
+          let at : c ≡ length (x .front) = lines-same (leftFrom struck 0 es) c (length (x .front)) within (b .fewer) (omega (arith, x .place, ap linesIn (b .first))) in
           let others : x .front ++ x .back ≡ leftFrom (set struck i 1) 0 es =
-          sym (without-behind (x .front) (x .gone ∷ x .back) c 0 (omega (arith, x .place)))
+          sym (without-behind (x .front) (x .gone ∷ x .back) c 0 at)
           ∙ rw add-zero (ap (without c) (sym (x .whole)))
           ∙ left-strike struck i es below (omega (arith, below, s .room)) is-left in
           x .others ∙ ap (λ l. given (record { attributes = p .attributes; elements = l })) others

@@ -10,21 +10,21 @@ use lib.Seq.{take-append-seam, getD-at}
 use borrow.Author.Tests.{eqb-true, eqb-false}
 use Rattle.meaning.specs.declared.Element.{Element}
 use Rattle.meaning.specs.Text.{Bytes}
-use Rattle.meaning.specs.Model.{nameOf, Policy, severals}
-use Rattle.meaning.specs.Deciding.{matches, firstDecision, decide}
+use Rattle.meaning.specs.Model.{nameOf, Policy}
 use Rattle.meaning.specs.Report.{nameIn}
 use Rattle.laws.proofs.Bools.{Test, passed, failed, test}
 use Rattle.table.specs.Tree.{left}
 use Rattle.layout.specs.Places.{nameIn as nameInFile, elementIn, elementsTo}
-use Rattle.layout.proofs.Laws.{elements-length, bare, decision-bare, map-reverse, elements-bare, all-left}
-use Rattle.trimmed_text.specs.Flags.{leftFrom, leftPolicy}
-use Rattle.trimmed_text.proofs.Left.{left-map}
+use Rattle.layout.proofs.Laws.{elements-length, bare, map-reverse, elements-bare, all-left}
+use Rattle.obligations.specs.Given.{leftElements}
+use Rattle.obligations.proofs.Left.{all-elements}
+use Rattle.trimmed_text.specs.Flags.{leftFrom}
 
--- flags leave of a table what they leave of its elements
-left-again : (table struck : List ℕ) (i n : ℕ) → left table struck i n ≡ leftFrom struck i (left table [] i n)
-unfolding left leftFrom
-left-again table struck i zero = refl
-left-again table struck i (suc n) = rw (left-again table struck (i + 1) n)
+-- flags leave of a table's elements what they leave of all
+left-again : (f : Bytes) (table places struck : List ℕ) (i n : ℕ) → leftElements f table places struck i n ≡ leftFrom struck i (leftElements f table places [] i n)
+unfolding leftElements leftFrom
+left-again f table places struck i zero = refl
+left-again f table places struck i (suc n) = rw (left-again f table places struck (i + 1) n)
 
 -- elements that were read, by their places
 module _ (f : Bytes) (table places : List ℕ) where
@@ -52,11 +52,9 @@ module _ (f : Bytes) (table places : List ℕ) (n : ℕ) (p : Policy) (is : p .e
   pub whole-left : (struck : List ℕ) → ((k : ℕ) → k < n → getD struck k 0 ≡ 0) → left table struck 0 n ≡ map bare (p .elements)
   whole-left struck live = all-left table struck n live ∙ ap reverse (sym (elements-bare f table places n)) ∙ sym (map-reverse bare (elementsTo f table places n)) ∙ ap (map bare) (sym is)
 
-  -- The decision on what is left of the table is that of the policy left
-  pub decided-left : (struck q : List ℕ) → firstDecision (matches (severals (p .attributes)) q) (left table struck 0 n) ≡ decide (leftPolicy p struck) q
-  decided-left struck q =
-      ap (firstDecision (matches (severals (p .attributes)) q)) (left-again table struck 0 n ∙ ap (leftFrom struck 0) (whole-left [] (λ k l. refl)) ∙ sym (left-map bare struck 0 (p .elements)))
-      ∙ decision-bare (severals (p .attributes)) q (leftFrom struck 0 (p .elements))
+  -- The elements left of the table are those of the policy left
+  pub elements-left : (struck : List ℕ) → leftElements f table places struck 0 n ≡ leftFrom struck 0 (p .elements)
+  elements-left struck = left-again f table places struck 0 n ∙ ap (leftFrom struck 0) (all-elements f table places [] n (λ k l. refl) ∙ sym is)
 
   -- What an element of the policy has is what stands at its place
   pub element-at : {A : Type 0} (F : Element → A) (d : A) (i : ℕ) → i < n → getD (map F (p .elements)) i d ≡ F (elementIn f table places i)

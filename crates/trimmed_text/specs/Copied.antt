@@ -9,13 +9,13 @@ use Rattle.meaning.specs.Text.{Bytes, gathered, counting}
 use Rattle.layout.specs.Places.{part, startOf}
 use Rattle.trimmed_text.specs.Flags.{isLeft}
 
--- the end of element i's line, behind its newline, among n elements: the next line's start, or the file's end
-abbrev pub lineEnd : Bytes → List ℕ → ℕ → ℕ → ℕ
-lineEnd f places n i = cond (ltb (i + 1) n) (startOf places (i + 1)) (length f)
+-- the end of element i's lines, its own and its obligations', among n elements: the next element's start, or the file's end
+abbrev pub linesEnd : Bytes → List ℕ → ℕ → ℕ → ℕ
+linesEnd f places n i = cond (ltb (i + 1) n) (startOf places (i + 1)) (length f)
 
--- that line, if it is left
+-- those lines, if it is left
 abbrev pub pieceAt : Bytes → (places struck : List ℕ) → ℕ → ℕ → Bytes
-pieceAt f places struck n i = cond (isLeft struck i) (part f (startOf places i) (lineEnd f places n i)) []
+pieceAt f places struck n i = cond (isLeft struck i) (part f (startOf places i) (linesEnd f places n i)) []
 
 -- the bytes before the first element's line, and the lines left of n elements
 unfoldable pub copied : Bytes → (places struck : List ℕ) → ℕ → Bytes
@@ -29,9 +29,9 @@ pub record Copies (f : Bytes) (places struck : List ℕ) (n : ℕ) : Type 0 wher
   pub rising : (i : ℕ) → i + 1 < n → startOf places i ≤ startOf places (i + 1)
   pub inside : (i : ℕ) → i < n → startOf places i ≤ length f
 
--- what is left of element i's line is the part of the file from its start up to e
+-- what is left of element i's lines is the part of the file from its start up to e
 pub record Piece (f : Bytes) (places struck : List ℕ) (n i e : ℕ) : Type 0 where
   pub is : part f (startOf places i) e ≡ pieceAt f places struck n i
   pub starts : startOf places i ≤ e
-  pub ends : e ≤ lineEnd f places n i
+  pub ends : e ≤ linesEnd f places n i
   pub inside : e ≤ length f

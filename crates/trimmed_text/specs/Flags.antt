@@ -8,7 +8,7 @@ use lib.Dec.{eqb}
 use lib.ListN.{length, getD, take, drop, set}
 use Rattle.meaning.specs.declared.Element.{Element}
 use Rattle.meaning.specs.Text.{Bytes, bytes, keep, front, isNone, gathered, ifSome, counting, firstFrom, lastBelow, newline, line, decimal}
-use Rattle.meaning.specs.Model.{Policy, space}
+use Rattle.meaning.specs.Model.{obligationsOf, Policy, space}
 use Rattle.meaning.specs.Deciding.{sameOutcome, outcome}
 use Rattle.meaning.specs.Trimming.{lines}
 use Rattle.meaning.specs.Report.{nameIn}
@@ -34,10 +34,21 @@ leftFrom struck i (x ∷ xs) =
 abbrev pub leftPolicy : Policy → List ℕ → Policy
 leftPolicy p struck = record { attributes = p .attributes; elements = leftFrom struck 0 (p .elements) }
 
--- the lines that are left: behind the attributes' lines each element has one
+-- how many lines an element has: its own, and one for each obligation
+abbrev pub lineCount : Element → ℕ
+lineCount e = suc (length (obligationsOf e))
+
+-- the lines of each of some elements, that stand one behind the other
+unfoldable pub linesByElement : List Element → List Bytes → List (List Bytes)
+linesByElement [] ls = []
+linesByElement (e ∷ es) ls = take (lineCount e) ls ∷ linesByElement es (drop (lineCount e) ls)
+
+-- the lines that are left: the attributes' lines, and those of the elements that are left
 abbrev pub linesLeft : Bytes → Policy → List ℕ → List Bytes
 linesLeft f p struck =
-    take (length (p .attributes)) (front (lines f)) ++ leftFrom struck 0 (drop (length (p .attributes)) (front (lines f)))
+    let own = front (lines f) in
+    let header = length (p .attributes) in
+    take header own ++ gathered (λ ls. ls) (leftFrom struck 0 (linesByElement (p .elements) (drop header own)))
 
 -- the text that they make
 unfoldable pub textLeft : Bytes → Policy → List ℕ → Bytes

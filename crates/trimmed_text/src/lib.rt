@@ -4,7 +4,7 @@ ghost use lib.ListN.{length};
 ghost use Rattle.printing.specs.Wrote.{Wrote};
 ghost use Rattle.trimmed_text.specs.Copied.{copied, Copies, Piece};
 
-// Where what is left of element i's line ends: behind its newline, or where it starts if it is struck.
+// Where what is left of element i's lines ends: where the next element starts, or where they start if it is struck.
 fn piece_end(file: &[u8], places: &[usize], struck: &[u8], n: usize, i: usize) -> usize
     requires { ⌜ Copies (now file) (now places) (now struck) n × (i < n) ⌝ }
     ensures { λ r. ⌜ Piece (now (file .entry)) (now (places .entry)) (now (struck .entry)) n i r ⌝ }

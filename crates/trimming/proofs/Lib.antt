@@ -3,3 +3,9 @@ pub mod Searching
 pub mod Blocks
 pub mod Trying
 pub mod Strikes
+pub mod Moving
+pub mod Copying
+pub mod Words
+pub mod Likes
+pub mod Marking
+pub mod Knowing

@@ -8,7 +8,7 @@ use Rattle.trimming.proofs.needed_all.Reads as needed-all-reads
 use Rattle.trimming.proofs.trim_flags.Reads as trim-flags-reads
 
 returns : tie.Need-returns
-returns c = rules-found _ _ _ _ _ _ _ _ _ (c .before .before .before .before .before .before .before .before .before .trim-flags .ensures) (c .before .before .before .needed-all .ensures .0)
+returns c = rules-found _ _ _ _ _ _ _ _ _ _ _ (c .before .before .before .before .before .before .before .before .before .trim-flags .ensures) (c .before .before .before .needed-all .ensures .0)
 
 pub find-rules-spec : {M : Type 1} → statement M
 find-rules-spec =

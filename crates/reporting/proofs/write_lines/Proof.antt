@@ -4,7 +4,7 @@ use native.Mathlib.Omega.{arith}
 use lib.Seq.{length-take-le}
 use Rattle.printing.proofs.Laws.{then, then-counted}
 use Rattle.printing.proofs.Fitting.{written}
-use Rattle.reporting.proofs.Finding.{struck-named}
+use Rattle.reporting.proofs.Finding.{laid, struck-named}
 use Rattle.reporting.proofs.ReportText.{reported}
 use borrow.Author.Needs.{needs}
 use Rattle.reporting.proofs.write_lines.Statement.{statement}
@@ -17,7 +17,9 @@ find-segments-requires : tie.Need-find-segments-requires
 find-segments-requires c κs = let pre = c .before .before .before .before .before .before .before .before .before .before .before .before .before .before .before .before .pre in (pre .0 .ready, pre .1, pre .2, pre .3, omega arith, omega arith, omega arith)
 
 find-rules-requires : tie.Need-find-rules-requires
-find-rules-requires c κs = let pre = c .before .before .before .before .before .before .before .before .before .before .before .before .before .before .before .before .before .before .before .before .before .before .pre in (pre .0 .ready, pre .1, pre .3, omega arith, omega arith)
+find-rules-requires c κs =
+    let pre = c .before .before .before .before .before .before .before .before .before .before .before .before .before .before .before .before .before .before .before .before .before .before .pre in
+    (laid _ _ _ _ _ _ (pre .0) (pre .1) (pre .3), omega arith, omega arith)
 
 put-segments-requires : tie.Need-put-segments-requires
 put-segments-requires c κs = let held = c .before .before .before .before .before .before .before .before .before .before .before .before .before .before .before .before .before .before .before .before .before .before .before .before .before .before .before .before .before .pre .0 in (held .naming, held .ready .small, omega arith)

@@ -1,4 +1,4 @@
--- `put_text` meets its contract. The loop stores one line left behind the other, and stays before the line looked at.
+-- `put_text` meets its contract. The loop stores the lines left of one element behind the other's, and stays before the element looked at.
 use mathlib.Core.Path.{ap, _∙_}
 use Prim.Native.Nat.{_+_, _-_, _≤_}
 use native.Mathlib.Omega.{arith}
@@ -39,7 +39,7 @@ loop-holds c =
     let head = length-head (a .file .now) (a .places .now) (a .struck .now) (a .n) (s .pre) in
     (omega arith, omega (arith, p .ensures .moved), begun (pieceAt (a .file .now) (a .places .now) (a .struck .now) (a .n)) (length (a .file .now)) 0 _ _)
 
--- the line looked at ends in the file
+-- the lines looked at end in the file
 room : (c : tie.After-piece-end Inv-loop μ-loop) → let a = entry (c .before .before .before) .args in let l = c .before .before .before .loop in l .at + length (part (a .file .now) (startOf (a .places .now) (l .i)) (c .piece-end .result)) ≤ c .piece-end .result
 room c =
     let a = entry (c .before .before .before) .args in

@@ -8,63 +8,75 @@ use Rattle.meaning.specs.Text.{lastBelow}
 use Rattle.table.specs.Tree.{placeOr}
 use Rattle.table.specs.Shape.{hitOf}
 use Rattle.trimming.specs.Decided.{needlessAt, nextAt}
+use Rattle.trimming.specs.Known.{Known}
 use Rattle.trimming.proofs.Searching.{last-here, last-earlier, last-nowhere}
 use Rattle.trimming.proofs.Trying.{asks, tested}
+use Rattle.trimming.proofs.Knowing.{known-needed, known-more}
 use Rattle.trimming.proofs.next_rule.Statement.{statement}
 use Rattle.trimming.proofs.next_rule.Tie as tie
 
 abbrev Inv-loop : tie.InvT-loop
-Inv-loop table struck₀ hits shape outcomes hints₀ n i₀ struck hints i =
-    let test = needlessAt table (shape .n) (hitOf shape) (shape .space) struck₀ in
-    (i ≤ n) × (struck ≡ struck₀) × (length hints ≡ length hints₀) × (lastBelow test n ≡ lastBelow test i)
+Inv-loop file places table struck₀ hits shape outcomes obliged hints₀ known₀ n i₀ struck hints known i =
+    let test = needlessAt file places table (shape .n) (hitOf shape) (shape .space) struck₀ in
+    (i ≤ n) × (struck ≡ struck₀) × (length hints ≡ length hints₀) × (length known ≡ length known₀) × (lastBelow test n ≡ lastBelow test i) × Known file places table shape struck₀ hints known
 
 abbrev μ-loop : tie.MeasureT-loop
-μ-loop table struck₀ hits shape outcomes hints₀ n i₀ struck hints i = i
+μ-loop file places table struck₀ hits shape outcomes obliged hints₀ known₀ n i₀ struck hints known i = i
 
 loop-holds : tie.Need-loop-holds Inv-loop μ-loop
-loop-holds c = (omega arith, refl, refl, refl)
+loop-holds c = (omega arith, refl, refl, refl, refl, c .before .before .before .before .before .before .before .before .pre .4)
 
-cast-needless : tie.Need-cast-needless Inv-loop μ-loop
-cast-needless c = omega (arith, c .slice-known3 .given (c .before .before .before .loop .i - 1))
+loop-again : tie.Need-loop-again Inv-loop μ-loop
+loop-again c =
+    let args = c .before .before .before .before .before .before .before .before .before .before .before .before .args in
+    let turn = c .before .before .before .loop in
+    let needed = known-needed (args .file .now) (args .places .now) (args .table .now) (args .shape) (args .struck .now) (turn .hints) (turn .known) (turn .inv .5) (turn .i - 1) (omega arith) (c .if1 .taken) in
+    (omega arith, turn .inv .1, turn .inv .2, turn .inv .3, turn .inv .4 ∙ last-earlier _ (turn .i) (omega arith) needed, turn .inv .5)
+
+cast-hint : tie.Need-cast-hint Inv-loop μ-loop
+cast-hint c = omega (arith, c .slice-known5 .given (c .before .before .before .before .loop .i - 1))
 
 needless-requires : tie.Need-needless-requires Inv-loop μ-loop
-needless-requires c κs =
-    let start = c .before .before .before .before .before .before .before .before .before in
-    let (ready, holds) = asks (c .before .before .before .loop .inv .1) (start .pre .0) (start .pre .2) in
-    (ready, start .pre .1, holds, omega arith)
+needless-requires c κs = let pre = c .before .before .before .before .before .before .before .before .before .before .before .before .before .before .pre in (asks (c .before .before .before .before .before .loop .inv .1) (pre .0), pre .1, omega arith)
 
 same-length : tie.Need-same-length Inv-loop μ-loop
-same-length c = ap length (c .before .before .before .needless .ensures .2 ∙ c .before .before .before .before .before .before .before .loop .inv .1)
+same-length c = ap length (c .before .before .before .needless .ensures .3 ∙ c .before .before .before .before .before .before .before .before .before .loop .inv .1)
 
 returns : tie.Need-returns Inv-loop μ-loop
 unfolding nextAt
 returns c =
-    let start = c .before .before .before .before .before .before .before .before .before .before .before .before .before in
-    let turn = c .before .before .before .before .before .before .before .loop in
+    let args = c .before .before .before .before .before .before .before .before .before .before .before .before .before .before .before .before .before .before .args in
+    let turn = c .before .before .before .before .before .before .before .before .before .loop in
     let tried = c .before .before .before .needless .ensures in
-    let here = tested (start .args .table .now) (start .args .shape .n) (hitOf (start .args .shape)) (start .args .shape .space) _ (turn .inv .1) (tried .0) (c .if1 .taken) in
-    (sym (ap (placeOr (start .args .shape .n)) (turn .inv .3 ∙ last-here _ (turn .i) (omega arith) here)), tried .2 ∙ turn .inv .1)
+    let here = tested (args .file .now) (args .places .now) (args .table .now) (args .shape) _ (turn .inv .1) (tried .0) (c .if2 .taken) in
+    (sym (ap (placeOr (args .shape .n)) (turn .inv .4 ∙ last-here _ (turn .i) (omega arith) here)), tried .3 ∙ turn .inv .1, turn .inv .5)
 
 cast-hints : tie.Need-cast-hints Inv-loop μ-loop
-cast-hints c = let start = c .before .before .before .before .before .before .before .before .before .before .before .before .before .before in omega (arith, c .before .before .before .before .needless .ensures .1, start .pre .0 .small)
+cast-hints c = omega (arith, c .before .before .before .before .needless .ensures .1, c .before .before .before .before .before .before .before .before .before .before .before .before .before .before .before .before .before .before .before .pre .0 .ready .small)
 
-loop-again : tie.Need-loop-again Inv-loop μ-loop
-loop-again c =
-    let start = c .before .before .before .before .before .before .before .before .before .before .before .before .before .before in
-    let turn = c .before .before .before .before .before .before .before .before .loop in
+loop-again-2 : tie.Need-loop-again-2 Inv-loop μ-loop
+loop-again-2 c =
+    let args = c .before .before .before .before .before .before .before .before .before .before .before .before .before .before .before .before .before .before .before .args in
+    let turn = c .before .before .before .before .before .before .before .before .before .before .loop in
     let tried = c .before .before .before .before .needless .ensures in
-    let needed = tested (start .args .table .now) (start .args .shape .n) (hitOf (start .args .shape)) (start .args .shape .space) _ (turn .inv .1) (tried .0) (c .before .if1 .left) in
-    (omega arith, tried .2 ∙ turn .inv .1, rw length-set (turn .inv .2), turn .inv .3 ∙ last-earlier _ (turn .i) (omega arith) needed)
+    let needed = tested (args .file .now) (args .places .now) (args .table .now) (args .shape) _ (turn .inv .1) (tried .0) (c .before .if2 .left) in
+    let shows = rw (turn .inv .1) at (tried .2 (c .before .if2 .left)) in (
+      omega arith,
+      tried .3 ∙ turn .inv .1,
+      rw length-set (turn .inv .2),
+      rw length-set (turn .inv .3),
+      turn .inv .4 ∙ last-earlier _ (turn .i) (omega arith) needed,
+      known-more (args .file .now) (args .places .now) (args .table .now) (args .shape) (args .struck .now) (turn .hints) (turn .known) (turn .inv .5) (turn .i - 1) _ (omega arith) (omega arith) (omega arith) (tried .1) shows,
+    )
 
-same-length-3 : tie.Need-same-length-3 Inv-loop μ-loop
-same-length-3 c = ap length (c .before .loop .inv .1)
+same-length-4 : tie.Need-same-length-4 Inv-loop μ-loop
+same-length-4 c = ap length (c .before .loop .inv .1)
 
 returns-2 : tie.Need-returns-2 Inv-loop μ-loop
 unfolding nextAt
 returns-2 c =
-    let start = c .before .before .before .before .before .before .before in
     let turn = c .before .loop in
-    (sym (ap (placeOr (start .args .shape .n)) (turn .inv .3 ∙ last-nowhere _ (turn .i) (omega arith))), turn .inv .1)
+    (sym (ap (placeOr (c .before .before .before .before .before .before .before .before .before .before .args .shape .n)) (turn .inv .4 ∙ last-nowhere _ (turn .i) (omega arith))), turn .inv .1, turn .inv .5)
 
 pub next-rule-spec : {M : Type 1} → statement M
 next-rule-spec =
@@ -76,16 +88,22 @@ next-rule-spec =
     (λ c. search needs)
     (λ c. search needs)
     (λ c. search needs)
-    cast-needless
+    loop-again
+    (λ c. search needs)
+    (λ c. search needs)
+    cast-hint
     needless-requires
     same-length
+    (λ c. search needs)
     (λ c. search needs)
     returns
     cast-hints
     (λ c. search needs)
     (λ c. search needs)
     (λ c. search needs)
-    loop-again
-    same-length-3
+    (λ c. search needs)
+    loop-again-2
+    same-length-4
+    (λ c. search needs)
     (λ c. search needs)
     returns-2)
