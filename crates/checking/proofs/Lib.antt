@@ -3,4 +3,6 @@ mod Zeros
 mod Names
 mod Masks
 mod Earlier
+mod Told
+mod Obliged
 mod Walk

@@ -4,33 +4,27 @@ use mathlib.Core.Path.{_≡_, ap, _∙_}
 use mathlib.Core.Bool.{true, false, and-false, or-true}
 use mathlib.Core.List.{List, map}
 use native.Mathlib.Omega.{arith}
-use lib.Dec.{leb}
-use lib.ListN.{drop, getD}
-use borrow.Author.Tests.{leb-true, le-leb, lt-leb}
+use lib.ListN.{take, drop, getD}
+use borrow.Author.Tests.{le-leb, lt-leb}
 use Rattle.meaning.specs.Text.{Bytes, sameName, amongNames, isName}
 use Rattle.meaning.specs.Model.{nameOf}
-use Rattle.meaning.specs.Reading.{nonZero, badName}
+use Rattle.meaning.specs.Reading.{nonZero, badStored}
 use Rattle.laws.proofs.Types.{Element}
-use Rattle.laws.proofs.Bools.{and-true as both}
-use Rattle.laws.proofs.Bounds.{named}
 use Rattle.checking.specs.Tested.{none, earlier}
 
 -- a name of no byte, one too long, one with other bytes, and one that only the bytes behind it can spoil
-module _ (e : Element) where
-  pub name-empty : e .len < 1 → badName e ≡ true
-  name-empty l = rw (lt-leb 1 (e .len) l)
+module _ (len : ℕ) (name : Bytes) where
+  pub name-empty : len < 1 → badStored len name ≡ true
+  name-empty l = rw (lt-leb 1 len l)
 
-  pub name-long : 16 < e .len → badName e ≡ true
-  name-long l = rw (lt-leb (e .len) 16 l, and-false)
+  pub name-long : 16 < len → badStored len name ≡ true
+  name-long l = rw (lt-leb len 16 l, and-false)
 
-  pub name-wrong : isName (nameOf e) ≡ false → badName e ≡ true
+  pub name-wrong : isName (take len name) ≡ false → badStored len name ≡ true
   name-wrong other = rw (other, or-true)
 
-  pub name-right : 1 ≤ e .len → e .len ≤ 16 → isName (nameOf e) ≡ true → badName e ≡ nonZero (drop (e .len) (e .name))
-  name-right long short name = rw (le-leb 1 (e .len) long, le-leb (e .len) 16 short, name)
-
-  pub name-short : badName e ≡ false → e .len ≤ 16
-  name-short good = leb-true (e .len) 16 (both (leb 1 (e .len)) (leb (e .len) 16) (named e good .size) .1)
+  pub name-right : 1 ≤ len → len ≤ 16 → isName (take len name) ≡ true → badStored len name ≡ nonZero (drop len name)
+  name-right long short good = rw (le-leb 1 len long, le-leb len 16 short, good)
 
 -- a name looked for from the last element on
 module _ (es : List Element) (name : Bytes) (i : ℕ) where

@@ -1,62 +1,38 @@
-// The tests 3 to 8 of each element of a list by value, as the writer makes them before it writes.
+// The tests of each element of a list by value and of its obligations, as the writer makes them before it writes.
+mod obligations;
+mod parts;
+
 use elements::Elements;
 use layout::Tree;
 use meaning::Element;
-use meaning::Kind;
-use meaning::Word;
 ghost use mathlib.Core.Path.{_≡_};
-ghost use mathlib.Core.Bool.{not};
+ghost use mathlib.Core.Bool.{_||_};
 ghost use mathlib.Core.List.{List, [], map};
-ghost use Prim.Native.Nat.{suc, _≤_};
+ghost use Prim.Native.Nat.{suc, _+_, _*_, _≤_};
 ghost use lib.ListN.{take};
-ghost use Rattle.meaning.specs.Text.{isNone, sameName, amongNames};
+ghost use Rattle.meaning.specs.Text.{amongNames};
 ghost use Rattle.meaning.specs.Model.{Attribute, nameOf, wordText};
-ghost use Rattle.meaning.specs.Reading.{wordOf, lowest, badName, badMasks, elementTests};
-ghost use Rattle.meaning.specs.Writing.{readElements};
+ghost use Rattle.meaning.specs.Reading.{lowest, badName, badUnused, badMasks, elementTests};
+ghost use Rattle.meaning.specs.Writing.{readElement, readElements};
 ghost use Rattle.layout.specs.Places.{valueCounts};
 ghost use Rattle.elements.specs.Listed.{elementsOf};
 ghost use Rattle.checking.specs.Tested.{FewValues, earlier, ShortNames, Begun, behind, CheckedAs};
 
-// The first refusal of an element: its number and the line that the element would have; number 0 is none.
+// The first refusal of an element or an obligation: its number and the line that would hold it; number 0 is none.
 pub struct Checked {
     pub number: usize,
     pub line: usize,
 }
 
-// 3: whether the length or the name is bad, or a byte behind the name is not zero.
-fn bad_name(e: Element) -> bool
-    ensures { λ r. ⌜ r ≡ badName e ⌝ }
+// 3 of an element.
+fn bad_record(e: Element) -> bool
+    ensures { λ r. ⌜ r ≡ (badName e || badUnused e) ⌝ }
 {
     let name = e.name;
-    let len = e.len as usize;
-    if len < 1 {
+    if parts::bad_stored(name, e.len) {
         return true;
     }
-    if 16 < len {
-        return true;
-    }
-    if !names::is_name(&name[0..len]) {
-        return true;
-    }
-    let mut i = len;
-    while i < 16 {
-        if name[i] != 0 {
-            return true;
-        }
-        i += 1;
-    }
-    false
-}
-
-fn same_names(a: Element, b: Element) -> bool
-    requires { ⌜ (a .len ≤ 16) × (b .len ≤ 16) ⌝ }
-    ensures { λ r. ⌜ r ≡ sameName (nameOf a) (nameOf b) ⌝ }
-{
-    let first = a.name;
-    let second = b.name;
-    let m = a.len as usize;
-    let n = b.len as usize;
-    names::same_name(&first[0..m], &second[0..n])
+    obligations::bad_unused(e)
 }
 
 // 4: whether one of the first n elements has the name of e.
@@ -64,47 +40,18 @@ fn known(all: [Element; 65], n: usize, e: Element) -> bool
     requires { ⌜ (n ≤ 65) × (e .len ≤ 16) × ShortNames all n ⌝ }
     ensures { λ r. ⌜ r ≡ amongNames (nameOf e) (map nameOf (earlier all n)) ⌝ }
 {
+    let name = e.name;
+    let len = e.len;
     let mut i = n;
     while 0 < i {
         i -= 1;
         let other = all[i];
-        if same_names(e, other) {
+        let before = other.name;
+        if parts::same_stored(name, len, before, other.len) {
             return true;
         }
     }
     false
-}
-
-// 7: whether the word is one of those allowed for the kind.
-fn word_fits(kind: Kind, word: Word) -> bool
-    ensures { λ r. ⌜ r ≡ not (isNone (wordOf kind (wordText word))) ⌝ }
-{
-    match kind {
-        Kind::Rule => match word {
-            Word::Permit => true,
-            Word::Deny => true,
-            Word::DenyOverrides => false,
-            Word::PermitOverrides => false,
-            Word::FirstApplicable => false,
-            Word::OnlyOneApplicable => false,
-        },
-        Kind::Policy => match word {
-            Word::Permit => false,
-            Word::Deny => false,
-            Word::DenyOverrides => true,
-            Word::PermitOverrides => true,
-            Word::FirstApplicable => true,
-            Word::OnlyOneApplicable => false,
-        },
-        Kind::Set => match word {
-            Word::Permit => false,
-            Word::Deny => false,
-            Word::DenyOverrides => true,
-            Word::PermitOverrides => true,
-            Word::FirstApplicable => true,
-            Word::OnlyOneApplicable => true,
-        },
-    }
 }
 
 // 8: whether a mask is empty or has a bit too high, or one behind the last attribute is not zero.
@@ -143,7 +90,7 @@ fn element_refusal(
     requires { ⌜ FewValues counts attributes × Begun all tree ⌝ }
     ensures { λ r. ⌜ ((attrs : List Attribute) → take attributes counts ≡ valueCounts attrs → r ≡ lowest (elementTests (behind attrs all (tree .len)) (wordText (e .word)) e)) ⌝ }
 {
-    if bad_name(e) {
+    if bad_record(e) {
         return 3;
     }
     if known(all, tree.len, e) {
@@ -161,7 +108,7 @@ fn element_refusal(
         return 6;
     }
     let word = e.word;
-    if !word_fits(kind, word) {
+    if !parts::word_fits(kind, word) {
         return 7;
     }
     let masks = e.masks;
@@ -169,6 +116,28 @@ fn element_refusal(
         return 8;
     }
     0
+}
+
+// Tests the element e on its line, and its obligations on the lines behind it.
+fn check_element(
+    counts: [usize; 6],
+    attributes: usize,
+    all: [Element; 65],
+    tree: Tree,
+    e: Element,
+    line: usize,
+) -> Checked
+    requires { ⌜ FewValues counts attributes × Begun all tree × (line ≤ 7 + 3 * tree .len) ⌝ }
+    ensures { λ r. ⌜ ((attrs : List Attribute) → take attributes counts ≡ valueCounts attrs → CheckedAs r (readElement line (behind attrs all (tree .len)) e)) ⌝ }
+{
+    let refusal = element_refusal(counts, attributes, all, tree, e);
+    if refusal != 0 {
+        return Checked {
+            number: refusal,
+            line,
+        };
+    }
+    obligations::check_obligations(e, line)
 }
 
 // Tests the elements of a list in order, behind so many attributes of these value counts.
@@ -183,21 +152,20 @@ pub fn check_elements(counts: [usize; 6], attributes: usize, list: Elements) -> 
         depth: 0,
         kinds: [0; 8],
     };
+    let mut line = attributes + 1;
     loop {
         let i = tree.len;
         if i == len {
             return Checked { number: 0, line: 0 };
         }
         let e = all[i];
-        let refusal = element_refusal(counts, attributes, all, tree, e);
-        if refusal != 0 {
-            return Checked {
-                number: refusal,
-                line: attributes + i + 1,
-            };
+        let checked = check_element(counts, attributes, all, tree, e, line);
+        if checked.number != 0 {
+            return checked;
         }
         let kind = e.kind;
         let depth = e.depth as usize;
         tree = layout::with_element(tree, kind, depth);
+        line = line + 1 + e.obligations as usize;
     }
 }

@@ -1,9 +1,11 @@
 // A list of elements by value, as many as a file may have and one more, which is refused; and a full mask.
 use meaning::Element;
 use meaning::Kind;
+use meaning::Obligation;
 use meaning::Word;
 ghost use mathlib.Core.Path.{_≡_};
 ghost use Prim.Native.Nat.{_-_, _^_, _≤_, _<_};
+ghost use Rattle.meaning.specs.Model.{unused};
 ghost use Rattle.elements.specs.Listed.{noElements, withElement, heldIn};
 
 // The first `len` elements; the places behind them don't matter.
@@ -12,10 +14,23 @@ pub struct Elements {
     pub len: usize,
 }
 
+// A place for an obligation that holds none.
+pub fn unused() -> Obligation
+    ensures { λ r. ⌜ r ≡ unused ⌝ }
+{
+    Obligation {
+        name: [0u8; 16],
+        len: 0,
+        word: Word::Permit,
+    }
+}
+
 // No elements.
 pub fn none() -> Elements
     ensures { λ r. ⌜ r ≡ noElements ⌝ }
 {
+    let first = unused();
+    let second = unused();
     let blank = Element {
         kind: Kind::Rule,
         depth: 0,
@@ -23,6 +38,9 @@ pub fn none() -> Elements
         len: 0,
         word: Word::Permit,
         masks: [0u16; 6],
+        obligations: 0,
+        first,
+        second,
     };
     let all = [blank; 65];
     Elements { all, len: 0 }

@@ -1,5 +1,5 @@
 -- The elements of a file that was read, listed one by one; and what a file is listed as.
-use mathlib.Core.Path.{_≡_, refl, sym, ap, ap₂, _∙_}
+use mathlib.Core.Path.{_≡_, refl, sym, ap, ap₂, _∙_, subst}
 use Prim.Native.Nat.{ℕ, _+_, _≤_, _<_}
 use native.Mathlib.Nat.{le-antisymm}
 use native.Mathlib.Numerals.{add-one}
@@ -7,7 +7,7 @@ use native.Mathlib.Omega.{arith}
 use mathlib.Core.Bool.{cond}
 use mathlib.Core.List.{List, [], _∷_, _++_, reverse, reverse-cons}
 use lib.Dec.{ltb}
-use lib.ListN.{length, drop, length-set, length-replicate, length-reverse}
+use lib.ListN.{length, take, drop, set, length-set, length-replicate, length-reverse}
 use borrow.Author.Tests.{lt-ltb, le-ltb, ltb-false}
 use Rattle.meaning.specs.declared.Answer.{Answer}
 use Rattle.meaning.specs.declared.Element.{Element}
@@ -24,41 +24,34 @@ use Rattle.reader.specs.declared.Reading.{Reading}
 use Rattle.reader.specs.Told.{ReadPolicy, ReadAs}
 use Rattle.reader.proofs.FileRead.{file-refused, elements-are, few, good, naming}
 use Rattle.elements.specs.declared.Elements.{Elements}
-use Rattle.elements.specs.Listed.{blank, noElements, withElement, elementsOf}
+use Rattle.elements.specs.Listed.{blank, noElements, elementsOf}
 use Rattle.elements.proofs.Listing.{one-more}
 use Rattle.lists.specs.declared.Listing.{Listing}
 use Rattle.lists.specs.Listed.{Filled, givenOr, Listed}
 
--- the first i
-pub record Upto (f : Bytes) (table places : List ℕ) (all : Elements) (i : ℕ) : Type 0 where
-  pub room : length (all .all) ≡ 65
-  pub count : all .len ≡ i
-  pub listed : elementsOf all ≡ reverse (elementsTo f table places i)
+-- the first i of them stand at the start of an array
+pub record Upto (f : Bytes) (table places : List ℕ) (all : List Element) (i : ℕ) : Type 0 where
+  pub room : length all ≡ 65
+  pub listed : take i all ≡ reverse (elementsTo f table places i)
 
 module _ (f : Bytes) (table places : List ℕ) where
-  pub upto-none : (all : Elements) → all ≡ noElements → Upto f table places all 0
+  pub upto-none : (none : Elements) → none ≡ noElements → Upto f table places (none .all) 0
   unfolding elementsTo
-  upto-none all none =
-      record {
-        room = ap (λ l. length (l .all)) none ∙ length-replicate 65 blank;
-        count = ap (λ l. l .len) none;
-        listed = ap elementsOf none;
-      }
+  upto-none none is = record { room = ap (λ l. length (l .all)) is ∙ length-replicate 65 blank; listed = refl }
 
-  pub upto-next : (all : Elements) (i : ℕ) → Upto f table places all i → i < 65 → (e : Element) → e ≡ elementIn f table places i → (more : Elements) → more ≡ withElement all e → Upto f table places more (i + 1)
+  pub upto-next : (all : List Element) (i : ℕ) → Upto f table places all i → i < 65 → (e : Element) → e ≡ elementIn f table places i → Upto f table places (set all i e) (i + 1)
   unfolding elementsTo
-  upto-next all i upto few e e-is more more-is =
+  upto-next all i upto few e e-is =
       record {
-        room = ap (λ l. length (l .all)) more-is ∙ length-set (all .all) (all .len) e ∙ upto .room;
-        count = ap (λ l. l .len) more-is ∙ ap (λ n. n + 1) (upto .count);
-        listed = ap elementsOf more-is ∙ one-more all e (omega (arith, upto .room, upto .count))
+        room = length-set all i e ∙ upto .room;
+        listed = one-more (record { all = all; len = i }) e (omega (arith, upto .room))
             ∙ ap₂ (λ (es : List Element) (x : Element). es ++ (x ∷ [])) (upto .listed) e-is
             ∙ sym (reverse-cons (elementIn f table places i) (elementsTo f table places i))
             ∙ ap (λ n. reverse (elementsTo f table places n)) (sym (add-one i));
       }
 
-  pub upto-all : (all : Elements) (i n : ℕ) → Upto f table places all i → i ≤ n → n ≤ i → (elementsOf all ≡ reverse (elementsTo f table places n)) × (all .len ≡ n)
-  upto-all all i n upto within over = let whole = le-antisymm within over in (upto .listed ∙ ap (λ k. reverse (elementsTo f table places k)) whole, upto .count ∙ whole)
+  pub upto-all : (all : List Element) (i n : ℕ) → Upto f table places all i → i ≤ n → n ≤ i → take n all ≡ reverse (elementsTo f table places n)
+  upto-all all i n upto within over = let whole = le-antisymm within over in subst (λ k. take k all ≡ reverse (elementsTo f table places k)) whole (upto .listed)
 
 -- A refusal, with no elements
 none-listed : (f : Bytes) (room n m : ℕ) → listFile room f ≡ refused n m → (a : Answer) → a ≡ record { number = n; second = m } → (es : Elements) → es ≡ noElements → Listed f room (record { answer = a; elements = es })
@@ -84,7 +77,7 @@ module _ (f table places : List ℕ) (r : Reading) (p : Policy) (h : read f ≡ 
 
   pub filled : Filled f table places (r .elements)
   unfolding elementIn elementAt
-  filled = record { rows = omega (arith, holds .rooms .rows, few f table places r p h holds); naming = naming f table places r p h holds; shallow = λ i l. good f table places r p h holds i l .shallow }
+  filled = record { rows = omega (arith, holds .rooms .rows, few f table places r p h holds); naming = naming f table places r p h holds; obliged = holds .obliged; shallow = λ i l. good f table places r p h holds i l .shallow }
 
   given-all : (room : ℕ) → r .elements ≤ room → listFile room f ≡ given (reverse (elementsTo f table places (r .elements)))
   unfolding listFile

@@ -18,7 +18,7 @@ use Rattle.elements.proofs.Elements as B
 element-shaped : (e : Element) (vs : List Val) → Is T.the-row e vs → Shaped e
 element-shaped e vs is =
     let are = is .1 .1 in
-    record { name-size = sym (length-map (e .name) (λ x. x)) ∙ are .1 .1 .0 .1 .0 .1; masks-size = sym (length-map (e .masks) (λ x. x)) ∙ are .1 .1 .1 .1 .1 .0 .1 .0 .1 }
+    record { name-size = sym (length-map (e .name) (λ x. x)) ∙ are .1 .1 .0 .1 .0 .1; masks-size = sym (length-map (e .masks) (λ x. x)) ∙ are .1 .1 .1 .1 .1 .0 .1 .0 .1; places-size = (sym (length-map (e .first .name) (λ x. x)) ∙ are .1 .1 .1 .1 .1 .1 .1 .0 .1 .1 .0 .1 .0 .1, (sym (length-map (e .second .name) (λ x. x)) ∙ are .1 .1 .1 .1 .1 .1 .1 .1 .0 .1 .1 .0 .1 .0 .1, tt)) }
 
 each-shaped : (es : List Element) (us : List Val) → shadow (each (T.the-field .row .Denot) (T.the-field .row .own) (map (T.the-field .into) es) us) → All Shaped es
 each-shaped [] [] s = tt

@@ -27,13 +27,14 @@ fn all_elements(file: &[u8], table: &[u16], places: &[usize], n: usize) -> Eleme
     requires { ⌜ Filled (now file) (now table) (now places) n ⌝ }
     ensures { λ r. ⌜ (elementsOf r ≡ reverse (elementsTo (now (file .entry)) (now (table .entry)) (now (places .entry)) n)) × (r .len ≡ n) ⌝ }
 {
-    let mut all = elements::none();
+    let none = elements::none();
+    let mut all = none.all;
     let mut i = 0;
     while i < n {
-        all = elements::with_element(all, element::element_at(file, table, places, i));
+        all[i] = element::element_at(file, table, places, i);
         i += 1;
     }
-    all
+    Elements { all, len: n }
 }
 
 // Reads a file for a list of `room` places.
@@ -41,7 +42,7 @@ pub fn read_elements(file: &[u8], room: usize) -> Listing
     ensures { λ r. ⌜ Listed (now (file .entry)) room r ⌝ }
 {
     let mut table = [0u16; 512];
-    let mut places = [0usize; 128];
+    let mut places = [0usize; 384];
     let reading = reader::read(file, &mut table, &mut places);
     if reading.number != 0 {
         let answer = reader::refusal(reading);
@@ -120,7 +121,7 @@ fn elements_of(list: &[Element]) -> Elements
     all
 }
 
-// Writes the file of some attribute lines and a list into a buffer. A refusal leaves the buffer as it was. The last part is what the elements' type says: 16 name bytes and six masks.
+// Writes the file of some attribute lines and a list into a buffer. A refusal leaves the buffer as it was. The last part is what the elements' type says: 16 name bytes, six masks and 16 name bytes in each place.
 pub fn write_list(header: &[u8], list: &[Element], out: &mut [u8]) -> Answer
     ensures { λ r. ⌜ (r ≡ writeAnswer (now (header .entry)) (now (list .entry)) (now (out .entry))) × (now (out .exit) ≡ writeLent (now (header .entry)) (now (list .entry)) (now (out .entry))) × (r .number ≡ 0 → All Shaped (now (list .entry))) ⌝ }
 {

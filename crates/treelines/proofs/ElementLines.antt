@@ -5,13 +5,13 @@ use native.Mathlib.Omega.{arith}
 use mathlib.Core.List.{List, [], _∷_, _++_}
 use lib.ListN.{length, getD}
 use Rattle.meaning.specs.Text.{Bytes, gathered, counting, newline, tab, line, decimal}
-use Rattle.meaning.specs.Writing.{elementFields}
+use Rattle.meaning.specs.Writing.{elementLines}
 use Rattle.layout.specs.declared.Attributes.{Attributes}
 use Rattle.layout.specs.Places.{attributesOf}
 use Rattle.elements.specs.declared.Elements.{Elements}
 use Rattle.elements.specs.Listed.{blank, elementsOf}
 use Rattle.elements.proofs.Listing.{any-default}
-use Rattle.laws.proofs.Types.{set, Word, Element}
+use Rattle.laws.proofs.Types.{set, Word, Obligation, Element}
 use Rattle.printing.specs.Wrote.{Wrote}
 use Rattle.printing.proofs.Laws.{then, line-next, line-behind}
 use Rattle.printing.proofs.Walks.{taken}
@@ -44,12 +44,15 @@ tree-line {x = x} {y = y} {at = at} {r = r} kind name word depth ts small (one, 
   omega (arith, g, h, i, j, k, six .moved),
 )
 
--- the line of the element at a place; behind the end of an array code reads this element
-abbrev pub unread : Element
-unread = record { kind = set; depth = 0; name = []; len = 0; word = Word.Permit; masks = [] }
+-- the lines of the element at a place; behind the end of an array code reads this element
+abbrev pub nowhere : Obligation
+nowhere = record { name = []; len = 0; word = Word.Permit }
 
-abbrev pub elementLine : Bytes → Attributes → List Element → ℕ → Bytes
-elementLine header a all i = line (elementFields (attributesOf header a) (getD all i unread))
+abbrev pub unread : Element
+unread = record { kind = set; depth = 0; name = []; len = 0; word = Word.Permit; masks = []; obligations = 0; first = nowhere; second = nowhere }
+
+abbrev pub linesAt : Bytes → Attributes → List Element → ℕ → Bytes
+linesAt header a all i = elementLines (attributesOf header a) (getD all i unread)
 
 pub small-at : (header : Bytes) (a : Attributes) (list : Elements) (i : ℕ) → Writable header a list → i < list .len → i < length (list .all) → Small (getD (list .all) i unread)
 small-at header a list i w l inside = rw (any-default (list .all) unread blank i inside) (w .each i l)
@@ -57,7 +60,7 @@ small-at header a list i w l inside = rw (any-default (list .all) unread blank i
 -- the attribute lines, and the lines of all elements
 pub file-text : {x u y : List ℕ} {m r : ℕ} (header : Bytes) (a : Attributes) (list : Elements) → list .len ≤ length (list .all)
     → Wrote x 0 header u m
-    → Wrote u m (gathered (elementLine header a (list .all)) (counting 0 (list .len))) y r
-    → Wrote x 0 (header ++ gathered (λ e. line (elementFields (attributesOf header a) e)) (elementsOf list)) y r
+    → Wrote u m (gathered (linesAt header a (list .all)) (counting 0 (list .len))) y r
+    → Wrote x 0 (header ++ gathered (elementLines (attributesOf header a)) (elementsOf list)) y r
 file-text {u = u} {y = y} {m = m} {r = r} header a list enough head lines =
-    then head (subst (λ t. Wrote u m t y r) (taken unread (λ e. line (elementFields (attributesOf header a) e)) (list .all) (list .len) enough) lines)
+    then head (subst (λ t. Wrote u m t y r) (taken unread (elementLines (attributesOf header a)) (list .all) (list .len) enough) lines)

@@ -3,3 +3,4 @@ mod Words
 mod Values
 mod TargetTexts
 mod ElementLines
+mod ObligationLines

@@ -1,11 +1,11 @@
-// The fields of an element's line before its targets.
-use meaning::Element;
+// The fields of the lines of elements and obligations, but for the targets.
 use meaning::Kind;
 use meaning::Word;
 ghost use mathlib.Core.List.{[], _∷_, _++_};
 ghost use Prim.Native.Nat.{_+_, _≤_};
+ghost use lib.ListN.{take};
 ghost use Rattle.meaning.specs.Text.{tab};
-ghost use Rattle.meaning.specs.Model.{nameOf, kindText, wordText};
+ghost use Rattle.meaning.specs.Model.{kindText, wordText};
 ghost use Rattle.printing.specs.Wrote.{Wrote};
 
 // The letter of a kind, and a tab.
@@ -26,17 +26,16 @@ pub(crate) fn put_kind(kind: Kind, out: &mut [u8], at: usize) -> usize
     }
 }
 
-// The name of an element, and a tab.
-pub(crate) fn put_name(e: Element, out: &mut [u8], at: usize) -> usize
-    requires { ⌜ (e .len ≤ 16) × (at ≤ 4000000000) ⌝ }
-    ensures { λ r. ⌜ Wrote (now (out .entry)) at (nameOf e ++ (tab ∷ [])) (now (out .exit)) r × (r ≤ at + 17) ⌝ }
+// A stored name, and a tab.
+pub(crate) fn put_name(name: [u8; 16], len: u8, out: &mut [u8], at: usize) -> usize
+    requires { ⌜ (len ≤ 16) × (at ≤ 4000000000) ⌝ }
+    ensures { λ r. ⌜ Wrote (now (out .entry)) at (take len name ++ (tab ∷ [])) (now (out .exit)) r × (r ≤ at + 17) ⌝ }
 {
-    let name = e.name;
-    let len = e.len as usize;
-    printing::put_field(out, at, &name[0..len], 9)
+    let end = len as usize;
+    printing::put_field(out, at, &name[0..end], 9)
 }
 
-// The word of an element.
+// A word.
 pub(crate) fn put_word(word: Word, out: &mut [u8], at: usize) -> usize
     requires { ⌜ at ≤ 4000000000 ⌝ }
     ensures { λ r. ⌜ Wrote (now (out .entry)) at (wordText word) (now (out .exit)) r × (r ≤ at + 19) ⌝ }

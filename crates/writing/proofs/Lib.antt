@@ -1,3 +1,4 @@
 -- Laws that the proofs of the writer cite.
 mod Texts
+mod Kept
 mod Writer

@@ -2,20 +2,19 @@
 use mathlib.Core.Path.{_≡_, refl, sym, ap, _∙_, subst}
 use Prim.Native.Nat.{ℕ, zero, suc, _≤_, _<_}
 use native.Mathlib.Omega.{arith}
-use mathlib.Core.List.{List, [], _∷_, _++_, reverse}
-use lib.ListN.{length, take, getD}
+use mathlib.Core.List.{List, [], _∷_, _++_, reverse, map}
+use lib.ListN.{length, take, getD, length-map}
 use lib.Seq.{length-take-le, getD-take}
 use Rattle.meaning.specs.declared.Answer.{Answer}
 use Rattle.meaning.specs.declared.Element.{Element}
-use Rattle.meaning.specs.Text.{Bytes, gathered, line}
+use Rattle.meaning.specs.Text.{Bytes, gathered}
 use Rattle.meaning.specs.Model.{Result, refused, given, _then_}
 use Rattle.meaning.specs.Reading.{Sofar, short, readText, finished}
 use Rattle.meaning.specs.Report.{fitted}
-use Rattle.meaning.specs.Writing.{headerTests, readElements, elementFields, writeFile}
+use Rattle.meaning.specs.Writing.{headerTests, readElements, elementLines, writeFile}
 use Rattle.meaning.specs.Operations.{answered, lent, writeAnswer, writeLent}
 use Rattle.meaning.specs.Claims.Texts.{All}
 use Rattle.laws.proofs.Reading.{short-given}
-use Rattle.laws.proofs.Rewritten.{elements-taken}
 use Rattle.laws.proofs.GoodLists.{Small, taken-small, taken-few}
 use Rattle.layout.specs.declared.Attributes.{Attributes}
 use Rattle.layout.specs.Places.{attributesOf, valueCounts}
@@ -26,15 +25,16 @@ use Rattle.elements.specs.Listed.{blank, elementsOf}
 use Rattle.header.specs.declared.Header.{Header}
 use Rattle.header.specs.Told.{HeaderHolds, HeaderAs}
 use Rattle.checking.specs.declared.Checked.{Checked}
-use Rattle.checking.specs.Tested.{CheckedAs}
+use Rattle.checking.specs.Tested.{taken as kept, CheckedAs}
 use Rattle.treelines.specs.Writable.{Writable}
 use Rattle.writing.proofs.Texts.{told, Gives}
+use Rattle.writing.proofs.Kept.{elements-kept, lines-kept}
 
 -- what is done behind the attribute lines
 abbrev behind : ℕ → Bytes → List Element → Sofar → Result Bytes
 behind room header es s =
     readElements (suc (length (s .attributes))) s es then finished then λ p.
-    short (header ++ gathered (λ e. line (elementFields (p .attributes) e)) (p .elements)) then fitted room
+    short (header ++ gathered (elementLines (p .attributes)) (p .elements)) then fitted room
 
 write-is : (room : ℕ) (header : Bytes) (es : List Element) → writeFile room header es ≡ ((short header then (readText headerTests)) then behind room header es)
 unfolding writeFile
@@ -116,7 +116,7 @@ module _ (header : Bytes) (r : Header) (is : HeaderAs header r (short header the
       element-refused h = (ap (answered length) (sym all), ap (lent old) (sym all))
         where
           rest : Result Sofar → Result Bytes
-          rest x = x then finished then λ p. short (header ++ gathered (λ e. line (elementFields (p .attributes) e)) (p .elements)) then fitted (length old)
+          rest x = x then finished then λ p. short (header ++ gathered (elementLines (p .attributes)) (p .elements)) then fitted (length old)
 
           go : (x : Result Sofar) → CheckedAs c x → rest x ≡ refused (c .number) (c .line)
           go (refused n m) t = λ i. refused (sym (t .number) i) (sym (t .line) i)
@@ -152,25 +152,27 @@ module _ (header : Bytes) (r : Header) (is : HeaderAs header r (short header the
               headed = record { short = holds .size; standing = holds .spaced .standing; few-values = holds .spaced .few-values };
               few = omega (arith, size);
               each = λ i l. let small = subst Small (getD-take (list .len) (list .all) i blank l) (small-at es i (taken-small (suc (length (attributesOf header a))) start es y e) (omega (arith, size))) in
-                  record { name = small .short; depth = small .shallow };
+                  record { name = small .short; depth = small .shallow; few-obligations = small .few-obligations; obligations = small .short-obligations };
             }
 
-        pub text-written : (list .len ≡ 0 → ⊥) → {new : Bytes} {x : _} → Gives (header ++ gathered (λ e. line (elementFields (attributesOf header a) e)) es) old new x → (x ≡ writeAnswer header es old) × (new ≡ writeLent header es old)
+        pub text-written : (list .len ≡ 0 → ⊥) → {new : Bytes} {x : _} → Gives (header ++ gathered (elementLines (attributesOf header a)) es) old new x → (x ≡ writeAnswer header es old) × (new ≡ writeLent header es old)
         text-written some {new} {x} (answer, lends) = (answer ∙ ap (answered length) (sym all), lends ∙ ap (lent old) (sym all))
           where
             rest : Result Sofar → Result Bytes
-            rest x = x then finished then λ p. short (header ++ gathered (λ e. line (elementFields (p .attributes) e)) (p .elements)) then fitted (length old)
+            rest x = x then finished then λ p. short (header ++ gathered (elementLines (p .attributes)) (p .elements)) then fitted (length old)
 
             -- the policy that they make
-            made : (y : Sofar) → y .attributes ≡ attributesOf header a → reverse (y .before) ≡ es → rest (given y) ≡ (short (header ++ gathered (λ e. line (elementFields (attributesOf header a) e)) es) then fitted (length old))
+            made : (y : Sofar) → y .attributes ≡ attributesOf header a → reverse (y .before) ≡ map kept es → rest (given y) ≡ (short (header ++ gathered (elementLines (attributesOf header a)) es) then fitted (length old))
             made y attributes elements = go (y .before) refl
               where
-                go : (before : List Element) → y .before ≡ before → rest (given y) ≡ (short (header ++ gathered (λ e. line (elementFields (attributesOf header a) e)) es) then fitted (length old))
-                go [] e = absurd (some (sym size ∙ ap length (sym elements) ∙ ap (λ b. length (reverse b)) e))
-                go (x ∷ xs) e = rw e (λ i. short (header ++ gathered (λ w. line (elementFields (attributes i) w)) ((ap reverse (sym e) ∙ elements) i)) then fitted (length old))
+                go : (before : List Element) → y .before ≡ before → rest (given y) ≡ (short (header ++ gathered (elementLines (attributesOf header a)) es) then fitted (length old))
+                go [] e = absurd (some (sym size ∙ sym (length-map es kept) ∙ ap length (sym elements) ∙ ap (λ b. length (reverse b)) e))
+                go (x ∷ xs) e =
+                    rw e (λ i. short (header ++ gathered (elementLines (attributes i)) ((ap reverse (sym e) ∙ elements) i)) then fitted (length old))
+                    ∙ ap (λ t. short (header ++ t) then fitted (length old)) (lines-kept (attributesOf header a) es)
 
-            all : writeFile (length old) header es ≡ (short (header ++ gathered (λ e. line (elementFields (attributesOf header a) e)) es) then fitted (length old))
+            all : writeFile (length old) header es ≡ (short (header ++ gathered (elementLines (attributesOf header a)) es) then fitted (length old))
             all =
                 let (y, e) = taken in
-                let t = elements-taken (suc (length (attributesOf header a))) start es y e in
-                written-behind es ∙ ap rest e ∙ made y (t .attributes-stay) (t .elements-added)
+                let (attributes, elements) = elements-kept (suc (length (attributesOf header a))) start es y e in
+                written-behind es ∙ ap rest e ∙ made y attributes elements

@@ -5,11 +5,11 @@ use meaning::Answer;
 ghost use mathlib.Core.Path.{_≡_};
 ghost use mathlib.Core.List.{_++_};
 ghost use lib.ListN.{length};
-ghost use Rattle.meaning.specs.Text.{gathered, line};
+ghost use Rattle.meaning.specs.Text.{gathered};
 ghost use Rattle.meaning.specs.Model.{_then_};
 ghost use Rattle.meaning.specs.Reading.{short};
 ghost use Rattle.meaning.specs.Report.{fitted};
-ghost use Rattle.meaning.specs.Writing.{elementFields};
+ghost use Rattle.meaning.specs.Writing.{elementLines};
 ghost use Rattle.meaning.specs.Operations.{answered, lent, writeAnswer, writeLent};
 ghost use Rattle.layout.specs.Places.{attributesOf};
 ghost use Rattle.elements.specs.Listed.{elementsOf};
@@ -18,8 +18,8 @@ ghost use Rattle.treelines.specs.Writable.{Writable};
 // The text of good lines and elements: counted first, and written if it is no longer than a file and fits.
 fn write_text(header: &[u8], a: Attributes, list: Elements, out: &mut [u8]) -> Answer
     requires { ⌜ Writable (now header) a list ⌝ }
-    ensures { λ r. ⌜ r ≡ answered length (short (now (header .entry) ++ gathered (λ e. line (elementFields (attributesOf (now (header .entry)) a) e)) (elementsOf list)) then fitted (length (now (out .entry)))) ⌝ }
-    ensures { λ r. ⌜ now (out .exit) ≡ lent (now (out .entry)) (short (now (header .entry) ++ gathered (λ e. line (elementFields (attributesOf (now (header .entry)) a) e)) (elementsOf list)) then fitted (length (now (out .entry)))) ⌝ }
+    ensures { λ r. ⌜ r ≡ answered length (short (now (header .entry) ++ gathered (elementLines (attributesOf (now (header .entry)) a)) (elementsOf list)) then fitted (length (now (out .entry)))) ⌝ }
+    ensures { λ r. ⌜ now (out .exit) ≡ lent (now (out .entry)) (short (now (header .entry) ++ gathered (elementLines (attributesOf (now (header .entry)) a)) (elementsOf list)) then fitted (length (now (out .entry)))) ⌝ }
 {
     let mut none = [0u8; 0];
     let needed = treelines::put_file(header, a, list, &mut none);

@@ -1,7 +1,7 @@
 -- `element_refusal` meets its contract. Each answer is what the tests give that are left once the element passed those before.
 use Prim.Native.Nat.{ℕ}
 use mathlib.Core.Path.{_≡_, sym, _∙_}
-use mathlib.Core.Bool.{false}
+use mathlib.Core.Bool.{false, _||_}
 use mathlib.Core.List.{List}
 use native.Mathlib.Omega.{arith}
 use lib.Dec.{eqb}
@@ -10,10 +10,11 @@ use borrow.Author.Needs.{needs}
 use borrow.Author.Tests.{not-true, not-false, le-leb, lt-leb, eq-eqb, ne-eqb}
 use Rattle.meaning.specs.Text.{empty, isNone}
 use Rattle.meaning.specs.Model.{Attribute, wordText}
-use Rattle.meaning.specs.Reading.{wordOf, wellPlaced, badName, lowest, elementTests}
+use Rattle.meaning.specs.Reading.{wordOf, wellPlaced, badName, badUnused, lowest, elementTests}
 use Rattle.layout.specs.Places.{valueCounts}
+use Rattle.laws.proofs.Bools.{or-false}
+use Rattle.laws.proofs.Bounds.{stored-short}
 use Rattle.checking.specs.Tested.{earlier, behind}
-use Rattle.checking.proofs.Names.{name-short}
 use Rattle.checking.proofs.Earlier.{earlier-length, none-counted}
 use Rattle.checking.proofs.element_refusal.Statement.{statement}
 use Rattle.checking.proofs.element_refusal.Tie as tie
@@ -46,8 +47,8 @@ abbrev start-6 : tie.Else6 → tie.Start
 start-6 c = start-5 (c .before .before)
 
 -- The tests that are left behind each branch
-named : (c : tie.Else1) → badName (start-1 c .args .e) ≡ false
-named c = sym (c .before .bad-name .ensures) ∙ c .if1 .left
+named : (c : tie.Else1) → let e = start-1 c .args .e in (badName e || badUnused e) ≡ false
+named c = sym (c .before .bad-record .ensures) ∙ c .if1 .left
 
 past-1 : (c : tie.Else1) (attrs : List Attribute) → number (start-1 c) attrs 0 ≡ number (start-1 c) attrs 1
 past-1 c attrs = rw (named c)
@@ -86,12 +87,13 @@ past-6 c attrs are =
     past-5 (c .before .before) attrs are ∙ rw fits
 
 returns : tie.Need-returns
-returns c attrs are = sym (rw (sym (c .before .bad-name .ensures) ∙ c .if1 .taken))
+returns c attrs are = sym (rw (sym (c .before .bad-record .ensures) ∙ c .if1 .taken))
 
 known-requires : tie.Need-known-requires
 known-requires c κs =
     let begun = start-1 c .pre .1 in
-    (omega (arith, begun .few), name-short (start-1 c .args .e) (named c), begun .short-names)
+    let e = start-1 c .args .e in
+    (omega (arith, begun .few), stored-short (e .len) (e .name) (or-false (badName e) (badUnused e) (named c) .0), begun .short-names)
 
 returns-2 : tie.Need-returns-2
 returns-2 c attrs are = sym (past-1 (c .before .before) attrs ∙ rw (sym (c .before .known .ensures) ∙ c .if2 .taken))

@@ -174,7 +174,7 @@ module _ {M : Type 1} (𝓤 : URA M) (H : Heap 𝓤) (A : Atoms 𝓤) (W : Given
           (λ less. skips ! $ exec ! C Λ En more (anyQ (Turned y)) $
           assigns ! (bin ! (load ! (from ! (stop !)) (look ! 13 refl)) (lit ! tt) (record { fits = place-fits less })) (from ! (stop !)) (init ! 7 refl (tt, record { fits = place-fits less })) $
           assigns ! (bin ! (load ! (from ! (fld ! refl (stop !))) (look-in ! 19 (sub ! 0 refl (whole !)))) (load ! (from ! (stop !)) (look ! 7 refl)) tt) (from ! (stop !)) (init ! 5 refl (tt, tt)) $
-          rewrite ! 5 (λ (p : ℕ). ‵ (fat fullShare tyPtr l₈ 0 (vptr b p))) (sym (place-is 32 o i)) refl $
+          rewrite ! 5 (λ (p : ℕ). ‵ (fat fullShare tyPtr l₈ 0 (vptr b p))) (sym (place-is 70 o i)) refl $
           elem-out ! E (Is E) (shows 𝓤 H A E) (LL.vals T.the-type T′.the-laws) (LL.tells T.the-type T′.the-laws) q₁ ys i blank b o (inside less) (λ g.
           -- [list[i]; what it owns; the others; what shuts; what list owns; _9; …; _8; …]
           assigns ! (of-opd ! (load ! (from ! (hop ! (look ! 7 refl) (stop !))) (look-raw ! 0 refl))) (from ! (stop !)) (init ! 5 refl (LL.lawful T.the-type T′.the-laws 𝓤 H A W .typed elem _ g .0)) $
@@ -224,7 +224,7 @@ module _ {M : Type 1} (𝓤 : URA M) (H : Heap 𝓤) (A : Atoms 𝓤) (W : Given
           short : Holds (ltb i m) → i < 65
           short less = omega (arith, ltb→lt i m less, small .1)
 
-          place-fits : Holds (ltb i m) → i * 32 < 2 ^ 64
+          place-fits : Holds (ltb i m) → i * 70 < 2 ^ 64
           place-fits less = step-fits i (length ys) (inside less) (room .1)
 
           next-fits : Holds (ltb i m) → i + 1 < 2 ^ 64

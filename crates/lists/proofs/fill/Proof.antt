@@ -163,7 +163,7 @@ module _ {M : Type 1} (𝓤 : URA M) (H : Heap 𝓤) (A : Atoms 𝓤) (W : Given
           land ! (from ! (stop !)) (init ! 9 refl (LL.lawful T.the-type T′.the-laws 𝓤 H A W .typed r _ is-r .0)) $
           assigns ! (bin ! (load ! (from ! (stop !)) (look ! 13 refl)) (lit ! tt) (record { fits = place-fits less })) (from ! (stop !)) (init ! 7 refl (tt, record { fits = place-fits less })) $
           assigns ! (bin ! (load ! (from ! (fld ! refl (stop !))) (look-in ! 19 (sub ! 0 refl (whole !)))) (load ! (from ! (stop !)) (look ! 7 refl)) tt) (from ! (stop !)) (init ! 5 refl (tt, tt)) $
-          rewrite ! 5 (λ (p : ℕ). ‵ (fat fullShare tyPtr l₈ 0 (vptr b p))) (sym (place-is 32 o (i .0))) refl $
+          rewrite ! 5 (λ (p : ℕ). ‵ (fat fullShare tyPtr l₈ 0 (vptr b p))) (sym (place-is 70 o (i .0))) refl $
           move ! (1 ∷ []) $ elem-out ! E (Is E) (shows 𝓤 H A E) (LL.vals T.the-type T′.the-laws) (LL.tells T.the-type T′.the-laws) fullShare (filled (i .0)) (i .0) blank b o (inside less) (λ _.
           -- [list[i]; what it owns; the others; what the result owns; the open borrow; obs; auth; _8; …]
           assigns ! (of-opd ! (load ! (from ! (stop !)) (look ! 11 refl))) (from ! (hop ! (look ! 7 refl) (stop !))) (store-raw ! 0 refl (LL.lawful T.the-type T′.the-laws 𝓤 H A W .typed r _ is-r .0)) $
@@ -196,7 +196,7 @@ module _ {M : Type 1} (𝓤 : URA M) (H : Heap 𝓤) (A : Atoms 𝓤) (W : Given
           inside : Holds (ltb (i .0) n) → i .0 < length (filled (i .0))
           inside less = subst (λ (k : ℕ). i .0 < k) (sym (long i)) (shorter less)
 
-          place-fits : Holds (ltb (i .0) n) → i .0 * 32 < 2 ^ 64
+          place-fits : Holds (ltb (i .0) n) → i .0 * 70 < 2 ^ 64
           place-fits less = step-fits (i .0) (length ys) (shorter less) (room .1)
 
     walk : ent 𝓤 (onEntry 𝓤 H A fill.signature (κ, tt) (q, tt) a at) (WpFn 𝓤 H C Λ code.function (vl ∷ ve ∷ []) Post)

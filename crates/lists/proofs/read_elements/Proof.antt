@@ -1,5 +1,7 @@
 -- `read_elements` meets its contract: the file's refusal, a list too short, or the elements.
 use native.Mathlib.Omega.{arith}
+use lib.Dec.{lit≤}
+use Rattle.layout.proofs.Slots.{zeros-clear}
 use Rattle.reader.proofs.FileRead.{small-numbers, file-read, few}
 use Rattle.lists.proofs.Reading.{refusal-listed, short-listed, filled, whole-listed}
 use borrow.Author.Needs.{needs}
@@ -11,6 +13,9 @@ use Rattle.elements.proofs.none.Reads as none-reads
 use Rattle.lists.proofs.all_elements.Reads as all-elements-reads
 use Rattle.reader.proofs.read.Reads as read-reads
 use Rattle.reader.proofs.refusal.Reads as refusal-reads
+
+read-requires : tie.Need-read-requires
+read-requires c κs = (lit≤ tt, lit≤ tt, zeros-clear 384)
 
 refusal-requires : tie.Need-refusal-requires
 refusal-requires c κs = small-numbers _ _ _ _ (c .before .before .before .before .read .ensures .answer) (c .if1 .taken)
@@ -49,7 +54,7 @@ read-elements-spec =
     (tie.spec
     (λ c. search needs)
     (λ c. search needs)
-    (λ c κs. search needs)
+    read-requires
     refusal-requires
     (λ c κs. search needs)
     returns

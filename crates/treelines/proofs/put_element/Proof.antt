@@ -9,12 +9,12 @@ use Rattle.treelines.proofs.put_element.Tie as tie
 
 returns : tie.Need-returns
 returns c =
-    let start = c .before .before .before .before .before .before .before .before .before .before .before .before .before .before .before .before .before .before .before .before .before .before .before .before .before .before .before in
+    let start = c .before .before .before .before .before .before .before .before .before .before .before .before .before .before .before .before .before .before .before .before .before .before .before .before .before .before .before .before in
     let e = start .args .e in
     let attributes = attributesOf (start .args .header .now) (start .args .a) in
     tree-line (kindText (e .kind)) (nameOf e) (wordText (e .word)) (e .depth) (targetTexts attributes (e .masks)) (start .pre .1 .depth)
-    (c .before .before .before .before .before .before .before .before .before .before .before .before .before .before .before .before .before .before .before .before .before .before .before .put-kind .ensures)
-    (c .before .before .before .before .before .before .before .before .before .before .before .before .before .before .before .before .before .before .put-number .ensures)
+    (c .before .before .before .before .before .before .before .before .before .before .before .before .before .before .before .before .before .before .before .before .before .before .before .before .put-kind .ensures)
+    (c .before .before .before .before .before .before .before .before .before .before .before .before .before .before .before .before .before .before .before .put-number .ensures)
     (c .before .before .before .before .before .before .before .before .before .before .before .before .before .before .put-name .ensures)
     (c .before .before .before .before .before .before .before .before .before .before .put-word .ensures)
     (c .before .before .before .before .before .before .put-targets .ensures)

@@ -6,12 +6,12 @@ use native.Mathlib.Omega.{arith}
 use borrow.Author.Needs.{needs}
 use Rattle.elements.proofs.Listing.{mapped-length}
 use Rattle.printing.proofs.Walks.{Sofar, begun, stored, ended-all}
-use Rattle.treelines.proofs.ElementLines.{elementLine, small-at, file-text}
+use Rattle.treelines.proofs.ElementLines.{linesAt, small-at, file-text}
 use Rattle.treelines.proofs.put_file.Statement.{statement}
 use Rattle.treelines.proofs.put_file.Tie as tie
 
 abbrev Inv-loop : tie.InvT-loop
-Inv-loop header a out₀ all len end₀ i₀ out end i = (i ≤ len) × Sofar (elementLine header a all) 100000 0 out₀ end₀ i out end
+Inv-loop header a out₀ all len end₀ i₀ out end i = (i ≤ len) × Sofar (linesAt header a all) 100100 0 out₀ end₀ i out end
 
 abbrev μ-loop : tie.MeasureT-loop
 μ-loop header a out₀ all len end₀ i₀ out end i = len - i
@@ -23,7 +23,7 @@ places c = search (needs, mapped-length)
 loop-holds : tie.Need-loop-holds Inv-loop μ-loop
 loop-holds c =
     let args = c .before .before .before .before .before .before .before .args in
-    (omega arith, begun (elementLine (args .header .now) (args .a) (args .list .all)) 100000 0 _ _)
+    (omega arith, begun (linesAt (args .header .now) (args .a) (args .list .all)) 100100 0 _ _)
 
 mul-e : tie.Need-mul-e Inv-loop μ-loop
 mul-e c = let few = c .before .before .before .before .before .before .before .before .before .pre .few in search needs
@@ -31,8 +31,8 @@ mul-e c = let few = c .before .before .before .before .before .before .before .b
 array-copy-out-e : tie.Need-array-copy-out-e Inv-loop μ-loop
 array-copy-out-e c = let few = c .before .before .before .before .before .before .before .before .before .pre .few in search needs
 
-put-element-requires : tie.Need-put-element-requires Inv-loop μ-loop
-put-element-requires c κs =
+put-lines-requires : tie.Need-put-lines-requires Inv-loop μ-loop
+put-lines-requires c κs =
     let pre = c .before .before .before .before .before .before .before .before .before .before .before .pre in
     let l = c .before .before .before .loop in
     let list = c .before .before .before .before .before .before .before .before .before .before .before .args .list in
@@ -43,7 +43,7 @@ loop-again : tie.Need-loop-again Inv-loop μ-loop
 loop-again c =
     let args = c .before .before .before .before .before .before .before .before .before .before .before .before .before .before .args in
     let l = c .before .before .before .before .before .before .loop in
-    (omega arith, stored (elementLine (args .header .now) (args .a) (args .list .all)) 100000 0 _ _ (l .i) (l .inv .1) (c .before .before .put-element .ensures))
+    (omega arith, stored (linesAt (args .header .now) (args .a) (args .list .all)) 100100 0 _ _ (l .i) (l .inv .1) (c .before .before .put-lines .ensures))
 
 returns : tie.Need-returns Inv-loop μ-loop
 returns c =
@@ -52,7 +52,7 @@ returns c =
     let pre = c .before .before .before .before .before .before .before .before .before .pre in
     let head = c .before .before .before .before .put-bytes .ensures in
     let size = places (c .before .before .before .before .before .before .before .before .before) in
-    let lines = ended-all (elementLine (args .header .now) (args .a) (args .list .all)) 100000 _ _ (l .i) (l .inv .1) (args .list .len) (omega (arith, l .inv .0)) in
+    let lines = ended-all (linesAt (args .header .now) (args .a) (args .list .all)) 100100 _ _ (l .i) (l .inv .1) (args .list .len) (omega (arith, l .inv .0)) in
     (file-text (args .header .now) (args .a) (args .list) (omega (arith, pre .few)) head lines, omega (arith, head .moved, pre .few, pre .headed .short, l .inv .0, l .inv .1 .within))
 
 pub put-file-spec : {M : Type 1} → statement M
@@ -65,7 +65,7 @@ put-file-spec =
     loop-holds
     mul-e
     array-copy-out-e
-    put-element-requires
+    put-lines-requires
     (λ c. search needs)
     (λ c. search needs)
     loop-again

@@ -7,15 +7,15 @@ use borrow.Author.Needs.{needs}
 use Rattle.lists.proofs.element.element_at.Statement.{statement}
 use Rattle.lists.proofs.element.element_at.Tie as tie
 
-cast-t19 : tie.Need-cast-t19
-cast-t19 c = omega (arith, c .depth-at .ensures .0)
+cast-depth : tie.Need-cast-t21
+cast-depth c = omega (arith, c .depth-at .ensures .0)
 
 returns : tie.Need-returns
 returns c =
-    let start = c .before .before .before .before .before .before .before .before .before .before .before .before .before in
-    let word = c .before .before .word-of .ensures ∙ ap wordAt (c .before .before .before .word-at .ensures) in
-    element-made (start .args .file .now) (start .args .table .now) (start .args .places .now) (start .args .i) (start .pre .0) _ (c .before .before .before .before .before .before .kind-at .ensures)
-    _ (c .depth-at .ensures .0) _ (c .before .before .before .before .padded-name .ensures) _ word _ (c .before .masks-at .ensures)
+    let start = c .before .before .before .before .before .before .before .before .before .before .before .before .before .before .before .before in
+    element-made (start .args .file .now) (start .args .table .now) (start .args .places .now) (start .args .i) (start .pre .0) (start .pre .1) _ (c .before .before .before .before .before .before .before .before .before .kind-at .ensures)
+    _ (c .before .depth-at .ensures .0) _ (c .before .before .before .before .before .before .before .padded-name .ensures) _ (c .before .before .before .before .before .word-of .ensures ∙ ap wordAt (c .before .before .before .before .before .before .word-at .ensures)) _ (c .before .before .before .before .masks-at .ensures)
+    _ (c .obligation-count .ensures .0) _ (c .before .before .before .obligation-at .ensures) _ (c .before .before .obligation-at2 .ensures)
 
 pub element-at-spec : {M : Type 1} → statement M
 element-at-spec =
@@ -39,7 +39,11 @@ element-at-spec =
     (λ c κs. search needs)
     (λ c κs. search needs)
     (λ c κs. search needs)
-    cast-t19
+    (λ c κs. search needs)
+    (λ c κs. search needs)
+    cast-depth
     (λ c. search needs)
+    (λ c. search needs)
+    (λ c κs. c .before .before .before .before .before .before .before .before .before .before .before .before .before .before .before .pre .1 .room)
     (λ c. search needs)
     returns)

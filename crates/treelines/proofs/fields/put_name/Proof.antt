@@ -7,25 +7,11 @@ use borrow.Author.Needs.{needs}
 use Rattle.treelines.proofs.fields.put_name.Statement.{statement}
 use Rattle.treelines.proofs.fields.put_name.Tie as tie
 
-part-put-field-end : tie.Need-part-put-field-end
-part-put-field-end c =
-    let size : length (c .before .before .before .before .before .args .e .name) ≡ 16 = search needs in
-    search needs
-
 returns : tie.Need-returns
 returns c =
-    let e = c .before .before .before .before .before .before .before .before .before .args .e in
-    let size : length (e .name) ≡ 16 = search needs in
-    name-put (e .name) (e .len) (omega arith) (c .before .before .before .before .before .before .before .before .before .pre .0) (c .before .before .put-field .ensures)
+    let a = c .before .before .before .before .before .before .before .args in
+    let size : length (a .t1) ≡ 16 = search needs in
+    name-put (a .t1) (a .len) (omega arith) (c .before .before .before .before .before .before .before .pre .0) (c .before .before .put-field .ensures)
 
 pub put-name-spec : {M : Type 1} → statement M
-put-name-spec =
-    tie.close
-    (tie.spec
-    (λ c. search needs)
-    (λ c. search needs)
-    (λ c. search needs)
-    part-put-field-end
-    (λ c κs. search needs)
-    (λ c. search needs)
-    returns)
+put-name-spec = tie.close (tie.spec (λ c. search needs) (λ c. search needs) (λ c. search needs) (λ c κs. search needs) (λ c. search needs) returns)
