@@ -3,13 +3,14 @@
 use mathlib.Core.Path.{_≡_, refl}
 use lib.ListN.{take}
 use Rattle.meaning.specs.declared.Answer.{Answer}
+use Rattle.meaning.specs.declared.Decided.{Decided}
 use Rattle.meaning.specs.Text.{Bytes}
 use Rattle.meaning.specs.Model.{given, _then_}
 use Rattle.meaning.specs.Reading.{read}
 use Rattle.meaning.specs.Trimming.{trimmed}
 use Rattle.meaning.specs.Report.{report}
 use Rattle.meaning.specs.ValuePairs.{pairsNamed}
-use Rattle.meaning.specs.Operations.{decideAnswer, trimAnswer, trimLent, reportAnswer, reportLent, valuePairsAnswer, valuePairsLent}
+use Rattle.meaning.specs.Operations.{decideAnswer, decideLent, trimAnswer, trimLent, reportAnswer, reportLent, valuePairsAnswer, valuePairsLent}
 use Rattle.meaning.specs.Claims.Operations.{Writes}
 use Rattle.laws.proofs.Operations.{operations}
 
@@ -36,8 +37,10 @@ ValuePairs name = TextOperation (λ file buffer. valuePairsAnswer file name buff
 
 -- All four
 pub record Operate : Type 0 where
-  pub decide : (file request : Bytes) → Answer
-  pub decide-is : (f r : Bytes) → decide f r ≡ decideAnswer f r
+  pub decide : (file request buffer : Bytes) → Decided
+  pub decide-after : (file request buffer : Bytes) → Bytes
+  pub decide-is : (f r b : Bytes) → decide f r b ≡ decideAnswer f r b
+  pub decide-after-is : (f r b : Bytes) → decide-after f r b ≡ decideLent f r b
   pub trim : Trim
   pub report : Report
   pub value-pairs : (name : Bytes) → ValuePairs name
@@ -46,7 +49,9 @@ pub record Operate : Type 0 where
 pub as-defined : Operate
 as-defined = record {
   decide = decideAnswer;
-  decide-is = λ f r. refl;
+  decide-after = decideLent;
+  decide-is = λ f r b. refl;
+  decide-after-is = λ f r b. refl;
   trim = record { answer = trimAnswer; after = trimLent; answer-is = λ f b. refl; after-is = λ f b. refl };
   report = record { answer = reportAnswer; after = reportLent; answer-is = λ f b. refl; after-is = λ f b. refl };
   value-pairs = λ name. record { answer = λ f b. valuePairsAnswer f name b; after = λ f b. valuePairsLent f name b; answer-is = λ f b. refl; after-is = λ f b. refl };

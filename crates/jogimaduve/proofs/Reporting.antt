@@ -23,4 +23,5 @@ held f table places r p h holds s shaped = subst (PolicyHeld f table places) (sy
       space-is = space-is f table places r p h holds;
       ready = ready f table places r p h holds (policyShape r) refl none-struck (omega arith) refl;
       naming = naming f table places r p h holds;
+      obliged = holds .obliged;
     })

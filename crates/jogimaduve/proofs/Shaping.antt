@@ -1,7 +1,6 @@
 -- What a file that was read gives to trimming: the shape of its policy, and where its lines start.
 use mathlib.Core.Path.{_≡_, refl, sym, ap, ap₂, _∙_, subst}
-use Prim.Native.Nat.{ℕ, zero, suc, _+_, _-_, _≤_, _<_}
-use native.Mathlib.Nat.{le-trans}
+use Prim.Native.Nat.{ℕ, zero, suc, _≤_, _<_}
 use native.Mathlib.Omega.{arith}
 use mathlib.Core.List.{List}
 use lib.ListN.{length, getD, replicate, getD-replicate, length-set}
@@ -12,31 +11,23 @@ use Rattle.meaning.specs.Deciding.{requestOf, matches, firstDecision, hits, dec
 use Rattle.laws.proofs.Bounds.{bounded}
 use Rattle.laws.proofs.Requests.{product-pos}
 use Rattle.laws.proofs.Answers.{positive}
-use Rattle.table.specs.Tree.{left, Leaves}
+use Rattle.table.specs.Tree.{left}
 use Rattle.table.specs.declared.Shape.{Shape}
 use Rattle.table.specs.Shape.{countsOf, severalsOf, hitOf}
 use Rattle.table.proofs.Children.{none-struck as no-rule-struck}
 use Rattle.outcomes.specs.Decided.{none-struck, decidedAt}
 use Rattle.outcomes.specs.PolicyTable.{PolicyTable}
-use Rattle.layout.specs.Places.{FewValues, lineStart, placed}
+use Rattle.layout.specs.Places.{FewValues, placed}
 use Rattle.layout.proofs.Laws.{attributes-length, decided}
 use Rattle.layout.proofs.Counts.{sizes-are, severals-are, sets-counted}
 use Rattle.reader.specs.declared.Reading.{Reading}
 use Rattle.reader.specs.Told.{policyShape, ReadPolicy}
-use Rattle.reader.proofs.FileRead.{elements-are, few}
+use Rattle.reader.proofs.FileRead.{few}
+use Rattle.trimming.specs.Steady.{Steady}
 use Rattle.trimmed_text.specs.Copied.{Copies}
-use Rattle.trimmed_text.proofs.Tabled.{root-word, leaves as rules-are-leaves}
-
--- Lines start one behind the other
-start-rises : (f : Bytes) (k : ℕ) → lineStart f k ≤ lineStart f (suc k)
-unfolding lineStart
-start-rises f k = omega arith
-
-start-below : (f : Bytes) (k d : ℕ) → lineStart f k ≤ lineStart f (k + d)
-start-below f k zero = let same-place : k + 0 ≡ k = omega arith in rw same-place (omega arith)
-start-below f k (suc d) =
-    let later : k + suc d ≡ suc (k + d) = omega arith in
-    rw later (le-trans (start-below f k d) (start-rises f (k + d)))
+use Rattle.trimmed_text.proofs.Placed.{copies-lined}
+use Rattle.trimmed_text.proofs.ByPlace.{root-word, leaves}
+use Rattle.trimmed_text.proofs.Steadying.{steady}
 
 -- the attributes of some lines have six places
 letter-places : (f : Bytes) (n : ℕ) → length (placed f n .several) ≡ 6
@@ -67,9 +58,6 @@ module _ (f table places : List ℕ) (r : Reading) (p : Policy) (h : read f ≡ 
   pub space-is : r .space ≡ space (p .attributes)
   space-is = holds .space-is ∙ ap space (sym (holds .attributes))
 
-  leaves : Leaves table (r .elements)
-  leaves = rules-are-leaves f p h table places (r .elements) (holds .elements) (elements-are f table places r p h holds) (hitOf (policyShape r)) (r .space) hits-are space-is
-
   pub ready : (s : Shape) → s ≡ policyShape r → (struck : List ℕ) → 64 ≤ length struck → struck ≡ replicate 64 0 → PolicyTable table struck s
   ready s shaped struck room none = subst (PolicyTable table struck) (sym shaped)
       (record {
@@ -77,14 +65,17 @@ module _ (f table places : List ℕ) (r : Reading) (p : Policy) (h : read f ≡ 
         flags = omega (arith, few f table places r p h holds);
         some = holds .some;
         few = few f table places r p h holds;
-        root = root-word f p h table places (r .elements) (holds .elements) (elements-are f table places r p h holds) (hitOf (policyShape r)) (r .space) hits-are space-is (holds .some);
+        root = root-word f p h table places (r .elements) (holds .elements) (holds .some);
         stays = ap (λ flags. getD flags 0 0) none;
-        leaves = leaves;
+        leaves = leaves f p h table places (r .elements) (holds .elements);
         rules = no-rule-struck table struck (r .elements) (λ k l. ap (λ flags. getD flags k 0) none ∙ getD-replicate 64 k 0 0 (omega (arith, few f table places r p h holds)));
         counted = record { attributes = holds .spaced .standing .few; sets = λ i l several. (getD (r .attributes .counts) i 0, sets-counted (r .attributes) i l several); all = ap product counts-are ∙ sym space-is };
         positive = subst (λ m. 0 < m) (sym space-is) (product-pos (sizes (p .attributes)) (positive (p .attributes) (bounded f p h .attributes-good)));
         small = rw (holds .space-is) (holds .spaced .small);
       })
+
+  pub steady-read : (s : Shape) → s ≡ policyShape r → Steady f places table s
+  steady-read s shaped = subst (Steady f places table) (sym shaped) (steady f p h table places (policyShape r) (holds .elements) (holds .obliged))
 
   -- what the table decides is what the policy does
   pub decided-are : (m : ℕ) → decidedAt table (r .elements) (hitOf (policyShape r)) none-struck m ≡ decisionOn p m
@@ -94,14 +85,4 @@ module _ (f table places : List ℕ) (r : Reading) (p : Policy) (h : read f ≡ 
       ∙ decided f table places none-struck (r .elements) p (requestOf (sizes (p .attributes)) m) (holds .elements) (λ k l. getD-replicate 64 k 0 0 (omega (arith, few f table places r p h holds)))
 
   pub copies : (struck : List ℕ) → 64 ≤ length struck → Copies f places struck (r .elements)
-  copies struck room =
-      let a = r .attributes .len in
-      record {
-        some = holds .some;
-        room = holds .rooms .named .room;
-        flags = omega (arith, few f table places r p h holds);
-        rising = λ i l. let next : a + (i + 1) ≡ suc (a + i) = omega arith in
-            rw (holds .lined .starts i (omega arith), holds .lined .starts (i + 1) l, next) (start-rises f (a + i));
-        inside = λ i l. let whole : a + i + (r .elements - i) ≡ a + r .elements = omega arith in
-            rw (holds .lined .starts i l, holds .lined .next) (subst (λ m. lineStart f (a + i) ≤ lineStart f m) whole (start-below f (a + i) (r .elements - i)));
-      }
+  copies struck room = copies-lined f places struck (r .attributes .len) (r .elements) (holds .lined) (holds .some) (holds .rooms .named .room) (omega (arith, few f table places r p h holds))

@@ -1,5 +1,5 @@
 -- The answer to trimming, from what was read and the flags at the end.
-use mathlib.Core.Path.{_≡_, sym, ap, _∙_, subst}
+use mathlib.Core.Path.{_≡_, refl, sym, ap, _∙_, subst}
 use Prim.Native.Nat.{ℕ, _≤_, _<_}
 use native.Mathlib.Omega.{arith}
 use mathlib.Core.List.{List}
@@ -34,7 +34,7 @@ small-text f p h needed l = omega (arith, accepted f p h .size)
 
 -- The flags that striking leaves
 module _ (f table places : List ℕ) (r : Reading) (p : Policy) (h : read f ≡ given p) (holds : ReadPolicy f table places r p) (s : Shape) (shaped : s ≡ policyShape r)
-    (flags : List ℕ) (struck : flags ≡ table-level.trimmingAt table (s .n) (hitOf s) (s .space) (s .n) none-struck .flags) where
+    (flags : List ℕ) (struck : flags ≡ table-level.trimmingAt f places table (s .n) (hitOf s) (s .space) (s .n) none-struck .flags) where
   abbrev text : Bytes
   text = copied f places flags (r .elements)
 
@@ -43,11 +43,11 @@ module _ (f table places : List ℕ) (r : Reading) (p : Policy) (h : read f ≡ 
   text-is =
       let n = r .elements in
       let size = elements-are f table places r p h holds in
-      let here = subst (λ s. flags ≡ table-level.trimmingAt table (s .n) (hitOf s) (s .space) (s .n) none-struck .flags) shaped struck in
-      let same-flags = ap (λ t. t .flags) (trimming-is f p h table places n (holds .elements) size (hitOf (policyShape r)) (r .space) (hits-are f table places r p h holds) (space-is f table places r p h holds) n none-struck) in
+      let here = subst (λ s. flags ≡ table-level.trimmingAt f places table (s .n) (hitOf s) (s .space) (s .n) none-struck .flags) shaped struck in
+      let same-flags = ap (λ t. t .flags) (trimming-is f p h table places n (holds .elements) size (hitOf (policyShape r)) (r .space) (hits-are f table places r p h holds) (space-is f table places r p h holds) n none-struck refl) in
       ap (λ t. t .text) (trimmed-flags f p h n none-struck none-clear (omega (arith, size, few f table places r p h holds)) (omega (arith, size)))
       ∙ ap (textLeft f p) (sym same-flags ∙ sym here)
-      ∙ text-copied f p h places flags (r .attributes .len) n (attributes-are f table places r p h holds) size (holds .lined) (holds .some)
+      ∙ text-copied f p h table places flags (r .attributes .len) n (attributes-are f table places r p h holds) (holds .elements) size (holds .lined) (holds .some)
 
   -- that text fitted to the buffer
   pub trim-fitted : {out new : Bytes} {a : Answer} → Fitted out text new a → (a ≡ trimAnswer f out) × (new ≡ trimLent f out)

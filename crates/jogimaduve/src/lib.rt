@@ -1,34 +1,43 @@
 // The operations for C callers.
 use meaning::Answer;
+use meaning::Decided;
 ghost use mathlib.Core.Path.{_≡_};
-ghost use Rattle.meaning.specs.Operations.{decideAnswer, trimAnswer, trimLent, reportAnswer, reportLent, valuePairsAnswer, valuePairsLent};
+ghost use Rattle.meaning.specs.Operations.{decideAnswer, decideLent, trimAnswer, trimLent, reportAnswer, reportLent, valuePairsAnswer, valuePairsLent};
 
-// What a policy file decides on a request line.
+// The answer of a request that is not decided.
+fn refused(answer: Answer) -> Decided
+    ensures { λ r. ⌜ r ≡ record { number = answer .number; second = answer .second; length = 0 } ⌝ }
+{
+    Decided {
+        number: answer.number,
+        second: answer.second,
+        length: 0,
+    }
+}
+
+// What a policy file decides on a request line, and in a lent buffer the obligations that come with it.
 #[no_mangle]
-pub extern "C" fn jogimaduve_decide(file: &[u8], request: &[u8]) -> Answer
-    ensures { λ r. ⌜ r ≡ decideAnswer (now (file .entry)) (now (request .entry)) ⌝ }
+pub extern "C" fn jogimaduve_decide(file: &[u8], request: &[u8], out: &mut [u8]) -> Decided
+    ensures { λ r. ⌜ r ≡ decideAnswer (now (file .entry)) (now (request .entry)) (now (out .entry)) ⌝ }
+    ensures { λ r. ⌜ now (out .exit) ≡ decideLent (now (file .entry)) (now (request .entry)) (now (out .entry)) ⌝ }
 {
     let mut table = [0u16; 512];
-    let mut places = [0usize; 128];
+    let mut places = [0usize; 384];
     let reading = reader::read(file, &mut table, &mut places);
     if reading.number != 0 {
-        return reader::refusal(reading);
+        return refused(reader::refusal(reading));
     }
     let attributes = reading.attributes;
     let asked = request_lines::request_line(file, attributes, request);
     if !asked.good {
-        return Answer {
+        let answer = Answer {
             number: 10,
             second: asked.place as u32,
         };
+        return refused(answer);
     }
-    let struck = [0u8; 64];
     let q = asked.request;
-    let decision = decisions::decide(&table, &struck, reading.elements, q);
-    Answer {
-        number: 0,
-        second: decisions::decision_number(decision) as u32,
-    }
+    deciding::answer(file, &table, &places, reading.elements, q, out)
 }
 
 // The trimmed text of a policy file, in a lent buffer.
@@ -38,14 +47,15 @@ pub extern "C" fn jogimaduve_trim(file: &[u8], out: &mut [u8]) -> Answer
     ensures { λ r. ⌜ now (out .exit) ≡ trimLent (now (file .entry)) (now (out .entry)) ⌝ }
 {
     let mut table = [0u16; 512];
-    let mut places = [0usize; 128];
+    let mut places = [0usize; 384];
     let reading = reader::read(file, &mut table, &mut places);
     if reading.number != 0 {
         return reader::refusal(reading);
     }
     let n = reading.elements;
     let mut struck = [0u8; 64];
-    trimming::strike(&table, &mut struck, reader::policy_shape(reading));
+    let shape = reader::policy_shape(reading);
+    trimming::strike(file, &places, &table, &mut struck, shape);
     let mut none = [0u8; 0];
     let needed = trimmed_text::put_text(file, &places, &struck, n, &mut none);
     let room = out.len();
@@ -61,7 +71,7 @@ pub extern "C" fn jogimaduve_report(file: &[u8], out: &mut [u8]) -> Answer
     ensures { λ r. ⌜ now (out .exit) ≡ reportLent (now (file .entry)) (now (out .entry)) ⌝ }
 {
     let mut table = [0u16; 512];
-    let mut places = [0usize; 128];
+    let mut places = [0usize; 384];
     let reading = reader::read(file, &mut table, &mut places);
     if reading.number != 0 {
         return reader::refusal(reading);
@@ -76,7 +86,7 @@ pub extern "C" fn jogimaduve_value_pairs(file: &[u8], attribute: &[u8], out: &mu
     ensures { λ r. ⌜ now (out .exit) ≡ valuePairsLent (now (file .entry)) (now (attribute .entry)) (now (out .entry)) ⌝ }
 {
     let mut table = [0u16; 512];
-    let mut places = [0usize; 128];
+    let mut places = [0usize; 384];
     let reading = reader::read(file, &mut table, &mut places);
     if reading.number != 0 {
         return reader::refusal(reading);

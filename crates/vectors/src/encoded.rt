@@ -4,6 +4,7 @@ use crate::lending::Lent;
 use libc::STDOUT_FILENO;
 use meaning::Element;
 use meaning::Kind;
+use meaning::Obligation;
 use meaning::Word;
 ghost use Prim.Native.Nat.{_≤_, _<_};
 ghost use lib.ListN.{length};
@@ -41,17 +42,20 @@ fn word_of(number: u8) -> Word {
     }
 }
 
-fn name_of(bytes: [u8; 32]) -> [u8; 16] {
+// The 16 bytes from a place on.
+fn name_of(bytes: [u8; 69], at: usize) -> [u8; 16]
+    requires { ⌜ at ≤ 51 ⌝ }
+{
     let mut name = [0u8; 16];
     let mut i = 0;
     while i < 16 {
-        name[i] = bytes[2 + i];
+        name[i] = bytes[at + i];
         i += 1;
     }
     name
 }
 
-fn masks_of(bytes: [u8; 32]) -> [u16; 6] {
+fn masks_of(bytes: [u8; 69]) -> [u16; 6] {
     let mut masks = [0u16; 6];
     let mut i = 0;
     while i < 6 {
@@ -61,14 +65,29 @@ fn masks_of(bytes: [u8; 32]) -> [u16; 6] {
     masks
 }
 
-// The next element of a file: kind, depth, name, the name's length, word, masks.
+// A place for an obligation: name, the name's length, word.
+fn obligation_of(bytes: [u8; 69], at: usize) -> Obligation
+    requires { ⌜ at ≤ 51 ⌝ }
+{
+    let name = name_of(bytes, at);
+    let word = word_of(bytes[at + 17]);
+    Obligation {
+        name,
+        len: bytes[at + 16],
+        word,
+    }
+}
+
+// The next element of a file: kind, depth, name, the name's length, word, masks, the count of obligations, and two places.
 fn read_element(fd: i32) -> Element {
-    let mut bytes = [0u8; 32];
+    let mut bytes = [0u8; 69];
     io::read_full(fd, &mut bytes);
     let kind = kind_of(bytes[0]);
-    let name = name_of(bytes);
+    let name = name_of(bytes, 2);
     let word = word_of(bytes[19]);
     let masks = masks_of(bytes);
+    let first = obligation_of(bytes, 33);
+    let second = obligation_of(bytes, 51);
     Element {
         kind,
         depth: bytes[1],
@@ -76,6 +95,9 @@ fn read_element(fd: i32) -> Element {
         len: bytes[18],
         word,
         masks,
+        obligations: bytes[32],
+        first,
+        second,
     }
 }
 

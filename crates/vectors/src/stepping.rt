@@ -144,7 +144,7 @@ fn step_all(table: &[u16], struck: &[u8], shape: Shape, told: &[u8], shown: bool
 // Whether all requests of a file are as its report says; refused files count, and of one that has no report the numbers.
 pub(crate) fn stepped(file: &[u8], report: &[u8]) -> bool {
     let mut table = [0u16; 512];
-    let mut places = [0usize; 128];
+    let mut places = [0usize; 384];
     let reading = reader::read(file, &mut table, &mut places);
     if reading.number != 0 {
         return true;

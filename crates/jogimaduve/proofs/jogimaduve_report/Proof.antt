@@ -1,6 +1,8 @@
 -- `jogimaduve_report` meets its contract: the file's refusal, or the report.
 use mathlib.Core.Path.{_∙_}
+use native.Mathlib.Omega.{arith}
 use Rattle.meaning.specs.Report.{reportFile}
+use Rattle.layout.proofs.Slots.{zeros-clear}
 use Rattle.reader.proofs.FileRead.{small-numbers, file-read}
 use Rattle.jogimaduve.proofs.Refusing.{refusal}
 use Rattle.jogimaduve.proofs.Shaping.{sizable}
@@ -8,6 +10,9 @@ use Rattle.jogimaduve.proofs.Reporting.{held}
 use borrow.Author.Needs.{needs}
 use Rattle.jogimaduve.proofs.jogimaduve_report.Statement.{statement}
 use Rattle.jogimaduve.proofs.jogimaduve_report.Tie as tie
+
+read-requires : tie.Need-read-requires
+read-requires c κs = (omega arith, omega arith, zeros-clear 384)
 
 refusal-requires : tie.Need-refusal-requires
 refusal-requires c κs = small-numbers _ _ _ _ (c .before .before .before .before .read .ensures .answer) (c .if1 .taken)
@@ -34,7 +39,7 @@ jogimaduve-report-spec =
     (tie.spec
     (λ c. search needs)
     (λ c. search needs)
-    (λ c κs. search needs)
+    read-requires
     refusal-requires
     returns
     (λ c. search needs)

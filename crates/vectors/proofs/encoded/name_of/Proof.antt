@@ -4,10 +4,10 @@ use Rattle.vectors.proofs.encoded.name_of.Statement.{statement}
 use Rattle.vectors.proofs.encoded.name_of.Tie as tie
 
 abbrev Inv-loop : tie.InvT-loop
-Inv-loop bytes name₀ i₀ name i = i ≤ 16
+Inv-loop at bytes name₀ i₀ name i = i ≤ 16
 
 abbrev μ-loop : tie.MeasureT-loop
-μ-loop bytes name₀ i₀ name i = 16 - i
+μ-loop at bytes name₀ i₀ name i = 16 - i
 
 pub name-of-spec : {M : Type 1} → statement M
 name-of-spec =

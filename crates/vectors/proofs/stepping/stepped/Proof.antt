@@ -1,5 +1,7 @@
 use mathlib.Core.Path.{refl}
 use native.Mathlib.Omega.{arith}
+use lib.Dec.{lit≤}
+use Rattle.layout.proofs.Slots.{zeros-clear}
 use Rattle.reader.proofs.FileRead.{file-read}
 use Rattle.jogimaduve.proofs.Shaping.{sizable, ready}
 use borrow.Author.Needs.{needs}
@@ -22,7 +24,7 @@ stepped-spec =
     (tie.spec
     (λ c. search needs)
     (λ c. search needs)
-    (λ c κs. search needs)
+    (λ c κs. (lit≤ tt, lit≤ tt, zeros-clear 384))
     (λ c. search needs)
     policy-shape-requires
     (λ c. search needs)
