@@ -2,11 +2,11 @@
  *
  * Every operation takes a policy file as bytes and relies on no earlier call. It keeps nothing, allocates nothing and
  * may be called from several threads at once. Pointers must not be NULL, also where a length is 0. The buffer must not
- * overlap the file or a name: a text that is written over its own file comes out wrong, with no sign of it.
+ * overlap the file, a request or a name: a text that is written over its own file comes out wrong, with no sign of it.
  *
- * Each answers two numbers. `number` is 0 where the operation did its work; `second` is then its result. Any other
- * `number` is a refusal, so test it first: the `second` of a refusal can be JOGIMADUVE_PERMIT. A refused operation
- * leaves lent memory as it was. A buffer of length 0 asks for the bytes that a text needs.
+ * Each answers two numbers, jogimaduve_decide three. `number` is 0 where the operation did its work; `second` is then its
+ * result. Any other `number` is a refusal, so test it first: the `second` of a refusal can be JOGIMADUVE_PERMIT. A refused
+ * operation leaves lent memory as it was. A buffer of length 0 asks for the bytes that a text needs.
  */
 #ifndef JOGIMADUVE_H
 #define JOGIMADUVE_H
@@ -14,7 +14,7 @@
 #include <stddef.h>
 #include <stdint.h>
 
-#define JOGIMADUVE_VERSION "1.3.0"
+#define JOGIMADUVE_VERSION "2.0.0"
 
 #ifdef __cplusplus
 extern "C" {
@@ -25,13 +25,19 @@ typedef struct {
     uint32_t second;
 } jogimaduve_answer;
 
+typedef struct {
+    uint32_t number;
+    uint32_t second;
+    uint32_t length; /* of the obligations in the buffer; 0 with a refusal */
+} jogimaduve_decision;
+
 /* `number`, and what `second` is then. Lines and places count from 1. */
 enum {
     JOGIMADUVE_DONE = 0,
     JOGIMADUVE_TOO_LONG = 1,      /* 0: the file exceeds JOGIMADUVE_LONGEST_FILE bytes */
     JOGIMADUVE_BAD_LINE = 2,      /* line: empty line or field, other byte, no last newline, wrong first field or field count */
     JOGIMADUVE_BAD_NAME = 3,      /* line: a name not of 1 to 16 of a-z, A-Z, 0-9 and hyphen, or with a hyphen first */
-    JOGIMADUVE_NAME_USED = 4,     /* line: name used before, letter case aside */
+    JOGIMADUVE_NAME_USED = 4,     /* line: name used before, letter case aside; of an obligation, on its element */
     JOGIMADUVE_TOO_MANY = 5,      /* line: attribute 7, value 17 (of an M line: 13), space over 4,096, element 65 */
     JOGIMADUVE_BAD_PLACE = 6,     /* line: attribute behind a tree line, tree line before any, bad depth, place or parent */
     JOGIMADUVE_BAD_WORD = 7,      /* line: word not allowed for its kind */
@@ -39,19 +45,22 @@ enum {
     JOGIMADUVE_NO_ELEMENT = 9,    /* 0: no tree line */
     JOGIMADUVE_BAD_REQUEST = 10,  /* place of the first request field that is no value, or no set of values; 0 if the field count is wrong */
     JOGIMADUVE_SHORT_BUFFER = 11, /* bytes: so many are needed */
-    JOGIMADUVE_NO_M_LINE = 13     /* 0: the name given is not that of an attribute of an M line; told before 11 */
+    JOGIMADUVE_NO_M_LINE = 13,    /* 0: the name given is not that of an attribute of an M line; told before 11 */
+    JOGIMADUVE_BAD_OBLIGATION = 14 /* line: an O line not behind S, P or O, or the third of its element; told before 7 */
 };
 
 /* What a request gets: `second` of jogimaduve_decide. */
 enum { JOGIMADUVE_PERMIT = 0, JOGIMADUVE_DENY = 1, JOGIMADUVE_NOT_APPLICABLE = 2, JOGIMADUVE_INDETERMINATE = 3 };
 
-/* Sizes in bytes: the longest file, and so the longest trimmed text; the longest request that can be good; a buffer for
- * the report of most files; and the stack that an operation may use, to be added to what a thread needs besides. */
+/* Sizes in bytes: the longest file, and so the longest trimmed text; the longest request that can be good; the most
+ * that a decision's obligations can have, which is 110 names; a buffer for the report of most files; and the stack that an
+ * operation may use, to be added to what a thread needs besides. */
 enum {
     JOGIMADUVE_LONGEST_FILE = 16384,
     JOGIMADUVE_LONGEST_REQUEST = 288,
+    JOGIMADUVE_LONGEST_OBLIGATIONS = 1870,
     JOGIMADUVE_REPORT_BUFFER = 65536,
-    JOGIMADUVE_DECIDE_STACK = 16384,
+    JOGIMADUVE_DECIDE_STACK = 65536,
     JOGIMADUVE_TRIM_STACK = 65536,
     JOGIMADUVE_REPORT_STACK = 262144,
     JOGIMADUVE_VALUE_PAIRS_STACK = 65536
@@ -59,13 +68,21 @@ enum {
 
 /* Decides a request: one field for each attribute of the file, in order, parted by tabs, no newline. For an attribute of an
  * A line it is a value's name; for one of an M line the names of one or more values, each once and in the order of that
- * line, parted by commas: a target matches if it has one of them. Names may be in any letter case. */
-jogimaduve_answer jogimaduve_decide(const uint8_t *file, size_t file_length,
-                                    const uint8_t *request, size_t request_length);
+ * line, parted by commas: a target matches if it has one of them. Names may be in any letter case.
+ *
+ * With permit and deny come the obligations of the file's O lines: the names of those for this decision, of the elements
+ * that were asked and gave it, each element above them too, in file order, with a newline behind each. They go into the
+ * buffer and `length` is the length of that text; bytes behind it stay as they were. Only a caller that carries out the
+ * obligations may move the arm on permit: one that doesn't know a name among them must not. Not-applicable and indeterminate
+ * give none and need no room. */
+jogimaduve_decision jogimaduve_decide(const uint8_t *file, size_t file_length,
+                                      const uint8_t *request, size_t request_length,
+                                      uint8_t *buffer, size_t buffer_length);
 
 /* Strikes the rules that do no work: the file's lines less theirs go into the buffer, and `second` is the length of that
- * text, never more than the file's. It decides every request as the file does, faults of the file included: a rule that is
- * struck would not come back if they were repaired in the text. Bytes behind the text stay as they were. */
+ * text, never more than the file's. It decides every request as the file does, with the same obligations, faults of the file
+ * included: a rule that is struck would not come back if they were repaired in the text. Bytes behind the text stay as they
+ * were. */
 jogimaduve_answer jogimaduve_trim(const uint8_t *file, size_t file_length, uint8_t *buffer, size_t buffer_length);
 
 /* Reports on a file: its segments (G), conflicts (C), the rules that trimming strikes (X) and those that it keeps (K), as
@@ -75,10 +92,10 @@ jogimaduve_answer jogimaduve_report(const uint8_t *file, size_t file_length, uin
 
 /* Tells where two values of an attribute of an M line get another decision than one of them alone. The attribute is given by
  * its name, in any letter case. For each pair of its values and each choice of the other attributes there is a line (D) if
- * the decision with both values differs from that with the earlier alone or with the later alone: the number of the request
- * with both, the decision with both, with the earlier, with the later, as fields parted by tabs; the lines rise by that
- * number. The text goes into the buffer and `second` is its length, 0 where there is no such pair. Bytes behind the text
- * stay as they were. */
+ * the decision with both values differs from that with the earlier alone or with the later alone, obligations aside: the
+ * number of the request with both, the decision with both, with the earlier, with the later, as fields parted by tabs; the
+ * lines rise by that number. The text goes into the buffer and `second` is its length, 0 where there is no such pair. Bytes
+ * behind the text stay as they were. */
 jogimaduve_answer jogimaduve_value_pairs(const uint8_t *file, size_t file_length,
                                          const uint8_t *attribute, size_t attribute_length,
                                          uint8_t *buffer, size_t buffer_length);
