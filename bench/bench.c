@@ -20,7 +20,7 @@ enum { ROUNDS = 7, TEXT_BYTES = 6 << 20 };
 static const double round_seconds = 0.02, most_seconds = 0.4; /* of a round; of all rounds if calls are long */
 
 struct side {
-    jogimaduve_answer (*decide)(const uint8_t *, size_t, const uint8_t *, size_t);
+    jogimaduve_decision (*decide)(const uint8_t *, size_t, const uint8_t *, size_t, uint8_t *, size_t);
     jogimaduve_answer (*text[2])(const uint8_t *, size_t, uint8_t *, size_t); /* trim, report */
     jogimaduve_answer (*pairs)(const uint8_t *, size_t, const uint8_t *, size_t, uint8_t *, size_t);
     uint8_t *buffer;
@@ -35,19 +35,27 @@ static const char *const operation_names[OPERATIONS] = {"decide", "trim", "repor
 
 static volatile uint32_t seen; /* keeps calls from being left out */
 
-/* Decides one request line, or fills the buffer. */
-static jogimaduve_answer call(const struct side *side, const struct policy_file *file, int operation, unsigned number)
+/* Decides one request line, or fills the buffer with a text alone. */
+static jogimaduve_decision call(const struct side *side, const struct policy_file *file, int operation, unsigned number)
 {
     static const uint8_t none[1];
+    jogimaduve_answer answer;
 
     if (operation == REFUSE)
-        return side->decide(file->bytes, file->length, none, 0);
+        return side->decide(file->bytes, file->length, none, 0, side->buffer, TEXT_BYTES);
     if (operation == DECIDE)
         return side->decide(file->bytes, file->length, file->request[number % file->requests],
-                            file->request_length[number % file->requests]);
+                            file->request_length[number % file->requests], side->buffer, TEXT_BYTES);
     if (operation == PAIRS)
-        return side->pairs(file->bytes, file->length, file->sets, file->sets_length, side->buffer, TEXT_BYTES);
-    return side->text[operation - TRIM](file->bytes, file->length, side->buffer, TEXT_BYTES);
+        answer = side->pairs(file->bytes, file->length, file->sets, file->sets_length, side->buffer, TEXT_BYTES);
+    else
+        answer = side->text[operation - TRIM](file->bytes, file->length, side->buffer, TEXT_BYTES);
+    return (jogimaduve_decision){answer.number, answer.second, 0};
+}
+
+static int same_answers(jogimaduve_decision one, jogimaduve_decision other)
+{
+    return one.number == other.number && one.second == other.second && one.length == other.length;
 }
 
 static void check_same(const struct policy_file *file, int operation)
@@ -57,13 +65,14 @@ static void check_same(const struct policy_file *file, int operation)
     memset(library_text, 255, TEXT_BYTES);
     memset(plain_text, 255, TEXT_BYTES);
     for (unsigned i = 0; i < calls; i++) {
-        jogimaduve_answer library = call(&sides[0], file, operation, i), plain = call(&sides[1], file, operation, i);
-        if (library.number == plain.number && library.second == plain.second
-            && memcmp(library_text, plain_text, TEXT_BYTES) == 0 && (library.number == 0) == (operation != REFUSE))
+        jogimaduve_decision library = call(&sides[0], file, operation, i), plain = call(&sides[1], file, operation, i);
+        if (same_answers(library, plain) && memcmp(library_text, plain_text, TEXT_BYTES) == 0
+            && (library.number == 0) == (operation != REFUSE))
             continue;
-        fprintf(stderr, "%s, %s: library %lu %lu, plain %lu %lu, or other bytes\n", file->name,
+        fprintf(stderr, "%s, %s: library %lu %lu %lu, plain %lu %lu %lu, or other bytes\n", file->name,
                 operation_names[operation], (unsigned long)library.number, (unsigned long)library.second,
-                (unsigned long)plain.number, (unsigned long)plain.second);
+                (unsigned long)library.length, (unsigned long)plain.number, (unsigned long)plain.second,
+                (unsigned long)plain.length);
         exit(1);
     }
 }

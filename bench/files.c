@@ -239,6 +239,8 @@ int make_file(struct policy_file *file, unsigned number)
         "largest", "long-lists",
         "flat-deny", "flat-permit", "flat-first", "all-needed", "none-needed-first", "none-needed-permit",
         "needless-first", "deep", "only-one", "many-policies", "sets-of-12", "sets-of-6-and-6", "every-pair",
+        "obliged-lab-12", "obliged-lab-25", "obliged-badge-25", "obliged-deep", "obliged-policies", "obliged-late",
+        "obliged-alike",
         "refused-target", "refused-name", "refused-values",
     };
     enum { FILES = sizeof names / sizeof *names };
@@ -269,11 +271,18 @@ int make_file(struct policy_file *file, unsigned number)
     case 23: sets(file, &shape, 1, 12); break;
     case 24: sets(file, &shape, 2, 6); break;
     case 25: every_pair(file, &shape); break;
-    case 26: bad_last_target(file, &shape); break;
-    case 27: name_again(file, &shape); break;
+    case 26: small_laboratory(file, &shape, 'A'); oblige_laboratory(file); break;
+    case 27: common_laboratory(file, &shape, 'A', "first-applicable"); oblige_laboratory(file); break;
+    case 28: common_laboratory(file, &shape, 'M', "deny-overrides"); oblige_laboratory(file); break;
+    case 29: deep(file, &shape); oblige_all(file); break;
+    case 30: many_policies(file, &shape); oblige_all(file); break;
+    case 31: obliged_late(file, &shape); break;
+    case 32: obliged_alike(file, &shape); break;
+    case 33: bad_last_target(file, &shape); break;
+    case 34: name_again(file, &shape); break;
     default: many_values(file, &shape); break;
     }
-    if (number < 26)
+    if (number < 33)
         make_requests(file, &shape);
     return 1;
 }

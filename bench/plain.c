@@ -82,7 +82,30 @@ static bool shares(const uint64_t values[2], const uint16_t lanes[LANES])
     return all == ~low;
 }
 
-jogimaduve_answer plain_decide(const uint8_t *file, size_t file_length, const uint8_t *request, size_t request_length)
+/* Obligations for the decision of a single request, bit 0 of the chain; a refusal leaves the buffer alone. */
+static jogimaduve_decision oblige(const struct policy *policy, const struct block *block, uint32_t decision,
+                                  uint8_t *buffer, size_t buffer_length)
+{
+    uint8_t text[OBLIGATIONS * ELEMENTS * (NAME_BYTES + 1)], *at = text;
+    struct chain chain;
+
+    plain_chain(policy, block, &chain);
+    for (unsigned i = 0; i < policy->obligations; i++) {
+        const struct obligation *one = &policy->obligation[i];
+        if (one->word != decision || !(chain.given[one->place] & 1))
+            continue;
+        memcpy(at, one->label, sizeof one->label); /* what is too much is written over */
+        at += one->length;
+    }
+    uint32_t length = (uint32_t)(at - text);
+    if (length > buffer_length)
+        return (jogimaduve_decision){11, length, 0};
+    memcpy(buffer, text, length);
+    return (jogimaduve_decision){0, decision, length};
+}
+
+jogimaduve_decision plain_decide(const uint8_t *file, size_t file_length, const uint8_t *request, size_t request_length,
+                                 uint8_t *buffer, size_t buffer_length)
 {
     struct policy policy;
     struct block block;
@@ -93,7 +116,7 @@ jogimaduve_answer plain_decide(const uint8_t *file, size_t file_length, const ui
     if (answer.number == 0)
         answer = plain_read_request(&policy, request, request_length, lanes);
     if (answer.number != 0)
-        return answer;
+        return (jogimaduve_decision){answer.number, answer.second, 0};
 
     memcpy(values, lanes, sizeof values);
     block.active = 0;
@@ -104,7 +127,9 @@ jogimaduve_answer plain_decide(const uint8_t *file, size_t file_length, const ui
         block.active |= applies[place] << place;
     }
     plain_evaluate(&policy, &block, applies);
-    answer.second = block.gives[0].permit ? JOGIMADUVE_PERMIT : block.gives[0].deny ? JOGIMADUVE_DENY
+    uint32_t decision = block.gives[0].permit ? JOGIMADUVE_PERMIT : block.gives[0].deny ? JOGIMADUVE_DENY
         : block.gives[0].indeterminate ? JOGIMADUVE_INDETERMINATE : JOGIMADUVE_NOT_APPLICABLE;
-    return answer;
+    if (policy.obligations > 0 && decision <= JOGIMADUVE_DENY)
+        return oblige(&policy, &block, decision, buffer, buffer_length);
+    return (jogimaduve_decision){0, decision, 0};
 }

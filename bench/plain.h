@@ -5,8 +5,9 @@
 
 #include "jogimaduve.h"
 
-jogimaduve_answer plain_decide(const uint8_t *file, size_t file_length,
-                               const uint8_t *request, size_t request_length);
+jogimaduve_decision plain_decide(const uint8_t *file, size_t file_length,
+                                 const uint8_t *request, size_t request_length,
+                                 uint8_t *buffer, size_t buffer_length);
 jogimaduve_answer plain_trim(const uint8_t *file, size_t file_length, uint8_t *buffer, size_t buffer_length);
 jogimaduve_answer plain_report(const uint8_t *file, size_t file_length, uint8_t *buffer, size_t buffer_length);
 jogimaduve_answer plain_value_pairs(const uint8_t *file, size_t file_length,

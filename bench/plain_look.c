@@ -196,6 +196,8 @@ void plain_look(struct report *report, const struct policy *policy)
         find_conflicts(report, open, &block, i);
     }
     plain_strike_needless(&report->trimming, policy);
+    for (uint64_t left = report->trimming.kept; left != 0; left &= left - 1)
+        report->need[lowest(left)] = (uint16_t)plain_first_need(&report->trimming, policy, lowest(left));
 
     memset(report->label_bits, 0, sizeof report->label_bits);
     for (unsigned place = 0; place < policy->elements; place++)

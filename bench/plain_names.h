@@ -1,4 +1,4 @@
-/* Names as two numbers each, for plain_read.c alone: loaded whole, folded and compared eight bytes at a time. */
+/* Names as two numbers each, for what reads alone: loaded whole, folded and compared eight bytes at a time. */
 #ifndef PLAIN_NAMES_H
 #define PLAIN_NAMES_H
 
@@ -6,7 +6,7 @@
 
 #include <string.h>
 
-static struct name load_name(const uint8_t *bytes, size_t length)
+static inline struct name load_name(const uint8_t *bytes, size_t length)
 {
     static const uint8_t window[2 * NAME_BYTES] = {
         255, 255, 255, 255, 255, 255, 255, 255, 255, 255, 255, 255, 255, 255, 255, 255,
@@ -21,7 +21,7 @@ static struct name load_name(const uint8_t *bytes, size_t length)
 }
 
 /* The capitals of eight bytes in small letters: bit 7 of each byte tells what is at least A and at most Z. */
-static uint64_t fold(uint64_t bytes)
+static inline uint64_t fold(uint64_t bytes)
 {
     const uint64_t each = 0x0101010101010101u;
     uint64_t low = bytes & 0x7f * each;
@@ -30,17 +30,17 @@ static uint64_t fold(uint64_t bytes)
     return bytes | capitals >> 2;
 }
 
-static struct name folded(struct name name)
+static inline struct name folded(struct name name)
 {
     return (struct name){{fold(name.half[0]), fold(name.half[1])}};
 }
 
-static bool same(struct name a, struct name b)
+static inline bool same(struct name a, struct name b)
 {
     return ((a.half[0] ^ b.half[0]) | (a.half[1] ^ b.half[1])) == 0;
 }
 
-static bool among(struct name name, const struct name *names, size_t count)
+static inline bool among(struct name name, const struct name *names, size_t count)
 {
     for (size_t i = 0; i < count; i++)
         if (same(name, names[i]))

@@ -7,6 +7,7 @@
 #include <stdbool.h>
 
 enum { FILE_BYTES = 16384, NAME_BYTES = 16, ATTRIBUTES = 6, VALUES = 16, SPACE = 4096, ELEMENTS = 64 };
+enum { OBLIGATIONS = 2 }; /* of an element */
 enum { LANES = 8 }; /* of a target or request: the attributes, rounded up to whole words */
 
 enum word {
@@ -28,15 +29,22 @@ struct attribute {
 struct element {
     uint8_t kind, word, parent, length;
     uint8_t label[NAME_BYTES + 1]; /* the name, then a comma */
-    uint16_t line, line_length;    /* newline included */
+    uint16_t line, line_length;    /* newline included; with the lines of its obligations */
     uint16_t target[LANES];        /* of an A met with those above; an M can share one value here and another above */
 };
 
+struct obligation {
+    uint8_t place, word, length;   /* of its element; permit or deny; of the label */
+    uint8_t label[NAME_BYTES + 1]; /* the name, then a newline */
+    struct name name;              /* in small letters */
+};
+
 struct policy {
-    unsigned attributes, space, elements;
+    unsigned attributes, space, elements, obligations;
     struct attribute attribute[ATTRIBUTES];
     struct element element[ELEMENTS];
     struct name name[ELEMENTS]; /* in small letters */
+    struct obligation obligation[OBLIGATIONS * ELEMENTS]; /* in file order */
     uint8_t text[FILE_BYTES + 2 * NAME_BYTES]; /* the file, with room behind so that names may be loaded whole */
 };
 

@@ -1,4 +1,4 @@
-/* Reading policy files and request lines. */
+/* Reading policy files. */
 #include "plain_names.h"
 #include "plain_policy.h"
 
@@ -210,12 +210,40 @@ static unsigned read_element(struct policy *policy, const struct line *line, con
     return 0;
 }
 
+/* Behind the last element and its obligations, which a rule has none of. */
+static unsigned read_obligation(struct policy *policy, const struct line *line, const uint8_t *end)
+{
+    unsigned last = policy->elements - 1, before = 0; /* no obligation is there before an element */
+
+    if (line->fields != 3)
+        return 2;
+    if (line->bad_names & 1u << 1)
+        return 3;
+    struct obligation new = {.place = (uint8_t)last, .length = (uint8_t)(line->length[1] + 1)};
+    struct name spelled = load_name(line->field[1], line->length[1]), name = folded(spelled);
+    for (unsigned i = policy->obligations; i > 0 && policy->obligation[i - 1].place == last; i--, before++)
+        if (same(name, policy->obligation[i - 1].name))
+            return 4;
+    if (policy->elements == 0 || policy->element[last].kind == 'R' || before == OBLIGATIONS)
+        return 14;
+    unsigned word = word_of(line->field[2], line->length[2], 'R');
+    if (word == WORDS)
+        return 7;
+    new.word = (uint8_t)word;
+    new.name = name;
+    memcpy(new.label, &spelled, NAME_BYTES);
+    new.label[new.length - 1] = '\n';
+    policy->element[last].line_length = (uint16_t)(policy->element[last].line_length + (end - line->field[0]));
+    policy->obligation[policy->obligations++] = new;
+    return 0;
+}
+
 jogimaduve_answer plain_read_policy(struct policy *policy, const uint8_t *file, size_t length)
 {
     struct path path = {0, {0}};
     struct line line;
 
-    policy->attributes = policy->elements = 0;
+    policy->attributes = policy->elements = policy->obligations = 0;
     policy->space = 1;
     if (length > FILE_BYTES)
         return (jogimaduve_answer){1, 0};
@@ -231,64 +259,12 @@ jogimaduve_answer plain_read_policy(struct policy *policy, const uint8_t *file, 
                 refusal = read_attribute(policy, &line);
             else if (*at == 'S' || *at == 'P' || *at == 'R')
                 refusal = read_element(policy, &line, next, &path);
+            else if (*at == 'O')
+                refusal = read_obligation(policy, &line, next);
         }
         if (refusal != 0)
             return (jogimaduve_answer){refusal, number};
         at = next;
     }
     return (jogimaduve_answer){policy->elements == 0 ? 9 : 0, 0};
-}
-
-/* The first value of this name, of those from `value` on; the number of values if there is none. */
-static unsigned value_of(const struct attribute *attribute, unsigned value, const uint8_t *bytes, size_t length)
-{
-    struct name name = {{0, 0}};
-
-    if (length <= NAME_BYTES) /* others are told apart by their length */
-        memcpy(&name, bytes, length);
-    name = folded(name);
-    while (value < attribute->values && (attribute->length[value] != length || !same(name, attribute->value[value])))
-        value++;
-    return value;
-}
-
-/* The values of a request field; 0 if it is bad. Those of a set stand in declared order, so that each is looked for
- * behind the one before. */
-static uint16_t values_of(const struct attribute *attribute, const uint8_t *at, size_t length)
-{
-    unsigned values = 0;
-
-    for (unsigned value = 0;; value++) {
-        const uint8_t *comma = attribute->sets ? memchr(at, ',', length) : NULL;
-        size_t bytes = comma != NULL ? (size_t)(comma - at) : length;
-        value = value_of(attribute, value, at, bytes);
-        if (value == attribute->values)
-            return 0;
-        values |= 1u << value;
-        if (comma == NULL)
-            return (uint16_t)values;
-        at += bytes + 1;
-        length -= bytes + 1;
-    }
-}
-
-jogimaduve_answer plain_read_request(const struct policy *policy, const uint8_t *line, size_t length,
-                                     uint16_t values[LANES])
-{
-    const uint8_t *field[ATTRIBUTES + 1] = {line};
-    unsigned fields = 1;
-
-    /* The fields, each behind a tab; what follows one too many is not looked at. */
-    for (const uint8_t *at = line, *end = line + length; fields <= policy->attributes; field[fields++] = ++at)
-        if ((at = memchr(at, '\t', (size_t)(end - at))) == NULL)
-            break;
-    if (fields != policy->attributes)
-        return (jogimaduve_answer){10, 0};
-    for (unsigned i = 0; i < fields; i++) {
-        const uint8_t *end = i + 1 < fields ? field[i + 1] - 1 : line + length;
-        values[i] = values_of(&policy->attribute[i], field[i], (size_t)(end - field[i]));
-        if (values[i] == 0)
-            return (jogimaduve_answer){10, i + 1};
-    }
-    return (jogimaduve_answer){0, 0};
 }

@@ -104,12 +104,9 @@ static void put_rules(struct text *text, const struct report *report, const stru
     }
     for (uint64_t left = trimming->kept; left != 0; left &= left - 1) {
         int rule = lowest(left);
-        unsigned block = 0;
-        while (!(trimming->needed[block] & bit(rule)))
-            block++;
         put(text, "K\t", 2);
         put_name(text, &policy->element[rule], '\t');
-        put_number(text, 64 * block + trimming->first[block][rule], '\n');
+        put_number(text, report->need[rule], '\n');
     }
 }
 

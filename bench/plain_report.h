@@ -12,6 +12,7 @@ struct report {
     uint16_t first[SPACE], count[SPACE];     /* of each segment */
     uint64_t conflicting[ELEMENTS];          /* later siblings that an element conflicts with */
     uint16_t conflict[ELEMENTS][ELEMENTS];   /* the lowest request that shows it */
+    uint16_t need[ELEMENTS];                 /* of each rule kept: the first request that needs it */
     uint64_t label_bits[5];                  /* elements by the bits of their label's length */
 };
 

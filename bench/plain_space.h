@@ -20,6 +20,20 @@ struct block {
     uint64_t matched[ELEMENTS], matched_twice[ELEMENTS]; /* by the target of one child, of two, if only one may be */
 };
 
+/* Which elements' obligations come with a decision, by requests. */
+struct chain {
+    uint64_t asked[ELEMENTS]; /* the element and all above it are asked */
+    uint64_t given[ELEMENTS]; /* and give the decision that the first one gives, which is permit or deny */
+};
+
+/* Only of a policy with obligations. */
+struct obliged {
+    uint64_t given[BLOCKS][ELEMENTS];
+    uint64_t perhaps[BLOCKS][ELEMENTS]; /* without the rule another decision comes from its policy, but not in the end */
+    uint64_t needed[BLOCKS];            /* rules of which a request's obligations are known to change */
+    uint8_t alike[OBLIGATIONS * ELEMENTS]; /* the first obligation with the same bytes */
+};
+
 struct trimming {
     uint64_t applies[BLOCKS][ELEMENTS]; /* none for a rule that was struck */
     uint64_t active[BLOCKS], needed[BLOCKS];
@@ -27,6 +41,7 @@ struct trimming {
     unsigned blocks, strikes;
     uint64_t kept;               /* rules */
     uint8_t struck[ELEMENTS];    /* in the order struck */
+    struct obliged obliged;
 };
 
 static inline int lowest(uint64_t set) { return __builtin_ctzll(set); }
@@ -54,5 +69,21 @@ void plain_look_at(struct trimming *trimming, const struct policy *policy, unsig
 
 /* Strikes the last needless rule while there is one, once every block was looked at. */
 void plain_strike_needless(struct trimming *trimming, const struct policy *policy);
+
+/* Fills the chain for all sets and policies. */
+void plain_chain(const struct policy *policy, const struct block *block, struct chain *chain);
+
+void plain_start_obliged(struct obliged *obliged, const struct policy *policy);
+
+/* The first of some requests of a block whose obligations change without a rule that changes none of their decisions; 64 if
+ * there is none. */
+unsigned plain_first_other(const struct trimming *trimming, const struct policy *policy, unsigned number, int rule,
+                           uint64_t requests);
+
+/* Whether any request needs a rule for its obligations that none needs for its decision. */
+bool plain_needs_obligations(struct trimming *trimming, const struct policy *policy, int rule);
+
+/* The first request of all that needs a rule that is kept. */
+unsigned plain_first_need(const struct trimming *trimming, const struct policy *policy, int rule);
 
 #endif

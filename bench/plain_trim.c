@@ -47,9 +47,22 @@ static struct changes changes_of(unsigned word, struct changes parent, struct gi
     return within(child, mine);
 }
 
-/* The rules without which a request's decision changes; the first such request of each goes into `first`. */
+/* Requests on which a policy gives another decision without a rule that applies to them. */
+static uint64_t moved(unsigned word, unsigned effect, struct gives earlier, struct gives later)
+{
+    struct gives others = join(earlier, later);
+
+    if (word == FIRST_APPLICABLE)
+        return ~any(earlier) & ~(effect == EFFECT_PERMIT ? later.permit : later.deny);
+    if ((word == DENY_OVERRIDES) == (effect == EFFECT_DENY)) /* it overrides the others */
+        return effect == EFFECT_DENY ? ~others.deny : ~others.permit;
+    return ~any(others);
+}
+
+/* The rules without which a request's decision changes; the first such request of each goes into `first`. Where there is a
+ * chain, `perhaps` gets the requests whose obligations may change without a rule, but not their decisions. */
 static uint64_t needed_rules(const struct policy *policy, struct block *block, const uint64_t applies[ELEMENTS],
-                             uint8_t first[ELEMENTS])
+                             uint8_t first[ELEMENTS], const struct chain *chain, uint64_t perhaps[ELEMENTS])
 {
     struct changes changes[ELEMENTS];
     struct gives earlier[ELEMENTS], root = block->gives[0];
@@ -59,20 +72,26 @@ static uint64_t needed_rules(const struct policy *policy, struct block *block, c
         int place = lowest(left), parent = policy->element[place].parent;
         unsigned word = policy->element[parent].word;
         struct changes child = {~root.permit, ~root.deny, ~root.indeterminate, any(root)};
+        struct gives before = {0, 0, 0};
 
         if (place > 0) {
-            child = changes_of(word, changes[parent], earlier[parent], block->later[place],
-                               block->matched_twice[parent]);
-            earlier[parent] = join(earlier[parent], block->gives[place]);
+            before = earlier[parent];
+            child = changes_of(word, changes[parent], before, block->later[place], block->matched_twice[parent]);
+            earlier[parent] = join(before, block->gives[place]);
         }
-        uint64_t mine = applies[place];
+        uint64_t mine = applies[place], changed = mine & child.not_applicable;
         if (policy->element[place].kind != 'R') {
             changes[place] = within(child, mine);
             earlier[place] = (struct gives){0, 0, 0};
-        } else if ((mine &= child.not_applicable) != 0) {
-            needed |= bit(place);
-            first[place] = (uint8_t)lowest(mine);
+            continue;
         }
+        if (changed != 0) {
+            needed |= bit(place);
+            first[place] = (uint8_t)lowest(changed);
+        }
+        if (chain != NULL)
+            perhaps[place] = mine & ~changed & chain->asked[parent] & (root.permit | root.deny)
+                & moved(word, policy->element[place].word, before, block->later[place]);
     }
     return needed;
 }
@@ -86,13 +105,38 @@ void plain_start_trimming(struct trimming *trimming, const struct policy *policy
         if (policy->element[place].kind == 'R')
             trimming->kept |= bit((int)place);
     plain_apply(policy, trimming->applies, trimming->active);
+    if (policy->obligations > 0)
+        plain_start_obliged(&trimming->obliged, policy);
 }
 
 void plain_look_at(struct trimming *trimming, const struct policy *policy, unsigned number, struct block *block)
 {
     block->active = trimming->active[number];
     plain_evaluate(policy, block, trimming->applies[number]);
-    trimming->needed[number] = needed_rules(policy, block, trimming->applies[number], trimming->first[number]);
+    struct obliged *obliged = &trimming->obliged;
+    struct chain chain;
+    if (policy->obligations > 0) {
+        plain_chain(policy, block, &chain);
+        memcpy(obliged->given[number], chain.given, policy->elements * sizeof *chain.given);
+        obliged->needed[number] = 0;
+    }
+    trimming->needed[number] = needed_rules(policy, block, trimming->applies[number], trimming->first[number],
+                                            policy->obligations > 0 ? &chain : NULL, obliged->perhaps[number]);
+}
+
+/* The last rule that no request needs, or -1. */
+static int last_needless(struct trimming *trimming, const struct policy *policy)
+{
+    uint64_t needless = trimming->kept;
+
+    for (unsigned i = 0; i < trimming->blocks; i++)
+        needless &= ~trimming->needed[i];
+    for (unsigned i = 0; i < trimming->blocks && policy->obligations > 0; i++)
+        needless &= ~trimming->obliged.needed[i];
+    for (; needless != 0; needless ^= bit(highest(needless)))
+        if (policy->obligations == 0 || !plain_needs_obligations(trimming, policy, highest(needless)))
+            return highest(needless);
+    return -1;
 }
 
 /* Only the blocks to which a struck rule applied are looked at again. */
@@ -100,13 +144,7 @@ void plain_strike_needless(struct trimming *trimming, const struct policy *polic
 {
     struct block block;
 
-    for (;;) {
-        uint64_t needless = trimming->kept;
-        for (unsigned i = 0; i < trimming->blocks; i++)
-            needless &= ~trimming->needed[i];
-        if (needless == 0)
-            return;
-        int rule = highest(needless);
+    for (int rule; (rule = last_needless(trimming, policy)) >= 0;) {
         trimming->kept ^= bit(rule);
         trimming->struck[trimming->strikes++] = (uint8_t)rule;
         for (unsigned i = 0; i < trimming->blocks; i++) {

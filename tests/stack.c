@@ -16,7 +16,9 @@ static uint8_t buffer[JOGIMADUVE_REPORT_BUFFER];
 static void *nothing(void *unused) { return unused; }
 
 static void *decide(void *unused) {
-    answers(jogimaduve_decide((const uint8_t *)file, size, TEXT("a\ta\ta")), JOGIMADUVE_DONE, JOGIMADUVE_PERMIT, "decide", __LINE__);
+    jogimaduve_decision got = jogimaduve_decide((const uint8_t *)file, size, TEXT("a\ta\ta"), buffer, sizeof buffer);
+    answers((jogimaduve_answer){got.number, got.second}, JOGIMADUVE_DONE, JOGIMADUVE_PERMIT, "decide", __LINE__);
+    check(got.length == 7 * strlen("log\n"), "decide", __LINE__);
     return unused;
 }
 
@@ -60,7 +62,7 @@ static void within(void *run(void *), size_t most, const char *what) {
     check(bytes <= most / 4 * 3, what, __LINE__);
 }
 
-/* Three attributes of so many values, the first by this letter, depth 7, 64 elements: the deepest calls. */
+/* Three attributes of so many values, the first by this letter, depth 7, 64 elements, obligations: the deepest calls. */
 static void largest(char letter, const int values[3]) {
     size = 0;
     for (int i = 0; i < 3; i++) {
@@ -68,8 +70,10 @@ static void largest(char letter, const int values[3]) {
         for (int value = 0; value < values[i]; value++) size += (size_t)sprintf(file + size, "\t%c", 'a' + value);
         size += (size_t)sprintf(file + size, "\n");
     }
-    for (int depth = 0; depth < 6; depth++) size += (size_t)sprintf(file + size, "S\t%d\ts%d\tfirst-applicable\t*\t*\t*\n", depth, depth);
-    size += (size_t)sprintf(file + size, "P\t6\tp\tfirst-applicable\t*\t*\t*\n");
+    for (int depth = 0; depth < 7; depth++) {
+        size += (size_t)sprintf(file + size, "%c\t%d\te%d\tfirst-applicable\t*\t*\t*\n", depth < 6 ? 'S' : 'P', depth, depth);
+        size += (size_t)sprintf(file + size, "O\tlog\tpermit\nO\tslow\tdeny\n");
+    }
     for (int rule = 0; rule < 57; rule++) {
         const char *effect = rule % 2 == 0 ? "permit" : "deny";
         size += (size_t)sprintf(file + size, "R\t7\tr%d\t%s\t%c\t%c\t*\n", rule, effect, 'a' + rule % values[0], 'a' + rule / values[0]);

@@ -118,12 +118,12 @@ static void sizes(void) {
     for (int i = 1; i < 64; i++) {
         length += (size_t)sprintf((char *)file + length, "R\t1\tr%d\tpermit\t*\n", i);
     }
-    answers(jogimaduve_decide(file, length, TEXT("a")), 0, JOGIMADUVE_PERMIT, "64 elements", __LINE__);
+    answers(bare_decision(file, length, TEXT("a")), 0, JOGIMADUVE_PERMIT, "64 elements", __LINE__);
     size_t more = (size_t)sprintf((char *)file + length, "R\t1\tr64\tpermit\t*\n");
-    answers(jogimaduve_decide(file, length + more, TEXT("a")), 5, 66, "65 elements", __LINE__);
+    answers(bare_decision(file, length + more, TEXT("a")), 5, 66, "65 elements", __LINE__);
     memset(file, '\n', sizeof file);
-    answers(jogimaduve_decide(file, 16384, TEXT("a")), 2, 1, "16,384 bytes", __LINE__);
-    answers(jogimaduve_decide(file, 16385, TEXT("a")), 1, 0, "16,385 bytes", __LINE__);
+    answers(bare_decision(file, 16384, TEXT("a")), 2, 1, "16,384 bytes", __LINE__);
+    answers(bare_decision(file, 16385, TEXT("a")), 1, 0, "16,385 bytes", __LINE__);
 }
 
 int main(void) {

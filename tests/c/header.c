@@ -10,7 +10,7 @@ static uint8_t buffer[JOGIMADUVE_REPORT_BUFFER];
 static uint8_t long_file[JOGIMADUVE_LONGEST_FILE + 1];
 
 #define REFUSED(file, number, second) answers(jogimaduve_trim(TEXT(file), buffer, sizeof buffer), number, second, file, __LINE__)
-#define DECIDED(file, request, decision) answers(jogimaduve_decide(TEXT(file), TEXT(request)), JOGIMADUVE_DONE, decision, request, __LINE__)
+#define DECIDED(file, request, decision) answers(bare_decision(TEXT(file), TEXT(request)), JOGIMADUVE_DONE, decision, request, __LINE__)
 
 /* The longest request that can be good: 17 names of 16 bytes, twelve of them a set's, and a byte more. */
 static void longest_request(void) {
@@ -27,9 +27,28 @@ static void longest_request(void) {
     }
     size += (size_t)sprintf(file + size, "P\t0\ttop\tdeny-overrides\t*\t*\t*\t*\t*\t*\n");
     check(length == JOGIMADUVE_LONGEST_REQUEST, "the longest request", __LINE__);
-    answers(jogimaduve_decide((const uint8_t *)file, size, (const uint8_t *)request, length), JOGIMADUVE_DONE, JOGIMADUVE_NOT_APPLICABLE, "the longest request", __LINE__);
+    answers(bare_decision((const uint8_t *)file, size, (const uint8_t *)request, length), JOGIMADUVE_DONE, JOGIMADUVE_NOT_APPLICABLE, "the longest request", __LINE__);
     request[length] = 'x';
-    answers(jogimaduve_decide((const uint8_t *)file, size, (const uint8_t *)request, length + 1), JOGIMADUVE_BAD_REQUEST, 6, "a byte more", __LINE__);
+    answers(bare_decision((const uint8_t *)file, size, (const uint8_t *)request, length + 1), JOGIMADUVE_BAD_REQUEST, 6, "a byte more", __LINE__);
+}
+
+/* The most obligations: nine chains of five sets and a policy below the first set, two names of 16 bytes on each of these 55
+ * elements, a rule below each policy. More elements that give one decision there cannot be: each needs a rule below it, and
+ * no rule is below more than seven. */
+static void longest_obligations(void) {
+    static char file[JOGIMADUVE_LONGEST_FILE];
+    static uint8_t text[JOGIMADUVE_LONGEST_OBLIGATIONS];
+    static const char two[] = "O\t0123456789abcdef\tpermit\nO\tfedcba9876543210\tpermit\n";
+    size_t size = (size_t)sprintf(file, "A\tx\ta\nS\t0\ttop\tdeny-overrides\t*\n%s", two);
+    for (int chain = 0; chain < 9; chain++) {
+        for (int depth = 1; depth < 6; depth++) size += (size_t)sprintf(file + size, "S\t%d\ts%d-%d\tdeny-overrides\t*\n%s", depth, chain, depth, two);
+        size += (size_t)sprintf(file + size, "P\t6\tp%d\tdeny-overrides\t*\n%sR\t7\tr%d\tpermit\t*\n", chain, two, chain);
+    }
+    jogimaduve_decision got = jogimaduve_decide((const uint8_t *)file, size, TEXT("a"), text, sizeof text);
+    check(got.number == JOGIMADUVE_DONE && got.second == JOGIMADUVE_PERMIT && got.length == JOGIMADUVE_LONGEST_OBLIGATIONS, "the most obligations", __LINE__);
+    check(memcmp(text, "0123456789abcdef\nfedcba9876543210\n", 34) == 0 && memcmp(text, text + 34, sizeof text - 34) == 0, "the most obligations", __LINE__);
+    got = jogimaduve_decide((const uint8_t *)file, size, TEXT("a"), text, sizeof text - 1);
+    check(got.number == JOGIMADUVE_SHORT_BUFFER && got.second == JOGIMADUVE_LONGEST_OBLIGATIONS && got.length == 0, "a byte less", __LINE__);
 }
 
 int main(void) {
@@ -45,8 +64,9 @@ int main(void) {
     REFUSED(A "P\t0\ttop\tonly-one-applicable\t*\n", JOGIMADUVE_BAD_WORD, 2);
     REFUSED(A "P\t0\ttop\tdeny-overrides\ta,b\n", JOGIMADUVE_BAD_TARGET, 2);
     REFUSED(A, JOGIMADUVE_NO_ELEMENT, 0);
-    answers(jogimaduve_decide(TEXT(GOOD), TEXT("c")), JOGIMADUVE_BAD_REQUEST, 1, "no value", __LINE__);
-    answers(jogimaduve_decide(TEXT(GOOD), TEXT("a\ta")), JOGIMADUVE_BAD_REQUEST, 0, "two fields", __LINE__);
+    REFUSED(GOOD "O\tlog\tpermit\n", JOGIMADUVE_BAD_OBLIGATION, 5);
+    answers(bare_decision(TEXT(GOOD), TEXT("c")), JOGIMADUVE_BAD_REQUEST, 1, "no value", __LINE__);
+    answers(bare_decision(TEXT(GOOD), TEXT("a\ta")), JOGIMADUVE_BAD_REQUEST, 0, "two fields", __LINE__);
     /* a length of 0 asks for the bytes needed, and so many are enough */
     answers(jogimaduve_trim(TEXT(GOOD), buffer, 0), JOGIMADUVE_SHORT_BUFFER, sizeof GOOD - 1, "no buffer", __LINE__);
     jogimaduve_answer needed = jogimaduve_report(TEXT(GOOD), buffer, 0);
@@ -61,5 +81,6 @@ int main(void) {
     DECIDED(A P, "a", JOGIMADUVE_NOT_APPLICABLE);
     DECIDED(A "S\t0\ttop\tonly-one-applicable\t*\nP\t1\tp\tdeny-overrides\t*\nP\t1\tq\tdeny-overrides\t*\n", "a", JOGIMADUVE_INDETERMINATE);
     longest_request();
+    longest_obligations();
     return checks_done();
 }

@@ -11,7 +11,7 @@
 
 /* The same of a file and a request that were put together. */
 static void decides(const char *file, const char *request, uint32_t number, uint32_t second, int line) {
-    answers(jogimaduve_decide((const uint8_t *)file, strlen(file), (const uint8_t *)request, strlen(request)), number, second, file, line);
+    answers(bare_decision((const uint8_t *)file, strlen(file), (const uint8_t *)request, strlen(request)), number, second, file, line);
 }
 
 static void requests(void) {

@@ -141,7 +141,7 @@ static const char *policy;
 static unsigned decided(const long held[ATTRIBUTES]) {
     static char line[REQUEST_MOST];
     put_request(held, line);
-    jogimaduve_answer got = jogimaduve_decide((const uint8_t *)policy, strlen(policy), (const uint8_t *)line, strlen(line));
+    jogimaduve_answer got = bare_decision((const uint8_t *)policy, strlen(policy), (const uint8_t *)line, strlen(line));
     return got.number == 0 ? got.second : 4;
 }
 

@@ -174,9 +174,9 @@ static void every_set(void) {
     answers(trimmed, 0, sizeof file - 1 - strlen("R\t1\tr3\tdeny\tk\n"), "r3 is struck", __LINE__);
     for (unsigned set = 1; set < 4096; set++) {
         size_t length = put_set(line, set);
-        jogimaduve_answer got = jogimaduve_decide(TEXT(file), (const uint8_t *)line, length);
+        jogimaduve_answer got = bare_decision(TEXT(file), (const uint8_t *)line, length);
         alike += got.number == 0 && got.second == first_of(set);
-        got = jogimaduve_decide(buffer, trimmed.second, (const uint8_t *)line, length);
+        got = bare_decision(buffer, trimmed.second, (const uint8_t *)line, length);
         trimmed_alike += got.number == 0 && got.second == first_of(set);
     }
     check(alike == 4095, "every set of twelve values", __LINE__);
@@ -195,7 +195,7 @@ static void every_pair(void) {
             line[length++] = '\t';
             length += put_set(line + length, y);
             uint32_t wanted = x & 4 || y & 8 ? JOGIMADUVE_DENY : x & 33 && y & 18 ? JOGIMADUVE_PERMIT : JOGIMADUVE_NOT_APPLICABLE;
-            jogimaduve_answer got = jogimaduve_decide(TEXT(file), (const uint8_t *)line, length);
+            jogimaduve_answer got = bare_decision(TEXT(file), (const uint8_t *)line, length);
             alike += got.number == 0 && got.second == wanted;
         }
     }

@@ -1,68 +1,10 @@
 /* The paper's cases "On each side of an edge" and those of changes C-11 and C-12, worked out by hand, run through the
- * reference; cases_sets.c has those of C-13, cases_pairs.c those of C-14. Spaces stand for tabs, as in the paper. */
+ * reference; cases_sets.c has those of C-13, cases_pairs.c those of C-14, cases_obligations.c and cases_places.c those of
+ * C-16. Spaces stand for tabs, as in the paper. */
 #include "cases.h"
 
 #include <stdio.h>
 #include <string.h>
-
-static int bad;
-
-static size_t bytes_of(const char *text, uint8_t *bytes)
-{
-    size_t length = strlen(text);
-    for (size_t i = 0; i < length; i++)
-        bytes[i] = text[i] == ' ' ? '\t' : (uint8_t)text[i];
-    return length;
-}
-
-static void expect(const char *what, struct answer answer, uint32_t number, uint32_t second)
-{
-    if (answer.number == number && answer.second == second)
-        return;
-    printf("%s: %lu %lu\n", what, (unsigned long)answer.number, (unsigned long)answer.second);
-    bad++;
-}
-
-void decides(const char *what, const char *policy, const char *line, uint32_t number, uint32_t second)
-{
-    uint8_t file[FILE_BYTES + 1], request[400];
-    size_t length = bytes_of(policy, file);
-    expect(what, ref_decide(file, length, request, bytes_of(line, request)), number, second);
-}
-
-enum { TEXT_BYTES = 1000 };
-
-void refuses_text(const char *what, struct answer operation(const uint8_t *, size_t, uint8_t *, size_t),
-                  const char *policy, size_t room, uint32_t number, uint32_t second)
-{
-    uint8_t file[FILE_BYTES + 1], out[TEXT_BYTES];
-    size_t length = bytes_of(policy, file), same = 0;
-
-    memset(out, 7, sizeof out);
-    expect(what, operation(file, length, out, room), number, second);
-    while (same < sizeof out && out[same] == 7)
-        same++;
-    if (same < sizeof out) {
-        printf("%s: refused, but written to\n", what);
-        bad++;
-    }
-}
-
-void gives_text(const char *what, struct answer operation(const uint8_t *, size_t, uint8_t *, size_t),
-                const char *policy, const char *text)
-{
-    uint8_t file[FILE_BYTES + 1], wanted[TEXT_BYTES], out[TEXT_BYTES];
-    size_t length = bytes_of(policy, file), needed = bytes_of(text, wanted);
-
-    if (needed > 0)
-        refuses_text(what, operation, policy, needed - 1, 11, (uint32_t)needed);
-    memset(out, 7, sizeof out);
-    expect(what, operation(file, length, out, needed), 0, (uint32_t)needed);
-    if (memcmp(out, wanted, needed) != 0 || out[needed] != 7) {
-        printf("%s: other text\n", what);
-        bad++;
-    }
-}
 
 #define CUBE "A x" SIXTEEN "A y" SIXTEEN "A z" SIXTEEN
 #define SEVEN "A x a\nS 0 e0 first-applicable *\nS 1 e1 first-applicable *\nS 2 e2 first-applicable *\n" \
@@ -195,19 +137,6 @@ static void long_lines(void)
     long_line(38, 39, 4);
 }
 
-void writes(const char *lines, const struct record list[2], uint32_t number, uint32_t second, const char *text)
-{
-    uint8_t bytes[200], wanted[300] = {0}, out[300] = {0};
-    size_t length = bytes_of(lines, bytes);
-
-    expect(lines, ref_write((struct slice){bytes, length}, list, 2, out, sizeof out), number, second);
-    bytes_of(text, wanted);
-    if (memcmp(out, wanted, sizeof out) != 0) {
-        printf("%s: other text written\n", lines);
-        bad++;
-    }
-}
-
 static void writes_names(const char *policy, const char *rule, uint32_t number, uint32_t second, const char *text)
 {
     struct record list[] = {
@@ -290,6 +219,8 @@ int main(void)
     lowest_requests();
     cases_of_sets();
     cases_of_pairs();
-    puts(bad == 0 ? "all cases hold" : "cases fail");
-    return bad != 0;
+    cases_of_obligations();
+    cases_of_places();
+    puts(bad_cases == 0 ? "all cases hold" : "cases fail");
+    return bad_cases != 0;
 }

@@ -6,8 +6,12 @@
 
 #define SIXTEEN " a b c d e f g h i j k l m n o p\n"
 
-/* cases.c */
+/* expect.c */
+extern int bad_cases; /* how many did not hold */
+/* In a buffer of any size: no obligations come with it. */
 void decides(const char *what, const char *policy, const char *line, uint32_t number, uint32_t second);
+/* Permit or deny, with these obligations in a buffer of their size and in a longer one; 11 in each that is too short. */
+void obliges(const char *what, const char *policy, const char *line, enum decision decision, const char *text);
 /* The text in a buffer of its size, and 11 in one that is a byte too short; none is too short for an empty text. */
 void gives_text(const char *what, struct answer operation(const uint8_t *, size_t, uint8_t *, size_t),
                 const char *policy, const char *text);
@@ -22,5 +26,11 @@ void cases_of_sets(void);
 
 /* cases_pairs.c */
 void cases_of_pairs(void);
+
+/* cases_obligations.c */
+void cases_of_obligations(void);
+
+/* cases_places.c */
+void cases_of_places(void);
 
 #endif

@@ -1,6 +1,7 @@
 /* Compares libjogimaduve with the reference on generated inputs: valid files of many shapes, damaged ones, good and bad
  * request lines, names of attributes and others, buffers too short, exact and longer. Lent memory is compared byte for
- * byte. Of stored files, whose reports are compared elsewhere, only the pairs of values are.
+ * byte. Of stored files, whose reports are compared elsewhere, only the pairs of values are and, of those with
+ * obligations, every request.
  *
  * Usage: compare SEED COUNT [FILE ...]. Each input is made from its own seed alone, SEED and those behind it, so that
  * `compare <seed shown> 1` makes it again. Prints the number of differences; the exit status is 1 if there are any, or if
@@ -12,14 +13,12 @@
 #include <string.h>
 
 enum { BEHIND = 64, REPORT_BYTES = 65536 }; /* bytes watched behind each lent buffer; the program's buffer */
-enum { NUMBERS = 14, OF_LISTS = 12 };       /* no operation here answers 12 */
+enum { NUMBERS = 15, OF_LISTS = 12 };       /* no operation here answers 12 */
 
 unsigned long differences;
 static unsigned long seen[NUMBERS];
 
-/* How often accepted files had an M, requests held two of its values or more or were refused at its field, and requests
- * with a comma were refused at an A's field. */
-static struct { unsigned long files, sets, bad_sets, bad_lists; } came_up;
+static unsigned long files_with_set, files_with_obligation; /* accepted */
 static char input[200]; /* its seed, or the file's name */
 
 void show_bytes(const char *what, const uint8_t *bytes, size_t length)
@@ -56,23 +55,6 @@ static void difference(const char *what, struct answer wanted, jogimaduve_answer
            (unsigned long)wanted.second);
     printf(" library %lu %lu\n", (unsigned long)got.number, (unsigned long)got.second);
     show_bytes("file", file->bytes, file->length);
-}
-
-static struct answer compare_decide(const struct bytes *file, const struct bytes *request)
-{
-    uint8_t *lent_file = exactly(file->bytes, file->length), *line = exactly(request->bytes, request->length);
-    struct answer wanted = ref_decide(file->bytes, file->length, request->bytes, request->length);
-    jogimaduve_answer got = jogimaduve_decide(lent_file, file->length, line, request->length);
-
-    seen[wanted.number]++;
-    if (got.number != wanted.number || got.second != wanted.second
-        || memcmp(lent_file, file->bytes, file->length) != 0 || memcmp(line, request->bytes, request->length) != 0) {
-        difference("decide", wanted, got, file);
-        show_bytes("request", request->bytes, request->length);
-    }
-    free(lent_file);
-    free(line);
-    return wanted;
 }
 
 /* An operation that fills a lent buffer of `room` bytes. */
@@ -124,22 +106,17 @@ static int has_set(const struct policy *policy)
     return 0;
 }
 
-/* Counts a request of an accepted policy by what the reference answers. No good field of an A has a comma. */
-static void count_request(const struct policy *policy, const struct bytes *request, struct answer answer)
+static int has_obligation(const struct policy *policy)
 {
-    int comma = memchr(request->bytes, ',', request->length) != NULL;
-
-    if (answer.number == 0)
-        came_up.sets += comma;
-    else if (answer.number == 10 && answer.second > 0 && policy->attribute[answer.second - 1].letter == 'M')
-        came_up.bad_sets++;
-    else if (answer.number == 10 && answer.second > 0)
-        came_up.bad_lists += comma;
+    for (int place = 0; place < policy->elements; place++)
+        if (policy->element[place].obligations > 0)
+            return 1;
+    return 0;
 }
 
 static void compare_input(uint64_t seed)
 {
-    static struct bytes file, request;
+    static struct bytes file;
     static struct policy policy;
 
     snprintf(input, sizeof input, "seed %llu", (unsigned long long)seed);
@@ -148,17 +125,15 @@ static void compare_input(uint64_t seed)
     int accepted = read_policy(file.bytes, file.length, &policy).number == 0;
     int small = policy.space <= 256;
 
-    for (int i = accepted ? (small ? 24 : 6) : 2; i > 0; i--) {
-        make_request(&request, &policy, accepted && below(3) != 0);
-        struct answer answer = compare_decide(&file, &request);
-        if (accepted)
-            count_request(&policy, &request, answer);
-    }
-    came_up.files += accepted && has_set(&policy);
+    for (int i = accepted ? (small ? 24 : 6) : 2; i > 0; i--)
+        compare_decide(&file, &policy, accepted);
+    files_with_set += accepted && has_set(&policy);
+    files_with_obligation += accepted && has_obligation(&policy);
     compare_rooms("trim", &file, small ? 5 : 1, below(2) ? file.length : below(64), ref_trim, jogimaduve_trim);
     compare_rooms("report", &file, small ? 5 : 1, below(2) ? REPORT_BYTES : below(64), ref_report, jogimaduve_report);
     compare_pairs(&file, &policy, accepted);
     compare_small_files();
+    compare_obliged_files();
 }
 
 static void compare_stored(const char *name)
@@ -175,10 +150,13 @@ static void compare_stored(const char *name)
     start_random(0);
     file.length = fread(file.bytes, 1, sizeof file.bytes, stored);
     fclose(stored);
-    compare_pairs(&file, &policy, read_policy(file.bytes, file.length, &policy).number == 0);
+    int accepted = read_policy(file.bytes, file.length, &policy).number == 0;
+    for (int request = 0; accepted && has_obligation(&policy) && request < policy.space; request++)
+        compare_request(&file, &policy, request);
+    compare_pairs(&file, &policy, accepted);
 }
 
-/* Whether every number was answered often, and sets came up often; prints how often. */
+/* Whether every number was answered often, and sets and obligations came up often; prints how often. */
 static int all_seen(void)
 {
     int all = 1;
@@ -188,10 +166,11 @@ static int all_seen(void)
         printf(" %d:%lu", number, seen[number]);
         all = all && (number == OF_LISTS || seen[number] >= OFTEN);
     }
-    printf("\nfiles with an M: %lu; requests with two of its values or more: %lu,", came_up.files, came_up.sets);
-    printf(" refused at an M: %lu, at a list of an A: %lu\n", came_up.bad_sets, came_up.bad_lists);
-    return pairs_seen() && all && came_up.files >= OFTEN && came_up.sets >= OFTEN
-        && came_up.bad_sets >= OFTEN && came_up.bad_lists >= OFTEN;
+    printf("\nfiles with an M: %lu, with an obligation: %lu\n", files_with_set, files_with_obligation);
+    all = all && files_with_set >= OFTEN && files_with_obligation >= OFTEN;
+    all = requests_seen() && all;
+    all = obligations_seen() && all;
+    return pairs_seen() && all;
 }
 
 int main(int count, char **words)

@@ -19,6 +19,15 @@ uint8_t *exactly(const uint8_t *bytes, size_t length); /* to be freed */
 struct answer compare_rooms(const char *what, const struct bytes *file, size_t most_rooms, size_t first_room,
                             reference_text *reference, library_text *library);
 
+/* compare_decide.c: a request line of the policy, or a bad one, in buffers of every fit */
+void compare_decide(const struct bytes *file, const struct policy *policy, int accepted);
+void compare_request(const struct bytes *file, const struct policy *policy, int number); /* the one of this number */
+int requests_seen(void); /* whether each kind came up often; prints how often */
+
+/* compare_obligations.c: small files in which obligations count, every request of each */
+void compare_obliged_files(void);
+int obligations_seen(void); /* whether each kind came up often; prints how often */
+
 /* compare_pairs.c */
 void compare_pairs(const struct bytes *file, const struct policy *policy, int accepted);
 void compare_small_files(void); /* whose pairs get decisions that they seldom get in larger ones */

@@ -9,7 +9,7 @@
 static const char *tricky(void)
 {
     static const char *const strings[] = {
-        "", "A", "M", "S", "P", "R", "AA", "a", "0", "1", "2", "7", "8", "07", "-1", "*", "**", "x", "-x", "x-", "X", "~",
+        "", "A", "M", "O", "S", "P", "R", "AA", "a", "0", "1", "2", "7", "8", "07", "-1", "*", "**", "x", "-x", "x-", "X", "~",
         "a,b", ",", "a,", ",a", "a_b", "a.b", "@x", "`x", "[", "{", "name-of-16-bytes", "Name-of-16-bytes",
         "name-of-17-bytes-", "permit", "deny",
     };
@@ -150,7 +150,7 @@ void damage(struct bytes *file)
 
     if (file->length == 0)
         return;
-    switch (below(33)) {
+    switch (below(38)) {
     case 0: set_field(file, ANY_LINE, below(7), string); break;
     case 1: set_field(file, TREE_LINE, 2, string); break;
     case 2: set_field(file, ATTRIBUTE_LINE, 1 + below(4), string); break;
@@ -185,6 +185,7 @@ void damage(struct bytes *file)
             file->bytes[file->length++] = '\n';
         break;
     case 22: case 23: case 24: case 25: case 26: damage_sets(file); break;
+    case 27: case 28: case 29: case 30: case 31: damage_obligations(file); break;
     default: damage_case(file); break;
     }
 }

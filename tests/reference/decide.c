@@ -1,6 +1,8 @@
 /* Requests and decisions. */
 #include "reference.h"
 
+#include <string.h>
+
 const char *const decision_words[4] = {
     [PERMIT] = "permit", [DENY] = "deny", [NOT_APPLICABLE] = "not-applicable", [INDETERMINATE] = "indeterminate",
 };
@@ -22,7 +24,7 @@ void values_of(const struct policy *policy, int request, unsigned held[ATTRIBUTE
 }
 
 /* Whether the request matches the element's own target: each field shares a value with what the request holds. */
-static int matches(const struct policy *policy, int place, const unsigned held[ATTRIBUTES])
+int matches(const struct policy *policy, int place, const unsigned held[ATTRIBUTES])
 {
     for (int i = 0; i < policy->attributes; i++)
         if ((policy->element[place].target[i] & held[i]) == 0)
@@ -82,17 +84,6 @@ enum decision gives(const struct policy *policy, int place, const unsigned held[
     return combined(policy, element, held);
 }
 
-/* The file's decision on every request. */
-void decide_space(const struct policy *policy, uint8_t decisions[SPACE])
-{
-    unsigned held[ATTRIBUTES];
-
-    for (int request = 0; request < policy->space; request++) {
-        values_of(policy, request, held);
-        decisions[request] = (uint8_t)gives(policy, 0, held);
-    }
-}
-
 /* The mask of a request's field, or 0 for one that is no value of an A, no list of values of an M. A full list is one,
  * and there is no other way to write all values. */
 static unsigned held_in(const struct attribute *attribute, struct slice field)
@@ -124,15 +115,21 @@ static struct answer read_request(const struct policy *policy, struct slice line
     return (struct answer){0, 0};
 }
 
-struct answer ref_decide(const uint8_t *file, size_t file_len, const uint8_t *request, size_t request_len)
+struct decided ref_decide(const uint8_t *file, size_t file_len, const uint8_t *request, size_t request_len, uint8_t *out,
+                          size_t room)
 {
     struct policy policy;
+    struct outcome outcome;
     unsigned held[ATTRIBUTES] = {0};
 
     struct answer answer = read_policy(file, file_len, &policy);
     if (answer.number == 0)
         answer = read_request(&policy, (struct slice){request, request_len}, held);
-    if (answer.number == 0)
-        answer.second = (uint32_t)gives(&policy, 0, held);
-    return answer;
+    if (answer.number != 0)
+        return (struct decided){answer.number, answer.second, 0};
+    find_outcome(&policy, held, &outcome);
+    if (outcome.length > room)
+        return (struct decided){11, (uint32_t)outcome.length, 0};
+    memcpy(out, outcome.obligations, outcome.length);
+    return (struct decided){0, (uint32_t)outcome.decision, (uint32_t)outcome.length};
 }

@@ -33,10 +33,13 @@ uint32_t count_values(const struct bytes *text, size_t line, size_t line_length)
 /* generate.c */
 void make_file(struct bytes *file);
 void make_small_file(struct bytes *file); /* of an M with few values, whose pairs get many decisions; seldom refused */
+
+/* edge_files.c */
 void make_edge_file(struct bytes *file); /* near 16,384 bytes, good but for its size */
 
 /* requests.c: a request line of the policy, or a bad one (of any policy, also one that was refused). */
 void make_request(struct bytes *request, const struct policy *policy, int good);
+void make_request_of(struct bytes *request, const struct policy *policy, int number);
 
 /* given_names.c: the name of an attribute in other case or with a fault, or of another thing, or of nothing. */
 void make_name(struct bytes *name, const struct bytes *file);
@@ -58,6 +61,13 @@ void damage_case(struct bytes *file);
 /* sets.c: attribute lines A and M, and how many values there may be of an M */
 void damage_sets(struct bytes *file);
 
+/* obliged_files.c */
+void add_obligations(struct bytes *file); /* to some of the sets and policies of a file that has none */
+void make_obliged_file(struct bytes *file); /* a small one, good, in which rules are needed for obligations */
+
+/* damage_obligations.c */
+void damage_obligations(struct bytes *file);
+
 /* lists.c */
 enum { LONGEST = ELEMENTS + 2 }; /* more than the writer looks at */
 
@@ -69,6 +79,9 @@ struct list {
     struct record record[LONGEST];
     size_t room;
 };
+
+/* damage_places.c */
+void damage_places(struct list *list, struct record *record); /* of an element's obligations */
 
 struct answer write_to(const struct list *list, uint8_t *out, size_t room); /* by the reference, into a filled buffer */
 /* 0 if the list, before it was damaged, was not written as the file that it was read from. */

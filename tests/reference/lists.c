@@ -42,6 +42,13 @@ static int make_good(struct list *list)
         memcpy(record->name, element->name.bytes, element->name.length);
         for (int i = 0; i < ATTRIBUTES; i++)
             record->mask[i] = (uint16_t)element->target[i];
+        record->obligations = (uint8_t)element->obligations;
+        for (int i = 0; i < element->obligations; i++) {
+            const struct obligation *obligation = &element->obligation[i];
+            record->place[i].length = (uint8_t)obligation->name.length;
+            record->place[i].word = obligation->word;
+            memcpy(record->place[i].name, obligation->name.bytes, obligation->name.length);
+        }
     }
     struct answer answer = write_to(list, out, sizeof out);
     return answer.number == 0 && answer.second == file.length && memcmp(out, file.bytes, file.length) == 0;
@@ -58,12 +65,15 @@ static void name_as(struct record *record, const char *word, size_t number)
     record->length = (uint8_t)snprintf((char *)record->name, NAME_BYTES, "%s-%lu", word, (unsigned long)number);
 }
 
-/* A tree line behind some of the attribute lines: good for a file, or refused by one of the tests 2 to 8. */
+/* A tree line or an obligation behind some of the attribute lines: good for a file, or refused by one of the tests. */
 static void damage_lines_by_tree(struct list *list)
 {
     static const char *const starts[] = {
         "P\t0\troot\tfirst-applicable", "S\t0\tr\tonly-one-applicable", "P\t0\tp\tonly-one-applicable",
         "R\t1\tr\tpermit", "S\t0\tro_t\tdeny-overrides",
+    };
+    static const char *const obligations[] = {
+        "O\tlog\tpermit\n", "O\tlog\tno\n", "O\tl_g\tno\n", "O\tlog\n",
     };
     static struct bytes line;
     uint32_t before = one_in(2) ? (uint32_t)list->attributes : below((uint32_t)list->attributes), lines = 0;
@@ -71,10 +81,14 @@ static void damage_lines_by_tree(struct list *list)
     while (at < list->lines.length && lines < before)
         lines += list->lines.bytes[at++] == '\n';
     line.length = 0;
-    put(&line, starts[below(one_in(2) ? 2 : 5)]);
-    for (uint32_t targets = before + (uint32_t)one_in(8); targets > 0; targets--)
-        put(&line, one_in(8) ? "\t~" : "\t*");
-    put(&line, "\n");
+    if (one_in(3)) {
+        put(&line, obligations[below(one_in(2) ? 1 : 4)]);
+    } else {
+        put(&line, starts[below(one_in(2) ? 2 : 5)]);
+        for (uint32_t targets = before + (uint32_t)one_in(8); targets > 0; targets--)
+            put(&line, one_in(8) ? "\t~" : "\t*");
+        put(&line, "\n");
+    }
     replace(&list->lines, at, 0, line.bytes, line.length);
 }
 
@@ -119,6 +133,10 @@ static void lengthen(struct list *list)
             record->kind = record->kind == 'S' ? 'P' : 'R';
             record->depth = 1;
             record->word = record->kind == 'R' ? EFFECT_DENY : DENY_OVERRIDES;
+            if (record->kind == 'R') {
+                record->obligations = 0;
+                memset(record->place, 0, sizeof record->place);
+            }
         }
         name_as(record, "more", list->elements++);
     }
@@ -171,7 +189,7 @@ static void damage_order(struct list *list)
 static void damage_list(struct list *list)
 {
     static const char kinds[] = "SPR";
-    uint32_t way = below(32);
+    uint32_t way = below(40);
     struct record *one = pick(list);
 
     if (way < 5)
@@ -197,8 +215,10 @@ static void damage_list(struct list *list)
         one->word = (enum word)below(WORDS);
     else if (way < 30)
         damage_mask(list, one);
-    else
+    else if (way < 32)
         damage_case(&list->lines);
+    else
+        damage_places(list, one);
 }
 
 /* Some bytes more in names: the file comes near 16,384 bytes, or exceeds them. */

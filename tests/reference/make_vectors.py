@@ -10,6 +10,7 @@ import subprocess
 import sys
 import tempfile
 
+import obliged_files  # noqa: F401 (adds its files)
 import refused_files  # noqa: F401 (adds its files)
 from accepted_files import CUBE, LETTERS, LONG, add, all_but_one, attribute, files
 
@@ -118,10 +119,25 @@ def random_policy(seed, choose_counts):
     return text
 
 
+def obliged(seed, text):
+    """With obligations of few names on most sets and policies, so that elements share them."""
+    random.seed(f"obligations-{seed}")
+    names = random.choice((("log",), ("log", "Log"), ("log", "slow", "lamp", "Slow")))
+    lines = []
+    for line in text.splitlines(keepends=True):
+        lines.append(line)
+        if line[0] in "SP" and random.random() < 0.75:
+            chosen = {name.lower(): name for name in random.choices(names, k=random.randint(1, 2))}
+            lines += [f"O {name} {random.choice(('permit', 'permit', 'deny'))}\n" for name in chosen.values()]
+    return "".join(lines)
+
+
 for seed in range(30):
     add(f"random-{seed:02}", random_policy(seed, random_counts))
 for seed in range(30, 50):
     add(f"random-{seed:02}", random_policy(seed, random_counts_with_sets))
+for seed in range(50, 90):
+    add(f"random-{seed:02}", obliged(seed, random_policy(seed, random_counts if seed < 75 else random_counts_with_sets)))
 
 
 LISTS = 400
@@ -135,8 +151,8 @@ def build(program, *parts):
 def lists_and_answers(scratch):
     """Lists for the writer, and the lines that must be printed of them."""
     program, lists, answers = (pathlib.Path(scratch) / name for name in ("make_lists", "lists", "answers"))
-    build(program, "make_lists", "lists", "generate", "requests", "damage", "sets", "letter_case", "text", "read", "write",
-          "output")
+    build(program, "make_lists", "lists", "damage_places", "generate", "edge_files", "obliged_files", "requests", "damage",
+          "damage_obligations", "sets", "letter_case", "text", "read", "decide", "obligations", "write", "output")
     subprocess.run([program, "1", str(LISTS), lists, answers], check=True, stdout=subprocess.DEVNULL)
     return lists.read_bytes(), answers.read_bytes()
 
@@ -145,7 +161,7 @@ def made():
     """Every file of the crate that is made here, with its bytes."""
     with tempfile.TemporaryDirectory() as scratch:
         program = f"{scratch}/reference_program"
-        build(program, "reference_program", "read", "decide", "trim", "report", "output")
+        build(program, "reference_program", "read", "decide", "obligations", "trim", "report", "output")
         add("report-of-65536-bytes", report_of(program, 65536))
         add("report-of-65537-bytes", report_of(program, 65537))
         add("report-far-too-long", far_too_long())

@@ -1,4 +1,4 @@
-/* Reading a policy file: the tests 1 to 9. */
+/* Reading a policy file: the tests 1 to 9 and 14. */
 #include "reference.h"
 
 #include <string.h>
@@ -222,6 +222,16 @@ static uint32_t read_element(struct policy *policy, const struct fields *fields,
     return 0;
 }
 
+/* The tests of an obligation's line, which then belongs to the last element's. */
+static uint32_t read_obligation(struct policy *policy, const struct fields *fields, struct slice line)
+{
+    uint32_t refusal = add_obligation(policy, policy->before, fields->field[1], word_of(fields->field[2], 'R'));
+
+    if (refusal == 0)
+        policy->element[policy->elements - 1].line.length += line.length;
+    return refusal;
+}
+
 /* The lowest number that a line (newline included, if there is one) is refused with, or 0. */
 static uint32_t read_line(struct policy *policy, struct slice line)
 {
@@ -233,6 +243,8 @@ static uint32_t read_line(struct policy *policy, struct slice line)
         return 2;
     if (is(fields.field[0], "A") || is(fields.field[0], "M"))
         return fields.count < 3 ? 2 : read_attribute(policy, &fields);
+    if (is(fields.field[0], "O"))
+        return fields.count != 3 ? 2 : read_obligation(policy, &fields, line);
     if (!is(fields.field[0], "S") && !is(fields.field[0], "P") && !is(fields.field[0], "R"))
         return 2;
     if (fields.count != 4 + (size_t)policy->attributes)
@@ -257,6 +269,7 @@ struct answer read_policy(const uint8_t *file, size_t length, struct policy *pol
         uint32_t refusal = read_line(policy, (struct slice){file + start, end - start});
         if (refusal != 0)
             return (struct answer){refusal, number};
+        policy->before = (char)file[start];
         if (policy->elements == 0)
             policy->attribute_lines = (struct slice){file, end};
     }

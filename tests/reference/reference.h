@@ -1,5 +1,5 @@
-/* Reference implementation of paper 01 with changes C-11 to C-14, written from the papers alone: plain code, for
- * comparing with.
+/* Reference implementation of paper 01 with changes C-11 to C-16, written from the papers alone: plain code, for
+ * comparing with. What C-16 calls a duty is an obligation here, as in XACML.
  *
  * Every function answers two numbers. `number` is 0 where the work was done, and `second` is then the result; any other
  * `number` is the paper's refusal with its second number. Lent memory is left as it was on every refusal. */
@@ -11,8 +11,11 @@
 
 struct answer { uint32_t number, second; };
 
-/* `second` is the decision: permit 0, deny 1, not-applicable 2, indeterminate 3. */
-struct answer ref_decide(const uint8_t *file, size_t file_len, const uint8_t *request, size_t request_len);
+/* `second` is the decision: permit 0, deny 1, not-applicable 2, indeterminate 3; `length` is that of the obligations that
+ * come with it, 0 for a refusal. */
+struct decided { uint32_t number, second, length; };
+struct decided ref_decide(const uint8_t *file, size_t file_len, const uint8_t *request, size_t request_len, uint8_t *out,
+                          size_t room);
 
 /* `second` is the length of the trimmed text. */
 struct answer ref_trim(const uint8_t *file, size_t len, uint8_t *out, size_t room);
@@ -26,6 +29,7 @@ struct answer ref_pairs(const uint8_t *file, size_t len, const uint8_t *name, si
 /* What follows is for the reference's own files. */
 
 enum { FILE_BYTES = 16384, NAME_BYTES = 16, ATTRIBUTES = 6, VALUES = 16, SET_VALUES = 12, SPACE = 4096, ELEMENTS = 64 };
+enum { OBLIGATIONS = 2 }; /* of an element */
 
 enum decision { PERMIT, DENY, NOT_APPLICABLE, INDETERMINATE };
 
@@ -46,13 +50,17 @@ struct attribute {
     int count;                  /* what it counts in the space: its values, or the sets that there are of them */
 };
 
+struct obligation { struct slice name; enum word word; }; /* for a permit or for a deny */
+
 struct element {
     char kind;                   /* 'S' policy set, 'P' policy, 'R' rule */
     int depth;
     struct slice name;
     enum word word;
     unsigned target[ATTRIBUTES]; /* masks: bit 0 is the first value */
-    struct slice line;           /* its whole line, newline included */
+    int obligations;
+    struct obligation obligation[OBLIGATIONS];
+    struct slice line;           /* its whole line and those of its obligations, newlines included */
     int parent;                  /* place of the parent; -1 for the first element */
     int children;
     int child[ELEMENTS];         /* places of the children, in file order */
@@ -66,6 +74,7 @@ struct policy {
     struct slice attribute_lines;
     int elements;
     struct element element[ELEMENTS];
+    char before; /* letter of the last line that was read, or 0 */
 };
 
 /* read.c */
@@ -94,9 +103,30 @@ struct answer lend_text(struct text *text, uint8_t *out, size_t room);
 unsigned held_by(const struct attribute *attribute, int number); /* by a request with this number for the attribute */
 void values_of(const struct policy *policy, int request, unsigned held[ATTRIBUTES]);
 int applies(const struct policy *policy, int place, const unsigned held[ATTRIBUTES]);
+int matches(const struct policy *policy, int place, const unsigned held[ATTRIBUTES]); /* its own target */
 enum decision gives(const struct policy *policy, int place, const unsigned held[ATTRIBUTES]);
-void decide_space(const struct policy *policy, uint8_t decisions[SPACE]);
 extern const char *const decision_words[4];
+
+/* obligations.c */
+
+/* The tests 3, 4, 14 and 7 of an obligation behind a line with the letter `before`, in that order; a good one joins the last
+ * element. The word is WORDS if it is none. */
+uint32_t add_obligation(struct policy *policy, char before, struct slice name, enum word word);
+
+/* What a request gets. The obligations are names with a newline after each. */
+enum { OBLIGATION_BYTES = OBLIGATIONS * (ELEMENTS - 1) * (NAME_BYTES + 1) }; /* more than there can be: one is a rule */
+struct outcome { enum decision decision; size_t length; uint8_t obligations[OBLIGATION_BYTES]; };
+int asked_by(const struct policy *policy, int place, const unsigned held[ATTRIBUTES], int asked[ELEMENTS]); /* how many */
+void find_outcome(const struct policy *policy, const unsigned held[ATTRIBUTES], struct outcome *outcome);
+int same_outcome(const struct outcome *one, const struct outcome *other);
+void find_outcomes(const struct policy *policy, struct outcome outcomes[SPACE]); /* of every request */
+
+/* A place for an obligation in a record: unused ones are zero, with the word permit. */
+struct place {
+    uint8_t name[NAME_BYTES];  /* zero bytes behind the name */
+    uint8_t length;            /* of the name */
+    enum word word;
+};
 
 /* An element of the list that the writer takes. */
 struct record {
@@ -106,14 +136,16 @@ struct record {
     uint8_t length;            /* of the name */
     enum word word;
     uint16_t mask[ATTRIBUTES]; /* zero behind the last attribute */
+    uint8_t obligations;       /* how many; there are places for two */
+    struct place place[OBLIGATIONS];
 };
 
 /* write.c: `second` is the length of the file. */
 struct answer ref_write(struct slice lines, const struct record *list, size_t elements, uint8_t *out, size_t room);
 
 /* trim.c */
-int first_change(struct policy *policy, int rule, const uint8_t decisions[SPACE]); /* the space if there is none */
-int strike_needless(struct policy *policy, const uint8_t decisions[SPACE], int order[ELEMENTS]);
+int first_change(struct policy *policy, int rule, const struct outcome outcomes[SPACE]); /* the space if there is none */
+int strike_needless(struct policy *policy, const struct outcome outcomes[SPACE], int order[ELEMENTS]);
 
 /* pairs.c */
 struct pair { int request; enum decision both, earlier, later; }; /* the request with both, and the three decisions */

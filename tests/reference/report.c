@@ -6,7 +6,7 @@ static void put_name(struct text *text, const struct policy *policy, int place)
     put_bytes(text, policy->element[place].name.bytes, policy->element[place].name.length);
 }
 
-static void put_segments(struct text *text, const struct policy *policy, const uint8_t decisions[SPACE])
+static void put_segments(struct text *text, const struct policy *policy, const struct outcome outcomes[SPACE])
 {
     static uint64_t applying[SPACE]; /* for each request the elements that apply, bit 0 the first element */
     unsigned held[ATTRIBUTES];
@@ -32,7 +32,7 @@ static void put_segments(struct text *text, const struct policy *policy, const u
         put_string(text, "\t");
         put_number(text, count);
         put_string(text, "\t");
-        put_string(text, decision_words[decisions[request]]);
+        put_string(text, decision_words[outcomes[request].decision]);
         const char *before = "\t";
         for (int place = 0; place < policy->elements; place++)
             if (applying[request] >> place & 1) {
@@ -95,10 +95,10 @@ static void put_conflicts(struct text *text, const struct policy *policy)
     }
 }
 
-static void put_rules(struct text *text, struct policy *policy, const uint8_t decisions[SPACE])
+static void put_rules(struct text *text, struct policy *policy, const struct outcome outcomes[SPACE])
 {
     int order[ELEMENTS];
-    int strikes = strike_needless(policy, decisions, order);
+    int strikes = strike_needless(policy, outcomes, order);
 
     for (int i = 0; i < strikes; i++) {
         put_string(text, "X\t");
@@ -111,24 +111,24 @@ static void put_rules(struct text *text, struct policy *policy, const uint8_t de
         put_string(text, "K\t");
         put_name(text, policy, place);
         put_string(text, "\t");
-        put_number(text, first_change(policy, place, decisions));
+        put_number(text, first_change(policy, place, outcomes));
         put_string(text, "\n");
     }
 }
 
 struct answer ref_report(const uint8_t *file, size_t len, uint8_t *out, size_t room)
 {
+    static struct outcome outcomes[SPACE];
     struct policy policy;
-    uint8_t decisions[SPACE];
     struct text text = {NULL, 0, 0};
 
     struct answer answer = read_policy(file, len, &policy);
     if (answer.number != 0)
         return answer;
-    decide_space(&policy, decisions);
-    put_segments(&text, &policy, decisions);
+    find_outcomes(&policy, outcomes);
+    put_segments(&text, &policy, outcomes);
     put_conflicts(&text, &policy);
-    put_rules(&text, &policy, decisions); /* last: it strikes rules, and the rest is told of the whole file */
+    put_rules(&text, &policy, outcomes); /* last: it strikes rules, and the rest is told of the whole file */
 
     return lend_text(&text, out, room);
 }

@@ -115,3 +115,15 @@ void make_request(struct bytes *request, const struct policy *policy, int good)
     if (!good && !bad_fields)
         damage_request(request);
 }
+
+void make_request_of(struct bytes *request, const struct policy *policy, int number)
+{
+    unsigned held[ATTRIBUTES];
+
+    values_of(policy, number, held);
+    request->length = 0;
+    for (int i = 0; i < policy->attributes; i++) {
+        put(request, i > 0 ? "\t" : "");
+        put_mask(request, &policy->attribute[i], held[i]);
+    }
+}

@@ -86,10 +86,12 @@ static void more_attributes(struct bytes *file)
         size_t at = tree_start(file);
         sprintf(line, lines[below(one_in(2) ? 3 : 7)], more);
         replace(file, at, 0, line, strlen(line));
-        for (size_t i = at + strlen(line); i < file->length; i++)
+        for (size_t i = at + strlen(line), start = i; i < file->length; i++)
             if (file->bytes[i] == '\n') {
-                replace(file, i, 0, "\t*", 2);
-                i += 2;
+                size_t more_bytes = file->bytes[start] == 'O' ? 0 : 2; /* an obligation has no target */
+                replace(file, i, 0, "\t*", more_bytes);
+                i += more_bytes;
+                start = i + 1;
             }
     }
 }

@@ -2,7 +2,8 @@
  *
  * A vector file has `#` lines, and for each policy its lines and then `=` with the engine's decisions of all requests, in
  * number order. Its last line says how many policies there are. A policy passes if the library decides every request as
- * the engine does, by the file and also by the trimmed file, and lists the pairs of values of each M by those decisions. */
+ * the engine does, by the file and also by the trimmed file, and lists the pairs of values of each M by those decisions. The
+ * same is asked of the file with obligations on its first element, which come with each permit or deny of the engine. */
 #include "../c/space.h"
 #include "jogimaduve.h"
 
@@ -21,13 +22,23 @@ static int passed;
 static int failed;
 static long lines; /* of pairs */
 
-static int decides(const char *file, size_t length, const char *what) {
+/* The obligations of the first element, and the text of them that comes with a decision. */
+static const char OBLIGATIONS[] = "O\tlog\tpermit\nO\tslow\tdeny\n";
+
+static const char *obligations_with(char letter) {
+    return letter == 'P' ? "log\n" : letter == 'D' ? "slow\n" : "";
+}
+
+static int decides(const char *file, size_t length, int obliged, const char *what) {
     static char line[REQUEST_MOST];
     long held[ATTRIBUTES], number = 0;
     for (; held_by(number, held); number++) {
         put_request(held, line);
-        jogimaduve_answer got = jogimaduve_decide((const uint8_t *)file, length, (const uint8_t *)line, strlen(line));
+        uint8_t text[8];
+        jogimaduve_decision got = jogimaduve_decide((const uint8_t *)file, length, (const uint8_t *)line, strlen(line), text, sizeof text);
+        const char *wanted = obliged ? obligations_with(engine[number]) : "";
         char letter = got.number == 0 && got.second < 4 ? LETTERS[got.second] : '?';
+        if (got.length != strlen(wanted) || memcmp(text, wanted, got.length) != 0) letter = '!';
         if (engine[number] != letter) {
             if (failed < SHOWN) printf("request %ld (%s): the engine says %c, %s %c\n", number, line, engine[number], what, letter);
             return 0;
@@ -62,11 +73,29 @@ static int lists_pairs(void) {
     return 1;
 }
 
-static void compare(void) {
+static int decides_trimmed(int obliged, const char *what) {
     static char trimmed[FILE_MOST];
-    int holds = attributes > 0 && decides(policy, size, "the library") && lists_pairs();
     jogimaduve_answer got = jogimaduve_trim((const uint8_t *)policy, size, (uint8_t *)trimmed, sizeof trimmed);
-    holds = holds && got.number == 0 && decides(trimmed, got.second, "the trimmed file");
+    return got.number == 0 && decides(trimmed, got.second, obliged, what);
+}
+
+/* Puts them behind the first tree line. */
+static void oblige(void) {
+    size_t at = 0, more = strlen(OBLIGATIONS);
+    int letter;
+    do {
+        letter = policy[at];
+        while (policy[at++] != '\n') {}
+    } while (letter == 'A' || letter == 'M');
+    memmove(policy + at + more, policy + at, size - at);
+    memcpy(policy + at, OBLIGATIONS, more);
+    size += more;
+}
+
+static void compare(void) {
+    int holds = attributes > 0 && decides(policy, size, 0, "the library") && lists_pairs() && decides_trimmed(0, "the trimmed file");
+    if (holds) oblige();
+    holds = holds && decides(policy, size, 1, "with obligations the library") && lists_pairs() && decides_trimmed(1, "trimmed with obligations");
     if (holds) {
         passed++;
     } else {
@@ -91,7 +120,7 @@ static int compare_file(const char *name) {
             line[strcspn(line, "\n")] = '\0';
             engine = line + 1;
             compare();
-        } else if (size + length <= sizeof policy) {
+        } else if (size + length + sizeof OBLIGATIONS <= sizeof policy) {
             if (line[0] == 'A' || line[0] == 'M') declare(line);
             memcpy(policy + size, line, length);
             size += length;
@@ -108,7 +137,7 @@ int main(int count, char **files) {
             failed++;
         }
     }
-    printf("%ld lines of pairs\n", lines);
+    printf("%ld lines of pairs, without obligations and with them\n", lines);
     printf("%d passed, %d failed\n", passed, failed);
     return failed != 0 || passed == 0;
 }
