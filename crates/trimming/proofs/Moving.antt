@@ -6,6 +6,7 @@ use mathlib.Core.List.{List}
 use native.Mathlib.Nat.{sub-zero}
 use native.Mathlib.Omega.{arith}
 use lib.Dec.{ltb}
+use lib.ListN.{getD}
 use borrow.Author.Tests.{ltb-true, ltb-false, not-true}
 use Rattle.meaning.specs.declared.Decision.{Decision}
 use Rattle.meaning.specs.Text.{Bytes}
@@ -50,6 +51,12 @@ module _ (f : Bytes) (places t struck hits outcomes : List ℕ) (s : Shape) (rul
   pub decided-apart : (m : ℕ) → not (is (decided (kept struck rule) m) (decided struck m)) ≡ true → apart m ≡ true
   unfolding apartAt decidedAt
   decided-apart m e = let other : is (decided (kept struck rule) m) (decided struck m) ≡ false = not-true _ e in rw other
+
+  -- no request of a block in which none matches the rule gets anything else
+  pub block-off : (block : ℕ) → getD hits (64 * rule + block) 0 ≡ 0 → (m : ℕ) → m < s .space → m / 64 ≡ block → apart m ≡ false
+  block-off block none m l e =
+      let off : hitOf s m (elementAt t rule) ≡ false = sym (rw e at (trial .matched .hits-are rule m (trial .aside .element) l)) ∙ ap (λ w. bit w (m % 64)) none ∙ bit-zero (m % 64) in
+      unchanged-not m (trial .steady .unmatched struck rule (trial .aside) m l off)
 
   pub block-ready : (block : ℕ) → 64 * block < s .space → Block t struck hits (s .n) block (s .n)
   block-ready block l =

@@ -45,7 +45,7 @@ fn group_over(table: &[u16], n: usize, rule: usize) -> usize
     up
 }
 
-// The first request that gets another decision than the one laid down, or other obligations, or the number of requests.
+// The first request that gets another decision than the one laid down, or other obligations, or the number of requests. Only requests that match the rule can.
 fn first_change(
     file: &[u8],
     places: &[usize],
@@ -64,6 +64,10 @@ fn first_change(
     let space = shape.space;
     let mut block = 0;
     while 64 * block < space {
+        if hits[64 * rule + block] == 0 {
+            block += 1;
+            continue;
+        }
         let first = trial::change_at(
             file,
             places,

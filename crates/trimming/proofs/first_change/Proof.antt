@@ -4,7 +4,8 @@ use native.Mathlib.Omega.{arith}
 use borrow.Author.Needs.{needs}
 use Rattle.table.specs.Shape.{hitOf}
 use Rattle.trimming.specs.Decided.{apartAt}
-use Rattle.trimming.proofs.Blocks.{NoneBelow, block-searched, block-found, none-found-at-all}
+use Rattle.trimming.proofs.Blocks.{NoneBelow, block-passed, block-searched, block-found, none-found-at-all}
+use Rattle.trimming.proofs.Moving.{block-off}
 use Rattle.trimming.proofs.first_change.Statement.{statement}
 use Rattle.trimming.proofs.first_change.Tie as tie
 
@@ -21,18 +22,37 @@ loop-holds c = (omega arith, λ m l none. absurd (omega arith))
 mul-loop : tie.Need-mul-loop Inv-loop μ-loop
 mul-loop c = omega (arith, c .before .before .before .before .before .before .before .pre .0 .aside .ready .small)
 
-change-at-requires : tie.Need-change-at-requires Inv-loop μ-loop
-change-at-requires c κs = let pre = c .before .before .before .before .before .before .before .before .pre in (pre .0, pre .1, pre .2, c .loop-test .taken)
+mul-if1 : tie.Need-mul-if1 Inv-loop μ-loop
+mul-if1 c = let pre = c .before .before .before .before .before .before .before .before .pre in omega (arith, pre .0 .aside .ready .few, pre .0 .aside .element, pre .0 .aside .ready .small, pre .0 .matched .room)
 
-returns : tie.Need-returns Inv-loop μ-loop
-returns c =
-    let turn = c .before .before .before .loop in
-    block-found _ (c .before .before .before .before .before .before .before .before .before .before .args .shape .space) (turn .block) (turn .inv .1) _ (c .before .change-at .ensures) (c .if1 .taken)
+add-if1 : tie.Need-add-if1 Inv-loop μ-loop
+add-if1 c = let pre = c .before .before .before .before .before .before .before .before .pre in omega (arith, pre .0 .aside .ready .few, pre .0 .aside .element, pre .0 .aside .ready .small, pre .0 .matched .room)
+
+mul-if1-2 : tie.Need-mul-if1-2 Inv-loop μ-loop
+mul-if1-2 c = let pre = c .before .before .before .before .before .before .before .before .pre in omega (arith, pre .0 .aside .ready .few, pre .0 .aside .element, pre .0 .aside .ready .small, pre .0 .matched .room)
+
+shared-slice-read-if1 : tie.Need-shared-slice-read-if1 Inv-loop μ-loop
+shared-slice-read-if1 c = let pre = c .before .before .before .before .before .before .before .before .before .pre in omega (arith, pre .0 .aside .ready .few, pre .0 .aside .element, pre .0 .aside .ready .small, pre .0 .matched .room)
 
 loop-again : tie.Need-loop-again Inv-loop μ-loop
 loop-again c =
+    let start = c .before .before .before .before .before .before .before .before .before .before in
     let turn = c .before .before .before .loop in
-    (omega arith, block-searched _ (c .before .before .before .before .before .before .before .before .before .before .args .shape .space) (turn .block) (turn .inv .1) _ (c .before .change-at .ensures) (omega arith))
+    let off = block-off _ _ _ _ _ _ (start .args .shape) (start .args .rule) (start .pre .0) (turn .block) (c .if1 .taken) in
+    (omega arith, block-passed _ (start .args .shape .space) (turn .block) (turn .inv .1) off)
+
+change-at-requires : tie.Need-change-at-requires Inv-loop μ-loop
+change-at-requires c κs = let pre = c .before .before .before .before .before .before .before .before .before .before .pre in (pre .0, pre .1, pre .2, c .before .before .loop-test .taken)
+
+returns : tie.Need-returns Inv-loop μ-loop
+returns c =
+    let turn = c .before .before .before .before .before .loop in
+    block-found _ (c .before .before .before .before .before .before .before .before .before .before .before .before .args .shape .space) (turn .block) (turn .inv .1) _ (c .before .change-at .ensures) (c .if2 .taken)
+
+loop-again-2 : tie.Need-loop-again-2 Inv-loop μ-loop
+loop-again-2 c =
+    let turn = c .before .before .before .before .before .loop in
+    (omega arith, block-searched _ (c .before .before .before .before .before .before .before .before .before .before .before .before .args .shape .space) (turn .block) (turn .inv .1) _ (c .before .change-at .ensures) (omega arith))
 
 returns-2 : tie.Need-returns-2 Inv-loop μ-loop
 returns-2 c =
@@ -47,9 +67,16 @@ first-change-spec =
     μ-loop
     loop-holds
     mul-loop
+    mul-if1
+    add-if1
+    mul-if1-2
+    shared-slice-read-if1
+    (λ c. search needs)
+    (λ c. search needs)
+    loop-again
     change-at-requires
     returns
     (λ c. search needs)
     (λ c. search needs)
-    loop-again
+    loop-again-2
     returns-2)
