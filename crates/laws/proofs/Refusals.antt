@@ -3,6 +3,7 @@ use Prim.Native.Nat.{ℕ, zero, suc, _≤_, _+_}
 use native.Mathlib.Omega.{arith}
 use mathlib.Core.Bool.{Bool, true, false, cond, _&&_}
 use mathlib.Core.List.{List, [], _∷_, _++_}
+use mathlib.Core.Option.{Option, none, some}
 use lib.ListN.{length}
 use lib.Dec.{ltb}
 use Rattle.meaning.specs.Text.{Bytes, empty, gathered, sameName, cut, tab, front, last, newline}
@@ -10,6 +11,7 @@ use Rattle.meaning.specs.Model.{Attribute, Policy, Result, refused, given, _the
 use Rattle.meaning.specs.Reading.{Sofar, Line, Tests, lineOf, lowest, wrongFields, lineTests, elementTests, withElement, extended, readLines, nothing, short, finished, readText, read, obligationTests, withObligation}
 use Rattle.meaning.specs.Report.{report, fitted, reportFile}
 use Rattle.meaning.specs.ValuePairs.{severalAt, pairsText, pairsNamed}
+use Rattle.meaning.specs.RuleByRule.{needlessNamed, withoutLine, strikeNamed}
 use Rattle.meaning.specs.Writing.{headerTests, readElements, writeFile, readElement, elementLines, readObligations}
 use Rattle.laws.proofs.Types.{Element, Obligation}
 
@@ -60,6 +62,14 @@ pairs-numbered p name = then-numbered (severalAt 0 name (p .attributes)) (λ i. 
     place-numbered : (i : ℕ) (attrs : List Attribute) → Numbered (severalAt i name attrs)
     place-numbered i [] = omega arith
     place-numbered i (a ∷ attrs) = either-numbered (a .several && sameName name (a .name)) (given i) (severalAt (suc i) name attrs) tt (place-numbered (suc i) attrs)
+
+pub strike-numbered : (f name : Bytes) → Numbered (strikeNamed f name)
+unfolding strikeNamed
+strike-numbered f name = go (needlessNamed f name)
+  where
+    go : (o : Option ℕ) → Numbered (withoutLine f o)
+    go none = omega arith
+    go (some k) = tt
 
 obligations-numbered : (n : ℕ) (s : Sofar) (os : List Obligation) → Numbered (readObligations n s os)
 obligations-numbered n s [] = tt

@@ -5,6 +5,7 @@ pub mod Capitals
 pub mod Conflicts
 pub mod Sets
 pub mod ValuePairs
+pub mod RuleByRule
 pub mod Stepping
 pub mod Outcomes
 pub mod Obligations

@@ -13,5 +13,6 @@ pub mod Segments
 pub mod ReportLines
 pub mod Trimming
 pub mod ValuePairs
+pub mod RuleByRule
 pub mod Operations
 pub mod Promises

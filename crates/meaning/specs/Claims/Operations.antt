@@ -11,8 +11,9 @@ use Rattle.meaning.specs.Deciding.{Request, numberOf, requestLine, decis
 use Rattle.meaning.specs.Trimming.{trimmed}
 use Rattle.meaning.specs.Report.{report, program}
 use Rattle.meaning.specs.ValuePairs.{pairsNamed}
+use Rattle.meaning.specs.RuleByRule.{nextName, strikeNamed}
 use Rattle.meaning.specs.Writing.{writeFile}
-use Rattle.meaning.specs.Operations.{Answer, decideAnswer, decideLent, trimAnswer, trimLent, reportAnswer, reportLent, valuePairsAnswer, valuePairsLent, readAnswer, readLent, writeAnswer, writeLent}
+use Rattle.meaning.specs.Operations.{Answer, decideAnswer, decideLent, trimAnswer, trimLent, reportAnswer, reportLent, valuePairsAnswer, valuePairsLent, nextRuleAnswer, nextRuleLent, strikeAnswer, strikeLent, readAnswer, readLent, writeAnswer, writeLent}
 use Rattle.meaning.specs.Claims.ReportLines.{errorLine, fieldLines}
 
 -- An operation that writes to lent memory, by what it is to write there: a refusal, with its numbers, leaves no trace, and so
@@ -25,7 +26,7 @@ pub record Writes {A : Type 0} (too-short : ℕ) (wanted : Result (List A)) (ans
   pub no-trace : answer .number ≢ 0 → after ≡ before
   pub done : answer .number ≡ 0 → (xs : List A) × (wanted ≡ given xs) × (length xs ≤ length before)
 
--- the six operations; a decision's number is its place in this list; a file that is written has at most 16,384 bytes
+-- the eight operations; a decision's number is its place in this list; a file that is written has at most 16,384 bytes
 pub record Operations : Type 0 where
   pub decision-numbers : map decisionNumber (Decision.Permit ∷ Decision.Deny ∷ not-applicable ∷ indeterminate ∷ []) ≡ 0 ∷ 1 ∷ 2 ∷ 3 ∷ []
   pub decides-no-file : (f r buffer : Bytes) (n m : ℕ) → read f ≡ refused n m → (decideAnswer f r buffer ≡ record { number = n; second = m; length = 0 }) × (decideLent f r buffer ≡ buffer)
@@ -41,6 +42,8 @@ pub record Operations : Type 0 where
   pub trims : (f buffer : Bytes) → Writes 11 (read f then λ p. given (trimmed f .text)) (trimAnswer f buffer) buffer (trimLent f buffer)
   pub reports : (f buffer : Bytes) → Writes 11 (read f then λ p. given (report f p)) (reportAnswer f buffer) buffer (reportLent f buffer)
   pub tells-pairs : (f name buffer : Bytes) → Writes 11 (read f then λ p. pairsNamed p name) (valuePairsAnswer f name buffer) buffer (valuePairsLent f name buffer)
+  pub shows-next : (f buffer : Bytes) → Writes 11 (read f then λ p. given (nextName f)) (nextRuleAnswer f buffer) buffer (nextRuleLent f buffer)
+  pub strikes : (f rule buffer : Bytes) → Writes 11 (read f then λ p. strikeNamed f rule) (strikeAnswer f rule buffer) buffer (strikeLent f rule buffer)
   pub reads : (f : Bytes) (list : List Element) → Writes 12 (read f then λ p. given (p .elements)) (readAnswer f list) list (readLent f list)
   pub writes : (header : Bytes) (es : List Element) (buffer : Bytes) → Writes 11 (writeFile 16384 header es) (writeAnswer header es buffer) buffer (writeLent header es buffer)
 

@@ -13,6 +13,7 @@ use Rattle.meaning.specs.Trimming.{lines, ruleLine, strike, Trimmed, tri
 use Rattle.meaning.specs.Segments.{segments, segmentSize, Conflict, conflicts}
 use Rattle.meaning.specs.Report.{report}
 use Rattle.meaning.specs.ValuePairs.{pairsNamed}
+use Rattle.meaning.specs.RuleByRule.{nextName, strikeNamed}
 use Rattle.meaning.specs.Writing.{writeFile}
 use Rattle.meaning.specs.Claims.Texts.{All, Texts}
 use Rattle.meaning.specs.Claims.PolicyFile.{GoodAttribute, Spelled, WellFormed, Reads}
@@ -26,6 +27,7 @@ use Rattle.meaning.specs.Claims.Deciding.{Parented, Standardly, AskedInO
 use Rattle.meaning.specs.Claims.Segments.{Segmented, Opens, Conflicting, ConflictsListed}
 use Rattle.meaning.specs.Claims.Trimming.{Lines, Needless, ReportOf, Meets}
 use Rattle.meaning.specs.Claims.ValuePairs.{NamedAttribute, PairsNamed}
+use Rattle.meaning.specs.Claims.RuleByRule.{ShowsNext, NeedlessRule}
 use Rattle.meaning.specs.Claims.Operations.{Operations, Prints}
 
 -- Whoever meets these claims gives just what is defined: every wrong tool is shut out
@@ -80,6 +82,11 @@ pub record Promises : Type 0 where
   -- value pairs: which text a name gets is settled; 13 with 0 comes exactly if no `M` attribute has that name
   pub pairing : (f : Bytes) (p : Policy) → read f ≡ given p → (name t : Bytes) → pairsNamed p name ≡ given t ↔ PairsNamed p name t
   pub no-such-attribute : (f : Bytes) (p : Policy) → read f ≡ given p → (name : Bytes) (n m : ℕ) → pairsNamed p name ≡ refused n m ↔ ((NamedAttribute (p .attributes) name → ⊥) × (n ≡ 13) × (m ≡ 0))
+  -- rule by rule: what is shown; a name strikes the line of the needless rule that has it, and nothing else; 15 with 0 comes exactly
+  -- if no needless rule has it
+  pub showing : (f : Bytes) (p : Policy) → read f ≡ given p → ShowsNext f (nextName f)
+  pub striking : (f : Bytes) (p : Policy) → read f ≡ given p → (name t : Bytes) → strikeNamed f name ≡ given t ↔ ((r : NeedlessRule f name) × (t ≡ strike (r .place) f))
+  pub no-needless-rule : (f : Bytes) (p : Policy) → read f ≡ given p → (name : Bytes) (n m : ℕ) → strikeNamed f name ≡ refused n m ↔ ((NeedlessRule f name → ⊥) × (n ≡ 15) × (m ≡ 0))
   pub settled : Settled
   pub shut-out : ShutOut
   pub operations : Operations
