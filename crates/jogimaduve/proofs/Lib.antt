@@ -7,5 +7,5 @@ mod Operate
 mod Demand3
 mod SameReports
 mod TellsPairs
-mod Reporting
+mod Holding
 mod Pairing

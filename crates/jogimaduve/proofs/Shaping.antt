@@ -23,7 +23,7 @@ use Rattle.layout.proofs.Counts.{sizes-are, severals-are, sets-counted}
 use Rattle.reader.specs.declared.Reading.{Reading}
 use Rattle.reader.specs.Told.{policyShape, ReadPolicy}
 use Rattle.reader.proofs.FileRead.{few}
-use Rattle.trimming.specs.Steady.{Steady}
+use Rattle.trials.specs.Steady.{Steady}
 use Rattle.trimmed_text.specs.Copied.{Copies}
 use Rattle.trimmed_text.proofs.Placed.{copies-lined}
 use Rattle.trimmed_text.proofs.ByPlace.{root-word, leaves}

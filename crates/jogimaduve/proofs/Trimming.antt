@@ -25,7 +25,7 @@ use Rattle.reader.specs.declared.Reading.{Reading}
 use Rattle.reader.specs.Told.{policyShape, ReadPolicy}
 use Rattle.reader.proofs.FileRead.{elements-are, few}
 use Rattle.outcomes.specs.Decided.{none-struck}
-use Rattle.reporting.proofs.StruckText.{none-clear}
+use Rattle.trimmed_text.proofs.Whole.{none-clear}
 use Rattle.jogimaduve.proofs.Shaping.{attributes-are, hits-are, space-is}
 
 -- A file that was read is short, and so is a part of it

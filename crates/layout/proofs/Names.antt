@@ -1,12 +1,18 @@
 -- The search for a name, place by place.
-use Prim.Native.Nat.{ℕ, suc, _+_, _-_, _≤_, _<_}
-use mathlib.Core.Path.{_≡_, ap, _∙_}
-use mathlib.Core.Bool.{true, false}
+use Prim.Native.Nat.{ℕ, zero, suc, _+_, _-_, _≤_, _<_}
+use mathlib.Core.Path.{_≡_, refl, sym, _∙_}
+use mathlib.Core.Bool.{not}
 use mathlib.Core.List.{List, [], _∷_, map}
+use mathlib.Core.Option.{Option, none, some}
+use lib.Dec.{ltb}
+use borrow.Author.Tests.{lt-ltb, le-ltb}
 use native.Mathlib.Omega.{arith}
-use Rattle.meaning.specs.Text.{Bytes, sameName, amongNames}
+use Rattle.meaning.specs.Text.{Bytes, isNone, lastBelow, amongNames}
 use Rattle.layout.specs.declared.Attributes.{Attributes}
-use Rattle.layout.specs.Places.{attributeAt, attributesFrom, nameIn, namesTo}
+use Rattle.laws.proofs.Bools.{Test, passed, failed, test}
+use Rattle.laws.proofs.Search.{last-some}
+use Rattle.table.specs.Tree.{placeOr}
+use Rattle.layout.specs.Places.{attributeAt, attributesFrom, namesTo, hasName}
 
 -- the attributes from i on: none, or the one there and those behind it
 module _ (f : Bytes) (a : Attributes) (i : ℕ) where
@@ -22,17 +28,20 @@ module _ (f : Bytes) (a : Attributes) (i : ℕ) where
 abbrev pub attributeNames : Bytes → Attributes → ℕ → List Bytes
 attributeNames f a i = map (λ b. b .name) (attributesFrom f a i (a .len - i))
 
--- elements looked at from the last on
-module _ (f name : Bytes) (places : List ℕ) (i : ℕ) where
-  pub elements-end : i ≡ 0 → amongNames name (namesTo f places i) ≡ false
+-- a name is among those of n elements if one of them has it, and then the last that has it is one of them
+module _ (f name : Bytes) (places : List ℕ) where
+  among-is : (n : ℕ) → amongNames name (namesTo f places n) ≡ not (isNone (lastBelow (hasName f places name) n))
   unfolding namesTo
-  elements-end none = rw none
+  among-is zero = refl
+  among-is (suc n) = go (test (hasName f places name n)) (among-is n)
+    where
+      go : Test (hasName f places name n) → amongNames name (namesTo f places n) ≡ not (isNone (lastBelow (hasName f places name) n)) → amongNames name (namesTo f places (suc n)) ≡ not (isNone (lastBelow (hasName f places name) (suc n)))
+      go (passed e) earlier = rw e
+      go (failed e) earlier = rw e earlier
 
-  module _ (l : 0 < i) where
-    pub element-hit : sameName name (nameIn f places (i - 1)) ≡ true → amongNames name (namesTo f places i) ≡ true
-    unfolding namesTo
-    element-hit e = let more : i ≡ suc (i - 1) = omega arith in rw (more, e)
-
-    pub element-miss : sameName name (nameIn f places (i - 1)) ≡ false → amongNames name (namesTo f places i) ≡ amongNames name (namesTo f places (i - 1))
-    unfolding namesTo
-    element-miss e = let more : i ≡ suc (i - 1) = omega arith in ap (λ m. amongNames name (namesTo f places m)) more ∙ rw e
+  pub among-named : (n : ℕ) → ltb (placeOr n (lastBelow (hasName f places name) n)) n ≡ amongNames name (namesTo f places n)
+  among-named n = go (lastBelow (hasName f places name) n) refl ∙ sym (among-is n)
+    where
+      go : (o : Option ℕ) → lastBelow (hasName f places name) n ≡ o → ltb (placeOr n o) n ≡ not (isNone o)
+      go none e = le-ltb n n (omega arith)
+      go (some i) e = lt-ltb i n (last-some (hasName f places name) n i e .below)

@@ -12,7 +12,7 @@ use Rattle.meaning.specs.declared.Word.{Word}
 use Rattle.meaning.specs.declared.Word.the-variants.{Permit, Deny}
 use Rattle.meaning.specs.declared.Obligation.{Obligation}
 use Rattle.meaning.specs.declared.Element.{Element}
-use Rattle.meaning.specs.Text.{Bytes, same, cut, tab, newline}
+use Rattle.meaning.specs.Text.{Bytes, same, sameName, cut, tab, newline}
 use Rattle.meaning.specs.Model.{Attribute, padded, unused, withObligations, letterText, choicesOf}
 use Rattle.table.specs.Rows.{elementAt}
 use Rattle.layout.specs.declared.Attributes.{Attributes}
@@ -146,6 +146,10 @@ elementsTo f table places (suc n) = elementIn f table places n ∷ elementsTo f 
 unfoldable pub namesTo : Bytes → List ℕ → ℕ → List Bytes
 namesTo f places zero = []
 namesTo f places (suc n) = nameIn f places n ∷ namesTo f places n
+
+-- element i has this name, letter case aside
+abbrev pub hasName : Bytes → List ℕ → Bytes → ℕ → Bool
+hasName f places name i = sameName name (nameIn f places i)
 
 -- the places of n elements lie in the file
 pub record Named (f : Bytes) (places : List ℕ) (n : ℕ) : Type 0 where

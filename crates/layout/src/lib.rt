@@ -7,11 +7,12 @@ ghost use Prim.Native.Nat.{_+_, _*_, _≤_, _<_};
 ghost use lib.ListN.{length};
 ghost use lib.Seq.{sets};
 ghost use Rattle.meaning.specs.declared.Element.{Element};
-ghost use Rattle.meaning.specs.Text.{sameName, amongNames};
+ghost use Rattle.meaning.specs.Text.{lastBelow, sameName, amongNames};
 ghost use Rattle.meaning.specs.Model.{choicesOf, obligationName};
 ghost use Rattle.meaning.specs.Reading.{wellPlaced};
 ghost use Rattle.table.specs.Rows.{Rows, withRow};
-ghost use Rattle.layout.specs.Places.{part, attributeAt, attributesOf, Standing, AllStanding, FewValues, sizesOf, noAttributes, added, namesTo, Named, obligationPlace, obligationStart, obligationEnd, obligationsIn, obligationCount, Obliged};
+ghost use Rattle.table.specs.Tree.{placeOr};
+ghost use Rattle.layout.specs.Places.{part, attributeAt, attributesOf, Standing, AllStanding, FewValues, sizesOf, noAttributes, added, nameIn, namesTo, hasName, Named, NameAt, obligationPlace, obligationStart, obligationEnd, obligationsIn, obligationCount, Obliged};
 ghost use Rattle.layout.specs.Nearest.{kindNumber, parentNumber, grown, Stands};
 
 // Whether each attribute may have several values in a request, and where it stands: the start of its name, of its first value, the
@@ -135,10 +136,10 @@ pub fn with_attribute(
     }
 }
 
-// Whether an element has this name.
-pub fn known_element(file: &[u8], places: &[usize], n: usize, name: &[u8]) -> bool
+// The place of the last element that has this name, or n.
+pub fn element_named(file: &[u8], places: &[usize], n: usize, name: &[u8]) -> usize
     requires { ⌜ Named (now file) (now places) n ⌝ }
-    ensures { λ r. ⌜ r ≡ amongNames (now (name .entry)) (namesTo (now (file .entry)) (now (places .entry)) n) ⌝ }
+    ensures { λ r. ⌜ r ≡ placeOr n (lastBelow (hasName (now (file .entry)) (now (places .entry)) (now (name .entry))) n) ⌝ }
 {
     let mut i = n;
     while 0 < i {
@@ -149,10 +150,29 @@ pub fn known_element(file: &[u8], places: &[usize], n: usize, name: &[u8]) -> bo
         }
         let start = places[2 * i] + 4;
         if names::same_name(name, &file[start..end]) {
-            return true;
+            return i;
         }
     }
-    false
+    n
+}
+
+// Whether an element has this name.
+pub fn known_element(file: &[u8], places: &[usize], n: usize, name: &[u8]) -> bool
+    requires { ⌜ Named (now file) (now places) n ⌝ }
+    ensures { λ r. ⌜ r ≡ amongNames (now (name .entry)) (namesTo (now (file .entry)) (now (places .entry)) n) ⌝ }
+{
+    element_named(file, places, n, name) < n
+}
+
+// The name of element i.
+pub fn element_name<'a>(file: &'a [u8], places: &[usize], i: usize) -> &'a [u8]
+    requires { ⌜ NameAt (now file) (now places) i ⌝ }
+    ensures { λ r. ⌜ now r ≡ nameIn (now (file .entry)) (now (places .entry)) i ⌝ }
+    ensures within { λ r. ⌜ length (now r) ≤ 16 ⌝ }
+{
+    let start = places[2 * i] + 4;
+    let end = places[2 * i + 1];
+    &file[start..end]
 }
 
 // Puts an element's row into the table and its places beside it.

@@ -12,9 +12,7 @@ fn put_name(file: &[u8], places: &[usize], i: usize, out: &mut [u8], at: usize) 
     requires { ⌜ NameAt (now file) (now places) i × (at ≤ 4294967296) ⌝ }
     ensures { λ r. ⌜ Wrote (now (out .entry)) at (nameIn (now (file .entry)) (now (places .entry)) i) (now (out .exit)) r × (r ≤ at + 16) ⌝ }
 {
-    let start = places[2 * i] + 4;
-    let end = places[2 * i + 1];
-    printing::put_bytes(out, at, &file[start..end])
+    printing::put_bytes(out, at, layout::element_name(file, places, i))
 }
 
 // The name of element i and the byte that ends it.

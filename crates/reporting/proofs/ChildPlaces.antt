@@ -5,7 +5,7 @@ use native.Mathlib.Omega.{arith}
 use mathlib.Core.List.{List, reverse}
 use mathlib.Core.Option.{Option, none, some}
 use lib.Dec.{eqb}
-use lib.ListN.{length, getD, length-reverse}
+use lib.ListN.{getD}
 use borrow.Author.Tests.{eqb-true, eqb-false, eq-eqb, ne-eqb}
 use Rattle.meaning.specs.Text.{Bytes, keep, counting}
 use Rattle.meaning.specs.Model.{Policy}
@@ -16,8 +16,7 @@ use Rattle.laws.proofs.Lists.{keep-alike}
 use Rattle.table.specs.Rows.{depthOf, elementAt}
 use Rattle.table.specs.Tree.{parentOf as parentIn, placeOr}
 use Rattle.layout.specs.Places.{elementIn, elementsTo}
-use Rattle.layout.proofs.Laws.{elements-length}
-use Rattle.trimmed_text.proofs.Table.{element-at}
+use Rattle.trimmed_text.proofs.Table.{count-is, element-at}
 use Rattle.trimmed_text.proofs.Tabled.{last-alike}
 
 -- a test of two numbers, either way round
@@ -34,10 +33,7 @@ place-test n i none l = ne-eqb n i (λ e. omega arith)
 place-test n i (some j) l = eqb-turned j i
 
 module _ (f : Bytes) (table places : List ℕ) (n : ℕ) (p : Policy) (is : p .elements ≡ reverse (elementsTo f table places n)) where
-  -- how many elements there are, their depths and their parents
-  pub count-is : length (p .elements) ≡ n
-  count-is = ap length is ∙ length-reverse (elementsTo f table places n) ∙ elements-length f table places n
-
+  -- the elements' depths and their parents
   depth-is : (i : ℕ) → i < n → depthAt (p .elements) i ≡ depthOf table i
   unfolding elementIn elementAt
   depth-is i l = element-at f table places n p is (λ e. e .depth) 0 i l
@@ -54,7 +50,7 @@ module _ (f : Bytes) (table places : List ℕ) (n : ℕ) (p : Policy) (is : p .e
   unfolding childrenOf
   children-are parents found i l =
       keep-alike (λ j. eqb (getD parents j 0) i) (λ j. isPlace i (parentOf (p .elements) j)) (counting 0 n) (λ j m. child-is j (omega (arith, counting-only 0 n j m)))
-      ∙ ap (λ k. keep (λ j. isPlace i (parentOf (p .elements) j)) (counting 0 k)) (sym count-is)
+      ∙ ap (λ k. keep (λ j. isPlace i (parentOf (p .elements) j)) (counting 0 k)) (sym (count-is f table places n p is))
     where
       child-is : (j : ℕ) → j < n → eqb (getD parents j 0) i ≡ isPlace i (parentOf (p .elements) j)
       child-is j u = ap (λ k. eqb k i) (found j u) ∙ place-test n i (parentIn table j) l ∙ ap (isPlace i) (parent-is j u)

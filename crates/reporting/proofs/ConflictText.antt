@@ -21,13 +21,13 @@ use Rattle.laws.proofs.Lists.{gathered-alike, gathered-keep, gathered-twice, ga
 use Rattle.table.specs.Tree.{parentOf, placeOr}
 use Rattle.outcomes.proofs.Searching.{first-alike}
 use Rattle.layout.specs.Places.{nameIn, elementsTo}
-use Rattle.trimmed_text.proofs.Table.{name-at}
+use Rattle.trimmed_text.proofs.Table.{count-is, name-at}
 use Rattle.rows.specs.Words.{givesAt}
 use Rattle.conflicts.specs.Pairs.{showsAt, Later}
 use Rattle.report_lines.specs.Lines.{conflictLine, isChild, laterLine, laterLines, pairLines, conflictText}
 use Rattle.reporting.proofs.Applying.{applies-at}
 use Rattle.reporting.proofs.Searched.{first-or}
-use Rattle.reporting.proofs.ChildPlaces.{count-is, children-are}
+use Rattle.reporting.proofs.ChildPlaces.{children-are}
 use Rattle.reporting.proofs.Giving.{gives-is}
 
 -- the line of a pair, the children among c places from j on, and the lines of their pairs

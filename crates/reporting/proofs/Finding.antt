@@ -19,7 +19,7 @@ use Rattle.outcomes.specs.Decided.{none-struck, outcomeAt}
 use Rattle.outcomes.specs.PolicyTable.{OutcomesLaid}
 use Rattle.outcomes.proofs.Laying.{laid-at}
 use Rattle.trimming.specs.Decided.{onward, shownAt, nextAt, trimmingAt}
-use Rattle.trimming.specs.Trial.{Laid}
+use Rattle.trials.specs.Trial.{Laid}
 use Rattle.trimming.specs.Trims.{Trims}
 use Rattle.trimmed_text.proofs.Steadying.{steady}
 use Rattle.layout.specs.Places.{Naming}
@@ -31,7 +31,7 @@ use Rattle.conflicts.specs.Pairs.{shownBy, Pairs}
 use Rattle.conflicts.proofs.Showing.{pairs-by-table}
 use Rattle.report_lines.specs.Ready.{Ordered}
 use Rattle.reporting.specs.Found.{trimmedAt, SegmentsFound, ConflictsFound, RulesFound}
-use Rattle.reporting.specs.Held.{PolicyHeld}
+use Rattle.trimmed_text.specs.Held.{PolicyHeld}
 use Rattle.reporting.proofs.StruckText.{order-below}
 
 -- striking takes no more steps than there are

@@ -16,10 +16,11 @@ use Rattle.printing.proofs.Walks.{taken}
 use Rattle.report_lines.specs.Lines.{segmentText, conflictText, struckLine, struckText, keptText}
 use Rattle.outcomes.specs.Decided.{none-struck}
 use Rattle.reporting.specs.Found.{trimmedAt, SegmentsFound, ConflictsFound, RulesFound}
-use Rattle.reporting.specs.Held.{PolicyHeld}
+use Rattle.trimmed_text.specs.Held.{PolicyHeld}
+use Rattle.trimmed_text.proofs.Whole.{none-clear}
 use Rattle.reporting.proofs.SegmentText.{segments-are}
 use Rattle.reporting.proofs.ConflictText.{conflicts-are}
-use Rattle.reporting.proofs.StruckText.{none-clear, struck-are, kept-are}
+use Rattle.reporting.proofs.StruckText.{struck-are, kept-are}
 
 module _ (f table places : List ℕ) (s : Shape) (held : PolicyHeld f table places s) (words lengths decided parents pairs order shown : List ℕ) (count : ℕ)
     (found : SegmentsFound table (s .n) (hitOf s) (s .space) words lengths decided) (shown-pairs : ConflictsFound table (s .n) (hitOf s) (s .space) parents pairs) (rules : RulesFound f places table (s .n) (hitOf s) (s .space) order shown count) where

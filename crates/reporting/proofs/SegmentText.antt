@@ -22,7 +22,7 @@ use Rattle.layout.specs.Places.{nameIn, elementsTo}
 use Rattle.layout.proofs.Laws as layout-laws
 use Rattle.laws.proofs.Lists.{keep-alike, any-alike, has-some, gathered-alike, gathered-keep, first-any}
 use Rattle.table.specs.Tree.{left}
-use Rattle.trimmed_text.proofs.Table.{name-at}
+use Rattle.trimmed_text.proofs.Table.{count-is, name-at}
 use Rattle.rows.specs.Words.{marks, applyingAt}
 use Rattle.rows.proofs.Marks.{bit-mark, same-marks}
 use Rattle.segments.specs.Sizes.{alike, opensAt, sizeAt}
@@ -30,7 +30,6 @@ use Rattle.printing.specs.Decisions.{decisionFrom}
 use Rattle.printing.proofs.Decisions.{decision-again}
 use Rattle.report_lines.specs.Lines.{namesOf, segmentLine, segmentText}
 use Rattle.reporting.proofs.Applying.{word-is}
-use Rattle.reporting.proofs.ChildPlaces.{count-is}
 
 -- as many tests as elements
 tests-length : (hit : Element → Bool) (front es : List Element) → length (applying hit front es) ≡ length es

@@ -7,7 +7,7 @@ use mathlib.Core.Bool.{cond, Bool}
 use mathlib.Core.List.{List, [], _∷_, map, reverse, List·Memᴰ, List·Memᴰ·not-nil, List·Memᴰ·cases-cons}
 use mathlib.Core.Option.{Option, none, some}
 use lib.Dec.{ltb}
-use lib.ListN.{length, getD, set, replicate}
+use lib.ListN.{length, getD, set}
 use borrow.Author.Tests.{le-ltb}
 use Rattle.meaning.specs.Text.{Bytes, bytes, gathered, ifSome, counting, line, decimal}
 use Rattle.meaning.specs.Model.{Policy, given, space as spaceOf}
@@ -24,24 +24,15 @@ use Rattle.table.specs.Tree.{placeOr, ruleLeft}
 use Rattle.trimming.specs.Decided as table-level
 use Rattle.laws.proofs.Lists.{has-at, gathered-alike, gathered-keep}
 use Rattle.layout.specs.Places.{nameIn, elementsTo}
-use Rattle.trimmed_text.specs.Flags.{Clear, keptAt, trimmingAt, keptPlaces, keptLineAt}
+use Rattle.trimmed_text.specs.Flags.{keptAt, trimmingAt, keptPlaces, keptLineAt}
+use Rattle.trimmed_text.proofs.Whole.{none-clear}
 use Rattle.trimmed_text.proofs.Trimmed.{trimmed-flags, kept-flags}
-use Rattle.trimmed_text.proofs.Table.{name-at}
+use Rattle.trimmed_text.proofs.Table.{count-is, name-at}
 use Rattle.trimmed_text.proofs.Tabled.{first-change-is, rule-is, trimming-is}
 use Rattle.report_lines.specs.Lines.{struckLine, keptLine, keptText}
 use Rattle.outcomes.specs.Decided.{none-struck}
 use Rattle.reporting.specs.Found.{trimmedAt}
 use Rattle.reporting.proofs.Searched.{first-or}
-use Rattle.reporting.proofs.ChildPlaces.{count-is}
-
--- where nothing is struck, every flag is 0
-zeros : (k i : ℕ) → getD {A = ℕ} (replicate k 0) i 0 ≡ 0
-zeros zero i = refl
-zeros (suc k) zero = refl
-zeros (suc k) (suc i) = zeros k i
-
-pub none-clear : Clear none-struck
-none-clear = zeros 64
 
 -- What is struck is one of n
 module _ (f : Bytes) (places table : List ℕ) (n : ℕ) (hit : ℕ → Element → Bool) (space : ℕ) where

@@ -1,3 +1,2 @@
 -- What the contracts of reporting cite.
 pub mod Found
-pub mod Held

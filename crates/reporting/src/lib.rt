@@ -13,9 +13,9 @@ ghost use Rattle.table.specs.Shape.{hitOf};
 ghost use Rattle.matching.specs.Hits.{HitsLaid};
 ghost use Rattle.outcomes.specs.PolicyTable.{PolicyTable, OutcomesLaid};
 ghost use Rattle.outcomes.specs.Decided.{none-struck};
-ghost use Rattle.trimming.specs.Trial.{Laid};
+ghost use Rattle.trials.specs.Trial.{Laid};
+ghost use Rattle.trimmed_text.specs.Held.{PolicyHeld};
 ghost use Rattle.reporting.specs.Found.{SegmentsFound, ConflictsFound, RulesFound};
-ghost use Rattle.reporting.specs.Held.{PolicyHeld};
 
 // Lays down which requests match each element, and what each request gets.
 fn find_decisions(table: &[u16], shape: Shape, hits: &mut [u64], outcomes: &mut [u64])
@@ -96,7 +96,7 @@ fn find_rules(
         outcomes,
         order,
     );
-    trimming::needed_all(
+    trials::needed_all(
         file,
         places,
         table,

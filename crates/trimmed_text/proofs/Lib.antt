@@ -10,4 +10,5 @@ pub mod ByPlace
 pub mod Placed
 pub mod Copying
 pub mod Tabled
+pub mod Whole
 pub mod Steadying

@@ -24,7 +24,7 @@ use Rattle.trimmed_text.proofs.Steps.{Stands, lineAt, line-rises, struc
 
 -- A needless rule is left, and so is the next one to strike
 module _ (p : Policy) (struck : List ℕ) where
-  needless-kept : (i : ℕ) → needlessAt p struck i ≡ true → keptAt p struck i ≡ true
+  pub needless-kept : (i : ℕ) → needlessAt p struck i ≡ true → keptAt p struck i ≡ true
   unfolding needlessAt
   needless-kept i n = and-true (keptAt p struck i) (isNone (firstChangeAt p struck i)) n .0
 
@@ -63,7 +63,7 @@ module _ (f : Bytes) (p : Policy) (h : read f ≡ given p) (struck : List ℕ) (
       go (failed x) (failed y) = let other : i ≢ j = eqb-false i j y in omega (arith, ltb-false i j x)
 
   -- Needless lines are the lines of needless rules
-  needless-place : (k : ℕ) → needless text k ≡ true → (x : RuleAt k) × (needlessAt p struck (x .place) ≡ true)
+  pub needless-place : (k : ℕ) → needless text k ≡ true → (x : RuleAt k) × (needlessAt p struck (x .place) ≡ true)
   needless-place k n =
       let x = rule-place k (and-true (isRuleLine text k) (isNone (firstChange text k)) n .0) in
       (x, sym (needless-flag f p h struck s (x .place) (x .kept)) ∙ rw (x .line) n)

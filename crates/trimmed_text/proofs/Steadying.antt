@@ -31,7 +31,7 @@ use Rattle.layout.specs.Places.{elementIn, elementsTo, Obliged}
 use Rattle.layout.proofs.Laws.{bare, replies-bare}
 use Rattle.obligations.specs.Given.{leftElements, outcomeLeft}
 use Rattle.obligations.proofs.Left.{left-bare, all-elements, outcome-left}
-use Rattle.trimming.specs.Steady.{Aside, Steady}
+use Rattle.trials.specs.Steady.{Aside, Steady}
 use Rattle.trimmed_text.proofs.ByPlace.{some-element, top-depth, parent-of, policy-over}
 
 module _ (f : Bytes) (table places : List ℕ) (n : ℕ) where

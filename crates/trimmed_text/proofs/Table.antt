@@ -48,6 +48,10 @@ module _ (f : Bytes) (table places : List ℕ) where
           List·getD-append (map F before) (F (elementIn f table places n) ∷ []) d i (omega (arith, size)) ∙ earlier (omega arith)
 
 module _ (f : Bytes) (table places : List ℕ) (n : ℕ) (p : Policy) (is : p .elements ≡ reverse (elementsTo f table places n)) where
+  -- how many elements there are
+  pub count-is : length (p .elements) ≡ n
+  count-is = ap length is ∙ length-reverse (elementsTo f table places n) ∙ elements-length f table places n
+
   -- Where nothing is struck, all are left
   pub whole-left : (struck : List ℕ) → ((k : ℕ) → k < n → getD struck k 0 ≡ 0) → left table struck 0 n ≡ map bare (p .elements)
   whole-left struck live = all-left table struck n live ∙ ap reverse (sym (elements-bare f table places n)) ∙ sym (map-reverse bare (elementsTo f table places n)) ∙ ap (map bare) (sym is)

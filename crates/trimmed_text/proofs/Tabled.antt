@@ -62,7 +62,7 @@ module _ (f : Bytes) (p : Policy) (h : read f ≡ given p) (table places : List 
   unfolding table-level.firstChangeAt firstChangeAt
   first-change-is struck live i kept = λ j. firstFrom (λ m. change-is struck live i m kept j) 0 (space-is j)
 
-  needless-is : (struck : List ℕ) → getD struck 0 0 ≡ 0 → (i : ℕ) → i < n → table-level.needlessAt f places table n hit space struck i ≡ needlessAt p struck i
+  pub needless-is : (struck : List ℕ) → getD struck 0 0 ≡ 0 → (i : ℕ) → i < n → table-level.needlessAt f places table n hit space struck i ≡ needlessAt p struck i
   unfolding table-level.needlessAt needlessAt
   needless-is struck live i l = ap (λ b. b && isNone (table-level.firstChangeAt f places table n hit space struck i)) (rule-is struck i l) ∙ go (test (keptAt p struck i))
     where
@@ -70,7 +70,7 @@ module _ (f : Bytes) (p : Policy) (h : read f ≡ given p) (table places : List 
       go (passed e) = ap (λ o. keptAt p struck i && isNone o) (first-change-is struck live i e)
       go (failed e) = rw e
 
-  next-is : (struck : List ℕ) → getD struck 0 0 ≡ 0 → table-level.nextAt f places table n hit space struck ≡ nextAt p struck
+  pub next-is : (struck : List ℕ) → getD struck 0 0 ≡ 0 → table-level.nextAt f places table n hit space struck ≡ nextAt p struck
   unfolding table-level.nextAt nextAt
   next-is struck live = last-alike (table-level.needlessAt f places table n hit space struck) (needlessAt p struck) n (needless-is struck live) ∙ ap (lastBelow (needlessAt p struck)) (sym size)
 

@@ -19,9 +19,9 @@ use Rattle.table.specs.Shape.{hitOf}
 use Rattle.matching.specs.Hits.{bitOf}
 use Rattle.obligations.specs.Given.{outcomeLeft}
 use Rattle.trimming.specs.Decided.{changesAt, firstChangeAt, needlessAt}
-use Rattle.trimming.specs.Trial.{Laid}
+use Rattle.trials.specs.Trial.{Laid}
 use Rattle.trimming.specs.Known.{IsSet, Known, Forgets}
-use Rattle.trimming.proofs.Trying.{one-shown, ready-set, set-back, rule-flag, rule-word, aside}
+use Rattle.trials.proofs.Trying.{one-shown, ready-set, set-back, rule-flag, rule-word, aside}
 use Rattle.trimming.proofs.Strikes.{needless-both, outcome-same}
 
 module _ (f : Bytes) (places t : List ℕ) (s : Shape) where

@@ -1,11 +1,3 @@
 -- The laws that the functions' proofs cite.
-pub mod Searching
-pub mod Blocks
-pub mod Trying
 pub mod Strikes
-pub mod Moving
-pub mod Copying
-pub mod Words
-pub mod Likes
-pub mod Marking
 pub mod Knowing

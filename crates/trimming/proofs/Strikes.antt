@@ -21,9 +21,9 @@ use Rattle.table.specs.Shape.{hitOf}
 use Rattle.outcomes.specs.Decided.{decidedAt}
 use Rattle.obligations.specs.Given.{outcomeLeft}
 use Rattle.trimming.specs.Decided.{changesAt, firstChangeAt, needlessAt, nextAt, trimmingAt}
-use Rattle.trimming.specs.Trial.{Laid}
+use Rattle.trials.specs.Trial.{Laid}
 use Rattle.trimming.specs.Trims.{Trims}
-use Rattle.trimming.proofs.Trying.{ready-set, rule-word}
+use Rattle.trials.proofs.Trying.{ready-set, rule-word}
 
 none-of : (o : Option ℕ) → isNone o ≡ true → o ≡ none
 none-of none e = refl

@@ -6,7 +6,7 @@ use Rattle.layout.proofs.Slots.{zeros-clear}
 use Rattle.reader.proofs.FileRead.{small-numbers, file-read}
 use Rattle.jogimaduve.proofs.Refusing.{refusal}
 use Rattle.jogimaduve.proofs.Shaping.{sizable}
-use Rattle.jogimaduve.proofs.Reporting.{held}
+use Rattle.jogimaduve.proofs.Holding.{held}
 use borrow.Author.Needs.{needs}
 use Rattle.jogimaduve.proofs.jogimaduve_report.Statement.{statement}
 use Rattle.jogimaduve.proofs.jogimaduve_report.Tie as tie

@@ -4,7 +4,7 @@ use Rattle.reporting.proofs.find_rules.Statement.{statement}
 use Rattle.reporting.proofs.find_rules.Tie as tie
 use Rattle.reporting.proofs.find_rules.Reads as reads
 use Rattle.reporting.proofs.find_rules.Lts as lts
-use Rattle.trimming.proofs.needed_all.Reads as needed-all-reads
+use Rattle.trials.proofs.needed_all.Reads as needed-all-reads
 use Rattle.trimming.proofs.trim_flags.Reads as trim-flags-reads
 
 returns : tie.Need-returns

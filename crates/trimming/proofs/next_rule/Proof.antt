@@ -9,8 +9,8 @@ use Rattle.table.specs.Tree.{placeOr}
 use Rattle.table.specs.Shape.{hitOf}
 use Rattle.trimming.specs.Decided.{needlessAt, nextAt}
 use Rattle.trimming.specs.Known.{Known}
-use Rattle.trimming.proofs.Searching.{last-here, last-earlier, last-nowhere}
-use Rattle.trimming.proofs.Trying.{asks, tested}
+use Rattle.laws.proofs.Search.{last-here, last-earlier, last-nowhere}
+use Rattle.trials.proofs.Trying.{asks, tested}
 use Rattle.trimming.proofs.Knowing.{known-needed, known-more}
 use Rattle.trimming.proofs.next_rule.Statement.{statement}
 use Rattle.trimming.proofs.next_rule.Tie as tie

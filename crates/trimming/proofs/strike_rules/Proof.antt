@@ -5,7 +5,7 @@ use native.Mathlib.Omega.{arith}
 use borrow.Author.Needs.{needs}
 use lib.ListN.{length, length-set}
 use Rattle.table.specs.Shape.{hitOf}
-use Rattle.trimming.specs.Trial.{Laid}
+use Rattle.trials.specs.Trial.{Laid}
 use Rattle.trimming.specs.Known.{Known}
 use Rattle.trimming.proofs.Strikes.{Next, next-found, next-none, trimming-stops, laid-next, Strikes, strikes-none, strikes-next, strikes-end, strikes-all}
 use Rattle.trimming.proofs.Knowing.{known-next}

@@ -2,7 +2,7 @@
 use native.Mathlib.Omega.{arith}
 use borrow.Author.Needs.{needs}
 use lib.ListN.{getD-replicate}
-use Rattle.trimming.proofs.Trying.{obligation-room}
+use Rattle.trials.proofs.Trying.{obligation-room}
 use Rattle.trimming.proofs.trim_flags.Statement.{statement}
 use Rattle.trimming.proofs.trim_flags.Tie as tie
 

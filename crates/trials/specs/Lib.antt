@@ -1,0 +1,4 @@
+-- What the contracts of trying a rule cite.
+pub mod Decided
+pub mod Steady
+pub mod Trial
