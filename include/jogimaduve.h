@@ -14,7 +14,7 @@
 #include <stddef.h>
 #include <stdint.h>
 
-#define JOGIMADUVE_VERSION "2.0.0"
+#define JOGIMADUVE_VERSION "2.1.0"
 
 #ifdef __cplusplus
 extern "C" {
@@ -46,22 +46,26 @@ enum {
     JOGIMADUVE_BAD_REQUEST = 10,  /* place of the first request field that is no value, or no set of values; 0 if the field count is wrong */
     JOGIMADUVE_SHORT_BUFFER = 11, /* bytes: so many are needed */
     JOGIMADUVE_NO_M_LINE = 13,    /* 0: the name given is not that of an attribute of an M line; told before 11 */
-    JOGIMADUVE_BAD_OBLIGATION = 14 /* line: an O line not behind S, P or O, or the third of its element; told before 7 */
+    JOGIMADUVE_BAD_OBLIGATION = 14, /* line: an O line not behind S, P or O, or the third of its element; told before 7 */
+    JOGIMADUVE_NOT_NEEDLESS = 15   /* 0: the name given is not that of a rule that does no work; told before 11 */
 };
 
 /* What a request gets: `second` of jogimaduve_decide. */
 enum { JOGIMADUVE_PERMIT = 0, JOGIMADUVE_DENY = 1, JOGIMADUVE_NOT_APPLICABLE = 2, JOGIMADUVE_INDETERMINATE = 3 };
 
-/* Sizes in bytes: the longest file, and so the longest trimmed text; the longest request that can be good; the most
- * that a decision's obligations can have, which is 110 names; a buffer for the report of most files; and the stack that an
- * operation may use, to be added to what a thread needs besides. */
+/* Sizes in bytes: the longest file, and so the longest trimmed text; the longest name; the longest request that can be good;
+ * the most that a decision's obligations can have, which is 110 names; a buffer for the report of most files; and the stack
+ * that an operation may use, to be added to what a thread needs besides. */
 enum {
     JOGIMADUVE_LONGEST_FILE = 16384,
+    JOGIMADUVE_LONGEST_NAME = 16,
     JOGIMADUVE_LONGEST_REQUEST = 288,
     JOGIMADUVE_LONGEST_OBLIGATIONS = 1870,
     JOGIMADUVE_REPORT_BUFFER = 65536,
     JOGIMADUVE_DECIDE_STACK = 65536,
     JOGIMADUVE_TRIM_STACK = 65536,
+    JOGIMADUVE_NEXT_RULE_STACK = 65536,
+    JOGIMADUVE_STRIKE_STACK = 65536,
     JOGIMADUVE_REPORT_STACK = 262144,
     JOGIMADUVE_VALUE_PAIRS_STACK = 65536
 };
@@ -84,6 +88,22 @@ jogimaduve_decision jogimaduve_decide(const uint8_t *file, size_t file_length,
  * included: a rule that is struck would not come back if they were repaired in the text. Bytes behind the text stay as they
  * were. */
 jogimaduve_answer jogimaduve_trim(const uint8_t *file, size_t file_length, uint8_t *buffer, size_t buffer_length);
+
+/* Trimming rule by rule, for labs that sign for each. Shows the rule that trimming would strike next: its name, as the file
+ * spells it, goes into the buffer with no newline and no zero byte behind it, and `second` is its length. Where every rule
+ * does work `second` is 0 and nothing is written. Bytes behind the name stay as they were. */
+jogimaduve_answer jogimaduve_next_rule(const uint8_t *file, size_t file_length, uint8_t *buffer, size_t buffer_length);
+
+/* Strikes one rule, which is named in any letter case: the file's lines less that rule's go into the buffer, and `second` is
+ * the length of that text. It may be any rule that does no work in this file, not only the one shown; any other name is
+ * refused with JOGIMADUVE_NOT_NEEDLESS. The text decides every request as the file does, with the same obligations. Bytes
+ * behind the text stay as they were.
+ *
+ * To show a rule and strike it, then the next in the text that is left, until none is shown, ends in the bytes that
+ * jogimaduve_trim gives. The text is then the next call's file, so it takes two buffers in turn. */
+jogimaduve_answer jogimaduve_strike(const uint8_t *file, size_t file_length,
+                                    const uint8_t *rule, size_t rule_length,
+                                    uint8_t *buffer, size_t buffer_length);
 
 /* Reports on a file: its segments (G), conflicts (C), the rules that trimming strikes (X) and those that it keeps (K), as
  * lines of fields parted by tabs. Every build gives the same bytes for the same file. The text goes into the buffer and

@@ -85,10 +85,10 @@ module _ (o : Operate) (f buffer sheet : Bytes) where
     pub behind-report : drop (o .report .answer f sheet .second) (o .report .after f sheet) ≡ drop (o .report .answer f sheet .second) sheet
 
 -- what is told, by what deciding gives for a buffer; of outcomes that fit, another one is told otherwise
-abbrev telling : Bytes → Result Outcome → Decided × Bytes
+abbrev pub telling : Bytes → Result Outcome → Decided × Bytes
 telling b x = (decidedBy x, lent b (x then λ o. given (o .obligations)))
 
-told-is : (o : Operate) (f r b : Bytes) → told o f r b ≡ telling b (decideFile (length b) f r)
+pub told-is : (o : Operate) (f r b : Bytes) → told o f r b ≡ telling b (decideFile (length b) f r)
 told-is o f r b = ap₂ (λ x y. (x, y)) (o .decide-is f r b) (o .decide-after-is f r b)
 
 text-told : (b : Bytes) (x : Outcome) → take (length (x .obligations)) (lent b (given (x .obligations))) ≡ x .obligations

@@ -7,5 +7,6 @@ mod Operate
 mod Demand3
 mod SameReports
 mod TellsPairs
+mod RuleByRule
 mod Holding
 mod Pairing

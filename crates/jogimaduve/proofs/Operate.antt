@@ -10,7 +10,8 @@ use Rattle.meaning.specs.Reading.{read}
 use Rattle.meaning.specs.Trimming.{trimmed}
 use Rattle.meaning.specs.Report.{report}
 use Rattle.meaning.specs.ValuePairs.{pairsNamed}
-use Rattle.meaning.specs.Operations.{decideAnswer, decideLent, trimAnswer, trimLent, reportAnswer, reportLent, valuePairsAnswer, valuePairsLent}
+use Rattle.meaning.specs.RuleByRule.{nextName, strikeNamed}
+use Rattle.meaning.specs.Operations.{decideAnswer, decideLent, trimAnswer, trimLent, reportAnswer, reportLent, valuePairsAnswer, valuePairsLent, nextRuleAnswer, nextRuleLent, strikeAnswer, strikeLent}
 use Rattle.meaning.specs.Claims.Operations.{Writes}
 use Rattle.laws.proofs.Operations.{operations}
 
@@ -35,7 +36,14 @@ Report = TextOperation reportAnswer reportLent
 abbrev pub ValuePairs : Bytes → Type 0
 ValuePairs name = TextOperation (λ file buffer. valuePairsAnswer file name buffer) (λ file buffer. valuePairsLent file name buffer)
 
--- All four
+abbrev pub NextRule : Type 0
+NextRule = TextOperation nextRuleAnswer nextRuleLent
+
+-- of the rule that has a name
+abbrev pub Strike : Bytes → Type 0
+Strike rule = TextOperation (λ file buffer. strikeAnswer file rule buffer) (λ file buffer. strikeLent file rule buffer)
+
+-- All six
 pub record Operate : Type 0 where
   pub decide : (file request buffer : Bytes) → Decided
   pub decide-after : (file request buffer : Bytes) → Bytes
@@ -44,6 +52,8 @@ pub record Operate : Type 0 where
   pub trim : Trim
   pub report : Report
   pub value-pairs : (name : Bytes) → ValuePairs name
+  pub next-rule : NextRule
+  pub strike : (rule : Bytes) → Strike rule
 
 -- what is defined meets them
 pub as-defined : Operate
@@ -55,6 +65,8 @@ as-defined = record {
   trim = record { answer = trimAnswer; after = trimLent; answer-is = λ f b. refl; after-is = λ f b. refl };
   report = record { answer = reportAnswer; after = reportLent; answer-is = λ f b. refl; after-is = λ f b. refl };
   value-pairs = λ name. record { answer = λ f b. valuePairsAnswer f name b; after = λ f b. valuePairsLent f name b; answer-is = λ f b. refl; after-is = λ f b. refl };
+  next-rule = record { answer = nextRuleAnswer; after = nextRuleLent; answer-is = λ f b. refl; after-is = λ f b. refl };
+  strike = λ rule. record { answer = λ f b. strikeAnswer f rule b; after = λ f b. strikeLent f rule b; answer-is = λ f b. refl; after-is = λ f b. refl };
 }
 
 -- what they write
@@ -66,3 +78,9 @@ reports o f b = rw (o .answer-is f b, o .after-is f b) (operations .reports f b)
 
 pub tells-pairs : (name : Bytes) (o : ValuePairs name) (f b : Bytes) → Writes 11 (read f then λ p. pairsNamed p name) (o .answer f b) b (o .after f b)
 tells-pairs name o f b = rw (o .answer-is f b, o .after-is f b) (operations .tells-pairs f name b)
+
+pub shows-next : (o : NextRule) (f b : Bytes) → Writes 11 (read f then λ p. given (nextName f)) (o .answer f b) b (o .after f b)
+shows-next o f b = rw (o .answer-is f b, o .after-is f b) (operations .shows-next f b)
+
+pub strikes : (rule : Bytes) (o : Strike rule) (f b : Bytes) → Writes 11 (read f then λ p. strikeNamed f rule) (o .answer f b) b (o .after f b)
+strikes rule o f b = rw (o .answer-is f b, o .after-is f b) (operations .strikes f rule b)

@@ -2,7 +2,7 @@
 use meaning::Answer;
 use meaning::Decided;
 ghost use mathlib.Core.Path.{_≡_};
-ghost use Rattle.meaning.specs.Operations.{decideAnswer, decideLent, trimAnswer, trimLent, reportAnswer, reportLent, valuePairsAnswer, valuePairsLent};
+ghost use Rattle.meaning.specs.Operations.{decideAnswer, decideLent, trimAnswer, trimLent, nextRuleAnswer, nextRuleLent, strikeAnswer, strikeLent, reportAnswer, reportLent, valuePairsAnswer, valuePairsLent};
 
 // The answer of a request that is not decided.
 fn refused(answer: Answer) -> Decided
@@ -62,6 +62,37 @@ pub extern "C" fn jogimaduve_trim(file: &[u8], out: &mut [u8]) -> Answer
     let part = printing::lend(needed, room);
     trimmed_text::put_text(file, &places, &struck, n, &mut out[..part]);
     printing::text_answer(needed, room)
+}
+
+// The name of the rule that trimming a policy file would strike next, in a lent buffer.
+#[no_mangle]
+pub extern "C" fn jogimaduve_next_rule(file: &[u8], out: &mut [u8]) -> Answer
+    ensures { λ r. ⌜ r ≡ nextRuleAnswer (now (file .entry)) (now (out .entry)) ⌝ }
+    ensures { λ r. ⌜ now (out .exit) ≡ nextRuleLent (now (file .entry)) (now (out .entry)) ⌝ }
+{
+    let mut table = [0u16; 512];
+    let mut places = [0usize; 384];
+    let reading = reader::read(file, &mut table, &mut places);
+    if reading.number != 0 {
+        return reader::refusal(reading);
+    }
+    rule_by_rule::show(file, &table, &places, reader::policy_shape(reading), out)
+}
+
+// A policy file without the line of a needless rule, which is given by its name, in a lent buffer.
+#[no_mangle]
+pub extern "C" fn jogimaduve_strike(file: &[u8], rule: &[u8], out: &mut [u8]) -> Answer
+    ensures { λ r. ⌜ r ≡ strikeAnswer (now (file .entry)) (now (rule .entry)) (now (out .entry)) ⌝ }
+    ensures { λ r. ⌜ now (out .exit) ≡ strikeLent (now (file .entry)) (now (rule .entry)) (now (out .entry)) ⌝ }
+{
+    let mut table = [0u16; 512];
+    let mut places = [0usize; 384];
+    let reading = reader::read(file, &mut table, &mut places);
+    if reading.number != 0 {
+        return reader::refusal(reading);
+    }
+    let shape = reader::policy_shape(reading);
+    rule_by_rule::strike(file, &table, &places, shape, rule, out)
 }
 
 // The report of a policy file, in a lent buffer.

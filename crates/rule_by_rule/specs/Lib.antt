@@ -1,0 +1,2 @@
+-- What the contracts of trimming rule by rule cite.
+pub mod Shown
