@@ -33,4 +33,7 @@ void cases_of_obligations(void);
 /* cases_places.c */
 void cases_of_places(void);
 
+/* cases_rules.c */
+void cases_of_rules(void);
+
 #endif

@@ -1,4 +1,4 @@
-/* Reference implementation of paper 01 with changes C-11 to C-16, written from the papers alone: plain code, for
+/* Reference implementation of paper 01 with changes C-11 to C-17, written from the papers alone: plain code, for
  * comparing with. What C-16 calls a duty is an obligation here, as in XACML.
  *
  * Every function answers two numbers. `number` is 0 where the work was done, and `second` is then the result; any other
@@ -19,6 +19,12 @@ struct decided ref_decide(const uint8_t *file, size_t file_len, const uint8_t *r
 
 /* `second` is the length of the trimmed text. */
 struct answer ref_trim(const uint8_t *file, size_t len, uint8_t *out, size_t room);
+
+/* `second` is the length of the name of the rule that trimming strikes next, or 0 if there is none. */
+struct answer ref_next_rule(const uint8_t *file, size_t len, uint8_t *out, size_t room);
+
+/* `second` is the length of the file without the needless rule that is named. */
+struct answer ref_strike(const uint8_t *file, size_t len, const uint8_t *name, size_t name_len, uint8_t *out, size_t room);
 
 /* `second` is the length of the report. Each conflict is shown by its lowest request. */
 struct answer ref_report(const uint8_t *file, size_t len, uint8_t *out, size_t room);
@@ -145,7 +151,12 @@ struct answer ref_write(struct slice lines, const struct record *list, size_t el
 
 /* trim.c */
 int first_change(struct policy *policy, int rule, const struct outcome outcomes[SPACE]); /* the space if there is none */
+int next_needless(struct policy *policy, const struct outcome outcomes[SPACE]); /* the next rule to strike, or -1 */
 int strike_needless(struct policy *policy, const struct outcome outcomes[SPACE], int order[ELEMENTS]);
+struct answer lend_left(const struct policy *policy, uint8_t *out, size_t room); /* the lines that are not struck */
+
+/* rules.c */
+int element_named(const struct policy *policy, struct slice name); /* letter case aside; -1 if no element has the name */
 
 /* pairs.c */
 struct pair { int request; enum decision both, earlier, later; }; /* the request with both, and the three decisions */

@@ -1,8 +1,6 @@
 /* Trimming: striking the needless rules, the last one first. */
 #include "reference.h"
 
-#include <string.h>
-
 /* The first request whose decision changes without the rule, or whose obligations do; the space if there is none, so that
  * the rule is needless. */
 int first_change(struct policy *policy, int rule, const struct outcome outcomes[SPACE])
@@ -22,28 +20,43 @@ int first_change(struct policy *policy, int rule, const struct outcome outcomes[
     return request;
 }
 
-/* Strikes rules until none is needless; `order` gets their places, in the order struck. The outcomes are the file's:
- * no strike changes any, so they are those of what is left too. */
+/* The last rule that is needless in what is left, or -1. The outcomes are the file's: no strike of a needless rule changes
+ * any, so they are those of what is left too. */
+int next_needless(struct policy *policy, const struct outcome outcomes[SPACE])
+{
+    for (int place = policy->elements - 1; place >= 0; place--) {
+        const struct element *element = &policy->element[place];
+        if (element->kind == 'R' && !element->struck && first_change(policy, place, outcomes) == policy->space)
+            return place;
+    }
+    return -1;
+}
+
+/* Strikes rules until none is needless; `order` gets their places, in the order struck. */
 int strike_needless(struct policy *policy, const struct outcome outcomes[SPACE], int order[ELEMENTS])
 {
     int strikes = 0;
 
-    for (int place = policy->elements - 1; place >= 0; place--) {
-        struct element *element = &policy->element[place];
-        if (element->kind != 'R' || element->struck || first_change(policy, place, outcomes) < policy->space)
-            continue;
-        element->struck = 1;
-        order[strikes++] = place;
-        place = policy->elements; /* the search starts again at the last line */
-    }
+    for (int place; (place = next_needless(policy, outcomes)) >= 0; order[strikes++] = place)
+        policy->element[place].struck = 1;
     return strikes;
+}
+
+struct answer lend_left(const struct policy *policy, uint8_t *out, size_t room)
+{
+    struct text text = {NULL, 0, 0};
+
+    put_bytes(&text, policy->attribute_lines.bytes, policy->attribute_lines.length);
+    for (int place = 0; place < policy->elements; place++)
+        if (!policy->element[place].struck)
+            put_bytes(&text, policy->element[place].line.bytes, policy->element[place].line.length);
+    return lend_text(&text, out, room);
 }
 
 struct answer ref_trim(const uint8_t *file, size_t len, uint8_t *out, size_t room)
 {
     static struct outcome outcomes[SPACE];
     struct policy policy;
-    uint8_t text[FILE_BYTES];
     int order[ELEMENTS];
 
     struct answer answer = read_policy(file, len, &policy);
@@ -51,18 +64,5 @@ struct answer ref_trim(const uint8_t *file, size_t len, uint8_t *out, size_t roo
         return answer;
     find_outcomes(&policy, outcomes);
     strike_needless(&policy, outcomes, order);
-
-    size_t length = policy.attribute_lines.length;
-    memcpy(text, policy.attribute_lines.bytes, length);
-    for (int place = 0; place < policy.elements; place++) {
-        const struct element *element = &policy.element[place];
-        if (element->struck)
-            continue;
-        memcpy(text + length, element->line.bytes, element->line.length);
-        length += element->line.length;
-    }
-    if (length > room)
-        return (struct answer){11, (uint32_t)length};
-    memcpy(out, text, length);
-    return (struct answer){0, (uint32_t)length};
+    return lend_left(&policy, out, room);
 }
