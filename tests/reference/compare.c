@@ -1,7 +1,7 @@
 /* Compares libjogimaduve with the reference on generated inputs: valid files of many shapes, damaged ones, good and bad
- * request lines, names of attributes and others, buffers too short, exact and longer. Lent memory is compared byte for
- * byte. Of stored files, whose reports are compared elsewhere, only the pairs of values are and, of those with
- * obligations, every request.
+ * request lines, names of attributes, rules and others, buffers too short, exact and longer. Lent memory is compared byte
+ * for byte. Of stored files, whose reports are compared elsewhere, only the pairs of values, showing and striking rules
+ * and, of those with obligations, every request are.
  *
  * Usage: compare SEED COUNT [FILE ...]. Each input is made from its own seed alone, SEED and those behind it, so that
  * `compare <seed shown> 1` makes it again. Prints the number of differences; the exit status is 1 if there are any, or if
@@ -13,7 +13,7 @@
 #include <string.h>
 
 enum { BEHIND = 64, REPORT_BYTES = 65536 }; /* bytes watched behind each lent buffer; the program's buffer */
-enum { NUMBERS = 15, OF_LISTS = 12 };       /* no operation here answers 12 */
+enum { NUMBERS = 16, OF_LISTS = 12 };       /* no operation here answers 12 */
 
 unsigned long differences;
 static unsigned long seen[NUMBERS];
@@ -132,6 +132,7 @@ static void compare_input(uint64_t seed)
     compare_rooms("trim", &file, small ? 5 : 1, below(2) ? file.length : below(64), ref_trim, jogimaduve_trim);
     compare_rooms("report", &file, small ? 5 : 1, below(2) ? REPORT_BYTES : below(64), ref_report, jogimaduve_report);
     compare_pairs(&file, &policy, accepted);
+    compare_rules(&file, &policy, accepted);
     compare_small_files();
     compare_obliged_files();
 }
@@ -154,6 +155,20 @@ static void compare_stored(const char *name)
     for (int request = 0; accepted && has_obligation(&policy) && request < policy.space; request++)
         compare_request(&file, &policy, request);
     compare_pairs(&file, &policy, accepted);
+    compare_rules(&file, &policy, accepted);
+}
+
+int seen_often(const char *of_what, const struct seen *seen, size_t count)
+{
+    int all = 1;
+
+    printf("%s:", of_what);
+    for (size_t i = 0; i < count; i++) {
+        printf("%s %s %lu", i > 0 ? "," : "", seen[i].what, seen[i].times);
+        all = all && seen[i].times >= OFTEN;
+    }
+    printf("\n");
+    return all;
 }
 
 /* Whether every number was answered often, and sets and obligations came up often; prints how often. */
@@ -170,6 +185,7 @@ static int all_seen(void)
     all = all && files_with_set >= OFTEN && files_with_obligation >= OFTEN;
     all = requests_seen() && all;
     all = obligations_seen() && all;
+    all = rules_seen() && all;
     return pairs_seen() && all;
 }
 

@@ -19,6 +19,10 @@ uint8_t *exactly(const uint8_t *bytes, size_t length); /* to be freed */
 struct answer compare_rooms(const char *what, const struct bytes *file, size_t most_rooms, size_t first_room,
                             reference_text *reference, library_text *library);
 
+/* Prints how often each came up, and gives whether all did often. */
+struct seen { const char *what; unsigned long times; };
+int seen_often(const char *of_what, const struct seen *seen, size_t count);
+
 /* compare_decide.c: a request line of the policy, or a bad one, in buffers of every fit */
 void compare_decide(const struct bytes *file, const struct policy *policy, int accepted);
 void compare_request(const struct bytes *file, const struct policy *policy, int number); /* the one of this number */
@@ -26,11 +30,17 @@ int requests_seen(void); /* whether each kind came up often; prints how often */
 
 /* compare_obligations.c: small files in which obligations count, every request of each */
 void compare_obliged_files(void);
+int first_other_decision(struct policy *policy, int rule); /* without the rule, obligations aside; the space if there is none */
 int obligations_seen(void); /* whether each kind came up often; prints how often */
 
 /* compare_pairs.c */
 void compare_pairs(const struct bytes *file, const struct policy *policy, int accepted);
 void compare_small_files(void); /* whose pairs get decisions that they seldom get in larger ones */
 int pairs_seen(void); /* whether each kind came up often; prints how often */
+
+/* compare_rules.c: next_rule and strike */
+void compare_rules(const struct bytes *file, struct policy *policy, int accepted);
+void compare_steps(const struct bytes *file, struct policy *policy); /* the same, and both to the end; of a small policy */
+int rules_seen(void); /* whether each kind came up often; prints how often */
 
 #endif

@@ -1,7 +1,6 @@
 /* Small files in which obligations count, and how often each of the cases came up that a wrong program would miss. */
 #include "compare.h"
 
-#include <stdio.h>
 #include <string.h>
 
 /* Requests: */
@@ -103,21 +102,33 @@ static uint64_t count_request(const struct policy *policy, const unsigned held[A
     return 0;
 }
 
+int first_other_decision(struct policy *policy, int rule)
+{
+    unsigned held[ATTRIBUTES];
+    int request;
+
+    for (request = 0; request < policy->space; request++) {
+        values_of(policy, request, held);
+        enum decision with = gives(policy, 0, held);
+        policy->element[rule].struck = 1;
+        enum decision without = gives(policy, 0, held);
+        policy->element[rule].struck = 0;
+        if (with != without)
+            break;
+    }
+    return request;
+}
+
 /* A rule that was kept: with and without it, in what is left. */
 static void count_kept(struct policy *policy, int rule, const struct outcome outcomes[SPACE])
 {
     static struct outcome without;
     unsigned held[ATTRIBUTES];
-    int first = first_change(policy, rule, outcomes), request = first;
+    int first = first_change(policy, rule, outcomes), request = first_other_decision(policy, rule);
 
     policy->element[rule].struck = 1;
     values_of(policy, first, held);
     find_outcome(policy, held, &without);
-    for (; request < policy->space; request++) {
-        values_of(policy, request, held);
-        if (gives(policy, 0, held) != outcomes[request].decision)
-            break;
-    }
     policy->element[rule].struck = 0;
     rules.alone += request == policy->space;
     rules.earlier += request > first && request < policy->space;
@@ -173,12 +184,13 @@ void compare_obliged_files(void)
         compare_request(&file, &policy, request);
     compare_rooms("trim", &file, 1, FILE_BYTES, ref_trim, jogimaduve_trim);
     compare_rooms("report", &file, 1, 4096, ref_report, jogimaduve_report);
+    compare_steps(&file, &policy);
     count_rules(&policy);
 }
 
 int obligations_seen(void)
 {
-    const struct { const char *what; unsigned long times; } seen[] = {
+    const struct seen seen[] = {
         {"not asked", came_up.unasked}, {"not asked behind an indeterminate", came_up.indeterminate},
         {"below another decision", came_up.below_other}, {"of the other word", came_up.other_word},
         {"neither permit nor deny", came_up.undecided}, {"a name twice", came_up.twice},
@@ -186,13 +198,6 @@ int obligations_seen(void)
         {"as many bytes", rules.same_length}, {"the same but for case", rules.but_for_case},
         {"rules struck, elsewhere the same", rules.elsewhere},
     };
-    int all = 1;
 
-    printf("obligations:");
-    for (size_t i = 0; i < sizeof seen / sizeof *seen; i++) {
-        printf("%s %s %lu", i > 0 ? "," : "", seen[i].what, seen[i].times);
-        all = all && seen[i].times >= OFTEN;
-    }
-    printf("\n");
-    return all;
+    return seen_often("obligations", seen, sizeof seen / sizeof *seen);
 }

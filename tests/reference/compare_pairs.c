@@ -70,7 +70,7 @@ void compare_pairs(const struct bytes *file, const struct policy *policy, int ac
     if (accepted)
         compare_attributes(file, policy, policy->space <= 256 ? 5 : 1);
     for (int i = 0; i < 2; i++) {
-        make_name(&name, file);
+        make_name(&name, file, ATTRIBUTE_LINE, 1);
         compare_name(file, 0);
     }
 }
@@ -82,8 +82,10 @@ void compare_small_files(void)
 
     for (int i = 0; i < 2; i++) {
         make_small_file(&file);
-        if (read_policy(file.bytes, file.length, &policy).number == 0)
-            compare_attributes(&file, &policy, 0);
+        if (read_policy(file.bytes, file.length, &policy).number != 0)
+            continue;
+        compare_attributes(&file, &policy, 0);
+        compare_steps(&file, &policy);
     }
 }
 

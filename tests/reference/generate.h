@@ -41,8 +41,9 @@ void make_edge_file(struct bytes *file); /* near 16,384 bytes, good but for its 
 void make_request(struct bytes *request, const struct policy *policy, int good);
 void make_request_of(struct bytes *request, const struct policy *policy, int number);
 
-/* given_names.c: the name of an attribute in other case or with a fault, or of another thing, or of nothing. */
-void make_name(struct bytes *name, const struct bytes *file);
+/* given_names.c: the name of an attribute or a rule, which is field `number` of a line with such a letter, in other case or
+ * with a fault, or of another thing, or of nothing. */
+void make_name(struct bytes *name, const struct bytes *file, const char *letters, uint32_t number);
 
 /* damage.c */
 void damage(struct bytes *file);

@@ -1,10 +1,10 @@
 /* Names that a caller gives. */
 #include "generate.h"
 
-void make_name(struct bytes *name, const struct bytes *file)
+void make_name(struct bytes *name, const struct bytes *file, const char *letters, uint32_t number)
 {
     uint8_t byte = tricky_byte();
-    size_t length, at = one_in(6) ? pick_name(file, &length) : pick_field(file, ATTRIBUTE_LINE, 1, &length);
+    size_t length, at = one_in(6) ? pick_name(file, &length) : pick_field(file, letters, number, &length);
 
     name->length = 0;
     replace(name, 0, 0, file->bytes + at, length);
@@ -19,7 +19,7 @@ void make_name(struct bytes *name, const struct bytes *file)
     case 7: name->length -= name->length > 0; break;
     case 8: put(name, "a"); break;
     case 9: name->bytes[place] ^= (uint8_t)(inside << below(8)); break; /* in a letter another case, perhaps */
-    case 10: replace(name, 0, 0, "M\t", 2); break;
+    case 10: replace(name, 0, 0, "\t", 1); replace(name, 0, 0, letters, 1); break;
     default: turn_case(name->bytes, name->length); break;
     }
 }
