@@ -10,7 +10,7 @@
 enum { STACK = 1 << 20, PAINT = 0x5a };
 
 static char file[JOGIMADUVE_LONGEST_FILE];
-static size_t size;
+static size_t size, last; /* of the file, and of its last line */
 static uint8_t buffer[JOGIMADUVE_REPORT_BUFFER];
 
 static void *nothing(void *unused) { return unused; }
@@ -23,7 +23,20 @@ static void *decide(void *unused) {
 }
 
 static void *trim(void *unused) {
-    answers(jogimaduve_trim((const uint8_t *)file, size, buffer, sizeof buffer), JOGIMADUVE_DONE, (uint32_t)size, "trim", __LINE__);
+    answers(jogimaduve_trim((const uint8_t *)file, size, buffer, sizeof buffer), JOGIMADUVE_DONE, (uint32_t)(size - last), "trim", __LINE__);
+    return unused;
+}
+
+/* The last rule, and in the file without it, where each rule is looked at, none. */
+static void *next_rule(void *unused) {
+    answers(jogimaduve_next_rule((const uint8_t *)file, size, buffer, sizeof buffer), JOGIMADUVE_DONE, strlen("again"), "next rule", __LINE__);
+    answers(jogimaduve_next_rule((const uint8_t *)file, size - last, buffer, sizeof buffer), JOGIMADUVE_DONE, 0, "next rule", __LINE__);
+    return unused;
+}
+
+static void *strike(void *unused) {
+    answers(jogimaduve_strike((const uint8_t *)file, size, TEXT("again"), buffer, sizeof buffer), JOGIMADUVE_DONE, (uint32_t)(size - last), "strike", __LINE__);
+    answers(jogimaduve_strike((const uint8_t *)file, size, TEXT("r1"), buffer, sizeof buffer), JOGIMADUVE_NOT_NEEDLESS, 0, "strike", __LINE__);
     return unused;
 }
 
@@ -62,7 +75,8 @@ static void within(void *run(void *), size_t most, const char *what) {
     check(bytes <= most / 4 * 3, what, __LINE__);
 }
 
-/* Three attributes of so many values, the first by this letter, depth 7, 64 elements, obligations: the deepest calls. */
+/* Three attributes of so many values, the first by this letter, depth 7, 64 elements, obligations: the deepest calls. The last
+ * rule is the first again, the only one that does no work. */
 static void largest(char letter, const int values[3]) {
     size = 0;
     for (int i = 0; i < 3; i++) {
@@ -74,10 +88,12 @@ static void largest(char letter, const int values[3]) {
         size += (size_t)sprintf(file + size, "%c\t%d\te%d\tfirst-applicable\t*\t*\t*\n", depth < 6 ? 'S' : 'P', depth, depth);
         size += (size_t)sprintf(file + size, "O\tlog\tpermit\nO\tslow\tdeny\n");
     }
-    for (int rule = 0; rule < 57; rule++) {
+    for (int rule = 0; rule < 56; rule++) {
         const char *effect = rule % 2 == 0 ? "permit" : "deny";
         size += (size_t)sprintf(file + size, "R\t7\tr%d\t%s\t%c\t%c\t*\n", rule, effect, 'a' + rule % values[0], 'a' + rule / values[0]);
     }
+    last = (size_t)sprintf(file + size, "R\t7\tagain\tpermit\ta\ta\t*\n");
+    size += last;
 }
 
 int main(void) {
@@ -85,6 +101,8 @@ int main(void) {
     largest('A', (const int[]){16, 16, 16});
     within(decide, JOGIMADUVE_DECIDE_STACK, "decide");
     within(trim, JOGIMADUVE_TRIM_STACK, "trim");
+    within(next_rule, JOGIMADUVE_NEXT_RULE_STACK, "next rule");
+    within(strike, JOGIMADUVE_STRIKE_STACK, "strike");
     within(report, JOGIMADUVE_REPORT_STACK, "report");
     largest('M', (const int[]){8, 16, 1});
     within(value_pairs, JOGIMADUVE_VALUE_PAIRS_STACK, "value pairs");

@@ -51,6 +51,18 @@ static void longest_obligations(void) {
     check(got.number == JOGIMADUVE_SHORT_BUFFER && got.second == JOGIMADUVE_LONGEST_OBLIGATIONS && got.length == 0, "a byte less", __LINE__);
 }
 
+/* The longest name, which is that of a rule to strike, and a byte more. */
+static void longest_name(void) {
+    static const char file[] = GOOD "R\t1\t0123456789abcdef\tpermit\ta\n";
+    uint8_t name[JOGIMADUVE_LONGEST_NAME];
+    answers(jogimaduve_next_rule(TEXT(file), name, sizeof name), JOGIMADUVE_DONE, JOGIMADUVE_LONGEST_NAME, "the longest name", __LINE__);
+    check(memcmp(name, "0123456789abcdef", sizeof name) == 0, "the longest name", __LINE__);
+    answers(jogimaduve_next_rule(TEXT(file), name, sizeof name - 1), JOGIMADUVE_SHORT_BUFFER, JOGIMADUVE_LONGEST_NAME, "a byte less", __LINE__);
+    answers(jogimaduve_strike(TEXT(file), name, sizeof name, buffer, 0), JOGIMADUVE_SHORT_BUFFER, sizeof GOOD - 1, "no buffer", __LINE__);
+    answers(jogimaduve_strike(TEXT(file), name, sizeof name, buffer, sizeof GOOD - 1), JOGIMADUVE_DONE, sizeof GOOD - 1, "the bytes needed", __LINE__);
+    REFUSED(GOOD "R\t1\t0123456789abcdefg\tpermit\ta\n", JOGIMADUVE_BAD_NAME, 5);
+}
+
 int main(void) {
     memset(long_file, 'A', sizeof long_file);
     answers(jogimaduve_trim(long_file, sizeof long_file, buffer, sizeof buffer), JOGIMADUVE_TOO_LONG, 0, "too long", __LINE__);
@@ -76,10 +88,13 @@ int main(void) {
     needed = jogimaduve_value_pairs(TEXT(SETS), TEXT("x"), buffer, 0);
     check(needed.number == JOGIMADUVE_SHORT_BUFFER, "no buffer", __LINE__);
     answers(jogimaduve_value_pairs(TEXT(SETS), TEXT("x"), buffer, needed.second), JOGIMADUVE_DONE, needed.second, "the bytes needed", __LINE__);
+    answers(jogimaduve_next_rule(TEXT(GOOD), buffer, sizeof buffer), JOGIMADUVE_DONE, 0, "no rule to strike", __LINE__);
+    answers(jogimaduve_strike(TEXT(GOOD), TEXT("r2"), buffer, sizeof buffer), JOGIMADUVE_NOT_NEEDLESS, 0, "a rule that does work", __LINE__);
     DECIDED(GOOD, "a", JOGIMADUVE_PERMIT);
     DECIDED(GOOD, "b", JOGIMADUVE_DENY);
     DECIDED(A P, "a", JOGIMADUVE_NOT_APPLICABLE);
     DECIDED(A "S\t0\ttop\tonly-one-applicable\t*\nP\t1\tp\tdeny-overrides\t*\nP\t1\tq\tdeny-overrides\t*\n", "a", JOGIMADUVE_INDETERMINATE);
+    longest_name();
     longest_request();
     longest_obligations();
     return checks_done();

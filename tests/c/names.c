@@ -14,6 +14,17 @@ static void decides(const char *file, const char *request, uint32_t number, uint
     answers(bare_decision((const uint8_t *)file, strlen(file), (const uint8_t *)request, strlen(request)), number, second, file, line);
 }
 
+#define KEPT "A\tx\tw\n" TOP "R\t1\tkept\tpermit\t*\n"
+
+/* A rule of this name that does no work, and a name given to strike it. */
+static void strikes(const char *name, const char *given, uint32_t number, int line) {
+    char file[120];
+    uint8_t text[120];
+    size_t size = (size_t)sprintf(file, KEPT "R\t1\t%s\tpermit\t*\n", name);
+    jogimaduve_answer got = jogimaduve_strike((const uint8_t *)file, size, (const uint8_t *)given, strlen(given), text, sizeof text);
+    answers(got, number, number == 0 ? sizeof KEPT - 1 : 0, given, line);
+}
+
 static void requests(void) {
     GIVES(CELL, "Tech\tJog", JOGIMADUVE_PERMIT);
     GIVES(CELL, "tech\tjog", JOGIMADUVE_PERMIT);
@@ -89,6 +100,9 @@ static void pair(const char *name, const char *like, const char *unlike, int let
     decides(file, like, letter ? 0 : 10, letter ? JOGIMADUVE_PERMIT : 1, __LINE__);
     sprintf(file, "A\tx\tw\t%s\n" TOP "R\t1\tr\tpermit\t%s\n", value, like);
     decides(file, value, 8, 3, __LINE__);
+    strikes(value, value, 0, __LINE__);
+    strikes(value, like, letter ? 0 : 15, __LINE__);
+    if (letter) strikes(value, unlike, 15, __LINE__);
 }
 
 /* The first and the last letters and the bytes beside them, at the first, a middle and the last place. */
