@@ -1,4 +1,4 @@
-/* Names as two numbers each, for what reads alone: loaded whole, folded and compared eight bytes at a time. */
+/* Names as two numbers each: loaded whole, folded and compared eight bytes at a time. */
 #ifndef PLAIN_NAMES_H
 #define PLAIN_NAMES_H
 
@@ -33,6 +33,17 @@ static inline uint64_t fold(uint64_t bytes)
 static inline struct name folded(struct name name)
 {
     return (struct name){{fold(name.half[0]), fold(name.half[1])}};
+}
+
+/* A caller's name in small letters, with nothing loaded behind its end. What is no name can come out as one; its length
+ * tells it apart. */
+static inline struct name given_name(const uint8_t *bytes, size_t length)
+{
+    struct name name = {{0, 0}};
+
+    if (length <= NAME_BYTES)
+        memcpy(&name, bytes, length);
+    return folded(name);
 }
 
 static inline bool same(struct name a, struct name b)

@@ -1,5 +1,6 @@
 /* Pairs of values that get another decision than one of the two alone. */
 #include "plain.h"
+#include "plain_names.h"
 #include "plain_space.h"
 
 #include <string.h>
@@ -14,29 +15,17 @@ struct outcome { uint64_t low[BLOCKS + 1], high[BLOCKS + 1]; };
 enum { MOST_LINES = SPACE * 3 / 7, LINE_BYTES = sizeof "D\t1234\tnot-applicable\tnot-applicable\tnot-applicable" };
 enum { WORD_BYTES = 16 }; /* of a decision, a tab before it */
 
-/* Whether an attribute has this name, letter case aside; it is kept in small letters, with zeros behind. */
-static bool has_name(const struct attribute *attribute, const uint8_t *bytes, size_t length)
-{
-    char name[NAME_BYTES + 1] = {0};
-
-    memcpy(name, &attribute->name, NAME_BYTES);
-    if (strlen(name) != length)
-        return false;
-    for (size_t i = 0; i < length; i++)
-        if ((bytes[i] >= 'A' && bytes[i] <= 'Z' ? bytes[i] - 'A' + 'a' : bytes[i]) != name[i])
-            return false;
-    return true;
-}
-
 /* The number of the M of this name; that of the attributes if there is none. */
 static unsigned find_sets(const struct policy *policy, const uint8_t *bytes, size_t length)
 {
-    unsigned number = 0;
+    struct name name = given_name(bytes, length);
 
-    while (number < policy->attributes
-           && !(policy->attribute[number].sets && has_name(&policy->attribute[number], bytes, length)))
-        number++;
-    return number;
+    for (unsigned i = 0; i < policy->attributes; i++) {
+        const struct attribute *attribute = &policy->attribute[i];
+        if (attribute->sets && attribute->name_length == length && same(name, attribute->name))
+            return i;
+    }
+    return policy->attributes;
 }
 
 static void decide_all(struct outcome *outcome, const struct policy *policy)

@@ -21,7 +21,7 @@ struct name { uint64_t half[2]; };
 
 struct attribute {
     struct name name, value[VALUES], spelled[VALUES]; /* in small letters, but as spelled for targets */
-    uint8_t values, length[VALUES];
+    uint8_t name_length, values, length[VALUES];
     bool sets;      /* an M: a request has a set of its values, not one */
     uint16_t count; /* of values, or of sets */
 };

@@ -91,7 +91,8 @@ static unsigned read_attribute(struct policy *policy, const struct line *line)
         return 3;
 
     bool sets = *line->field[0] == 'M';
-    struct attribute attribute = {.name = folded(load_name(line->field[1], line->length[1])), .sets = sets};
+    struct attribute attribute = {.name = folded(load_name(line->field[1], line->length[1])),
+                                  .name_length = (uint8_t)line->length[1], .sets = sets};
     unsigned values = line->fields - 2;
     for (unsigned i = 0; i < policy->attributes; i++)
         if (same(attribute.name, policy->attribute[i].name))

@@ -6,11 +6,8 @@
 /* The first value of this name, of those from `value` on; the number of values if there is none. */
 static unsigned value_of(const struct attribute *attribute, unsigned value, const uint8_t *bytes, size_t length)
 {
-    struct name name = {{0, 0}};
+    struct name name = given_name(bytes, length);
 
-    if (length <= NAME_BYTES) /* others are told apart by their length */
-        memcpy(&name, bytes, length);
-    name = folded(name);
     while (value < attribute->values && (attribute->length[value] != length || !same(name, attribute->value[value])))
         value++;
     return value;
