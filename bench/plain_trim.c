@@ -1,4 +1,4 @@
-/* Trimming. */
+/* Trimming, and showing the rule that it strikes first. */
 #include "plain.h"
 #include "plain_space.h"
 
@@ -164,18 +164,46 @@ static size_t trimmed_length(const struct policy *policy, const struct trimming 
     return file_length;
 }
 
+/* Reads a file and looks at every block. */
+static jogimaduve_answer look_through(struct trimming *trimming, struct policy *policy, const uint8_t *file, size_t length)
+{
+    struct block block;
+
+    jogimaduve_answer answer = plain_read_policy(policy, file, length);
+    if (answer.number != 0)
+        return answer;
+    plain_start_trimming(trimming, policy);
+    for (unsigned i = 0; i < trimming->blocks; i++)
+        plain_look_at(trimming, policy, i, &block);
+    return answer;
+}
+
+jogimaduve_answer plain_next_rule(const uint8_t *file, size_t file_length, uint8_t *buffer, size_t buffer_length)
+{
+    struct policy policy;
+    struct trimming trimming;
+
+    jogimaduve_answer answer = look_through(&trimming, &policy, file, file_length);
+    if (answer.number != 0)
+        return answer;
+    int rule = last_needless(&trimming, &policy);
+    if (rule < 0)
+        return (jogimaduve_answer){0, 0};
+    const struct element *element = &policy.element[rule];
+    if (element->length > buffer_length)
+        return (jogimaduve_answer){11, element->length};
+    memcpy(buffer, element->label, element->length);
+    return (jogimaduve_answer){0, element->length};
+}
+
 jogimaduve_answer plain_trim(const uint8_t *file, size_t file_length, uint8_t *buffer, size_t buffer_length)
 {
     struct policy policy;
     struct trimming trimming;
-    struct block block;
 
-    jogimaduve_answer answer = plain_read_policy(&policy, file, file_length);
+    jogimaduve_answer answer = look_through(&trimming, &policy, file, file_length);
     if (answer.number != 0)
         return answer;
-    plain_start_trimming(&trimming, &policy);
-    for (unsigned i = 0; i < trimming.blocks; i++)
-        plain_look_at(&trimming, &policy, i, &block);
     plain_strike_needless(&trimming, &policy);
 
     size_t length = trimmed_length(&policy, &trimming, file_length);
