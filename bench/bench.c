@@ -11,9 +11,9 @@
 #include <string.h>
 #include <time.h>
 
-/* Pairs of values are listed for the first M, and not for a file without one. Refusing a file is the same for all four;
- * it is measured by decide. */
-enum operation { DECIDE, TRIM, REPORT, PAIRS, REFUSE, OPERATIONS };
+/* What next shows is struck; where it shows none, striking the last rule is refused. Pairs of values are listed for the
+ * first M, and not for a file without one. Refusing a file is the same for all six; it is measured by decide. */
+enum operation { DECIDE, TRIM, REPORT, NEXT, STRIKE, PAIRS, REFUSE, OPERATIONS };
 
 enum { ROUNDS = 7, TEXT_BYTES = 6 << 20 };
 
@@ -21,17 +21,21 @@ static const double round_seconds = 0.02, most_seconds = 0.4; /* of a round; of 
 
 struct side {
     jogimaduve_decision (*decide)(const uint8_t *, size_t, const uint8_t *, size_t, uint8_t *, size_t);
-    jogimaduve_answer (*text[2])(const uint8_t *, size_t, uint8_t *, size_t); /* trim, report */
+    jogimaduve_answer (*text[3])(const uint8_t *, size_t, uint8_t *, size_t); /* trim, report, next */
+    jogimaduve_answer (*strike)(const uint8_t *, size_t, const uint8_t *, size_t, uint8_t *, size_t);
     jogimaduve_answer (*pairs)(const uint8_t *, size_t, const uint8_t *, size_t, uint8_t *, size_t);
     uint8_t *buffer;
 };
 
 static uint8_t library_text[TEXT_BYTES], plain_text[TEXT_BYTES];
 static const struct side sides[2] = {
-    {jogimaduve_decide, {jogimaduve_trim, jogimaduve_report}, jogimaduve_value_pairs, library_text},
-    {plain_decide, {plain_trim, plain_report}, plain_value_pairs, plain_text},
+    {jogimaduve_decide, {jogimaduve_trim, jogimaduve_report, jogimaduve_next_rule}, jogimaduve_strike,
+     jogimaduve_value_pairs, library_text},
+    {plain_decide, {plain_trim, plain_report, plain_next_rule}, plain_strike, plain_value_pairs, plain_text},
 };
-static const char *const operation_names[OPERATIONS] = {"decide", "trim", "report", "pairs", "refuse"};
+static const char *const operation_names[OPERATIONS] = {
+    "decide", "trim", "report", "next", "strike", "pairs", "refuse",
+};
 
 static volatile uint32_t seen; /* keeps calls from being left out */
 
@@ -46,7 +50,9 @@ static jogimaduve_decision call(const struct side *side, const struct policy_fil
     if (operation == DECIDE)
         return side->decide(file->bytes, file->length, file->request[number % file->requests],
                             file->request_length[number % file->requests], side->buffer, TEXT_BYTES);
-    if (operation == PAIRS)
+    if (operation == STRIKE)
+        answer = side->strike(file->bytes, file->length, file->rule, file->rule_length, side->buffer, TEXT_BYTES);
+    else if (operation == PAIRS)
         answer = side->pairs(file->bytes, file->length, file->sets, file->sets_length, side->buffer, TEXT_BYTES);
     else
         answer = side->text[operation - TRIM](file->bytes, file->length, side->buffer, TEXT_BYTES);
@@ -58,6 +64,23 @@ static int same_answers(jogimaduve_decision one, jogimaduve_decision other)
     return one.number == other.number && one.second == other.second && one.length == other.length;
 }
 
+/* The rule that is shown takes the last one's place, if there is one. */
+static void take_shown(struct policy_file *file)
+{
+    jogimaduve_answer shown = jogimaduve_next_rule(file->bytes, file->length, file->rule, sizeof file->rule);
+
+    file->shown = shown.number == JOGIMADUVE_DONE && shown.second > 0;
+    if (file->shown)
+        file->rule_length = shown.second;
+}
+
+static int expected(const struct policy_file *file, int operation, uint32_t number)
+{
+    if (operation == STRIKE)
+        return number == (file->shown ? JOGIMADUVE_DONE : JOGIMADUVE_NOT_NEEDLESS);
+    return (number == JOGIMADUVE_DONE) == (operation != REFUSE);
+}
+
 static void check_same(const struct policy_file *file, int operation)
 {
     unsigned calls = operation == DECIDE ? REQUESTS : 1;
@@ -67,7 +90,7 @@ static void check_same(const struct policy_file *file, int operation)
     for (unsigned i = 0; i < calls; i++) {
         jogimaduve_decision library = call(&sides[0], file, operation, i), plain = call(&sides[1], file, operation, i);
         if (same_answers(library, plain) && memcmp(library_text, plain_text, TEXT_BYTES) == 0
-            && (library.number == 0) == (operation != REFUSE))
+            && expected(file, operation, library.number))
             continue;
         fprintf(stderr, "%s, %s: library %lu %lu %lu, plain %lu %lu %lu, or other bytes\n", file->name,
                 operation_names[operation], (unsigned long)library.number, (unsigned long)library.second,
@@ -140,7 +163,8 @@ int main(void)
     double largest[OPERATIONS] = {0};
 
     printf("%-20s %6s  %-7s %14s %14s %9s\n", "file", "bytes", "", "library, us", "plain C, us", "ratio");
-    for (unsigned number = 0; make_file(&file, number); number++)
+    for (unsigned number = 0; make_file(&file, number); number++) {
+        take_shown(&file);
         for (int operation = 0; operation < OPERATIONS; operation++) {
             if ((operation == REFUSE) != (file.requests == 0) || (operation == PAIRS && file.sets_length == 0))
                 continue;
@@ -148,6 +172,7 @@ int main(void)
             if (ratio > largest[operation])
                 largest[operation] = ratio;
         }
+    }
     printf("largest ratio:");
     for (int operation = 0; operation < OPERATIONS; operation++)
         printf("%s %s %.2f", operation > 0 ? "," : "", operation_names[operation], largest[operation]);

@@ -71,6 +71,10 @@ void element(struct policy_file *file, const struct shape *shape, char kind, uns
 {
     char start[64];
 
+    if (kind == 'R') {
+        file->rule_length = strlen(name);
+        memcpy(file->rule, name, file->rule_length);
+    }
     snprintf(start, sizeof start, "%c\t%u\t%s\t%s", kind, depth, name, word);
     put(file, start);
     for (unsigned i = 0; i < shape->attributes; i++) {

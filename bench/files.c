@@ -252,6 +252,7 @@ int make_file(struct policy_file *file, unsigned number)
     file->length = 0;
     file->requests = 0;
     file->sets_length = 0;
+    file->rule_length = 0;
     switch (number) {
     case 0: small_laboratory(file, &shape, 'A'); break;
     case 1: case 2: case 3: case 4: common_laboratory(file, &shape, 'A', algorithms[number - 1]); break;

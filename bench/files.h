@@ -17,6 +17,9 @@ struct policy_file {
     uint8_t request[REQUESTS][REQUEST_BYTES];
     size_t sets_length; /* 0 for a file without an M */
     uint8_t sets[MOST_NAME_BYTES]; /* name of the first M */
+    size_t rule_length; /* 0 for a file without a rule */
+    uint8_t rule[MOST_NAME_BYTES]; /* name of the last rule, or of the one that is shown */
+    int shown;
 };
 
 /* 0 if there are not so many. */
