@@ -34,11 +34,11 @@ module _ (f table places : List ℕ) (s : Shape) (held : PolicyHeld f table plac
     ends = λ i l. held .naming .each i l .ends;
   }
 
-  -- one element struck, where none was
-  pub copies-held : (old : List ℕ) → old ≡ none-struck → (i : ℕ) → Copies f places (set old i 1) (s .n)
-  copies-held old none i =
-      copies-lined f places (set old i 1) (length (held .policy .attributes)) (s .n) (held .lined) (held .ready .some) (naming-room f places (s .n) (held .ready .some) (held .naming))
-      (omega (arith, held .ready .few, length-set old i 1, ap length none))
+  -- one flag set, where none was
+  pub copies-held : (old : List ℕ) → old ≡ none-struck → (i flag : ℕ) → Copies f places (set old i flag) (s .n)
+  copies-held old none i flag =
+      copies-lined f places (set old i flag) (length (held .policy .attributes)) (s .n) (held .lined) (held .ready .some) (naming-room f places (s .n) (held .ready .some) (held .naming))
+      (omega (arith, held .ready .few, length-set old i flag, ap length none))
 
   -- a file that was read is short, and so is a part of it
   pub small-part : (needed : ℕ) → needed ≤ length f → needed < 4294967296

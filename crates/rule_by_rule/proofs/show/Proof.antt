@@ -1,5 +1,6 @@
 -- `show`: the name of the rule that is found, counted and then written. Assumes nothing.
 use mathlib.Core.Path.{sym}
+use native.Mathlib.Omega.{arith}
 use lib.Seq.{length-take-le}
 use borrow.Author.Needs.{needs}
 use Rattle.printing.proofs.Fitting.{written}
@@ -12,13 +13,13 @@ next-struck-requires : tie.Need-next-struck-requires
 next-struck-requires c κs = let held = c .before .before .before .before .before .pre in (steady-held _ _ _ _ held, held .ready)
 
 put-name-requires : tie.Need-put-name-requires
-put-name-requires c κs = let held = c .before .before .before .before .before .before .before .before .pre in (held .naming, next-within _ _ _ _ held _ (c .before .before .next-struck .ensures .0))
+put-name-requires c κs = let held = c .before .before .before .before .before .before .before .before .pre in (held .naming, omega (arith, next-within _ _ _ _ held _ (c .before .before .next-struck .ensures .0)))
 
 slice-aggregate-put-name-2 : tie.Need-slice-aggregate-put-name-2
 slice-aggregate-put-name-2 c = sym (length-take-le _ _ (c .before .lend .ensures .1))
 
 put-name-requires-2 : tie.Need-put-name-requires-2
-put-name-requires-2 c κs = let held = c .before .before .before .before .before .before .before .before .before .before .before .before .pre in (held .naming, next-within _ _ _ _ held _ (c .before .before .before .before .before .before .next-struck .ensures .0))
+put-name-requires-2 c κs = let held = c .before .before .before .before .before .before .before .before .before .before .before .before .pre in (held .naming, omega (arith, next-within _ _ _ _ held _ (c .before .before .before .before .before .before .next-struck .ensures .0)))
 
 returns : tie.Need-returns
 returns c =

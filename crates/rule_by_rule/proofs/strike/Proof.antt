@@ -34,13 +34,13 @@ array-write-struck c =
     omega (arith, here _ _ _ _ (start .pre) (start .args .rule .now) _ (c .before .before .before .before .before .element-named .ensures) (c .before .before .before .before .if1 .left) .0, start .pre .ready .few)
 
 put-text-requires : tie.Need-put-text-requires
-put-text-requires c κs = copies-held _ _ _ _ (c .before .before .before .before .before .before .before .before .before .before .before .before .before .pre) _ (c .before .before .before .before .is-needless .ensures .1) _
+put-text-requires c κs = copies-held _ _ _ _ (c .before .before .before .before .before .before .before .before .before .before .before .before .before .pre) _ (c .before .before .before .before .is-needless .ensures .1) _ _
 
 slice-aggregate-put-text-4 : tie.Need-slice-aggregate-put-text-4
 slice-aggregate-put-text-4 c = sym (length-take-le _ _ (c .before .before .lend .ensures .1))
 
 put-text-requires-2 : tie.Need-put-text-requires-2
-put-text-requires-2 c κs = copies-held _ _ _ _ (c .before .before .before .before .before .before .before .before .before .before .before .before .before .before .before .before .before .before .pre) _ (c .before .before .before .before .before .before .before .before .before .is-needless .ensures .1) _
+put-text-requires-2 c κs = copies-held _ _ _ _ (c .before .before .before .before .before .before .before .before .before .before .before .before .before .before .before .before .before .before .pre) _ (c .before .before .before .before .before .before .before .before .before .is-needless .ensures .1) _ _
 
 text-answer-requires : tie.Need-text-answer-requires
 text-answer-requires c κs = small-part _ _ _ _ (c .before .before .before .before .before .before .before .before .before .before .before .before .before .before .before .before .before .before .before .before .before .pre) _ (c .before .before .before .before .before .before .before .put-text .ensures .1)
