@@ -16,7 +16,8 @@
 int main(int argc, char **argv) {
     static uint8_t file[JOGIMADUVE_LONGEST_FILE + 1]; /* one byte more: a longer file is refused, not cut */
     static uint8_t text[JOGIMADUVE_LONGEST_FILE];
-    /* A word for each: if a name alone were enough to strike, a script that leaves it out would be shown a rule instead. */
+    /* Both words are spelled out: if a name alone meant strike, a script that lost the name would get a rule's name where it
+     * expects a policy. */
     int show = argc == 2 && strcmp(argv[1], "show") == 0;
     if (!show && (argc != 3 || strcmp(argv[1], "strike") != 0)) {
         fputs("usage: sign show < FILE, or sign strike RULE < FILE\n", stderr);

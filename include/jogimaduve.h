@@ -90,12 +90,13 @@ jogimaduve_decision jogimaduve_decide(const uint8_t *file, size_t file_length,
 jogimaduve_answer jogimaduve_trim(const uint8_t *file, size_t file_length, uint8_t *buffer, size_t buffer_length);
 
 /* Trimming rule by rule, for labs that sign for each. Shows the rule that trimming would strike next: its name, as the file
- * spells it, goes into the buffer with no newline and no zero byte behind it, and `second` is its length. Where every rule
- * does work `second` is 0 and nothing is written. Bytes behind the name stay as they were. */
+ * spells it, goes into the buffer with no newline and no zero byte behind it, and `second` is its length;
+ * JOGIMADUVE_LONGEST_NAME bytes are always enough. Where every rule does work `second` is 0 and nothing is written. Bytes
+ * behind the name stay as they were. */
 jogimaduve_answer jogimaduve_next_rule(const uint8_t *file, size_t file_length, uint8_t *buffer, size_t buffer_length);
 
 /* Strikes one rule, which is named in any letter case: the file's lines less that rule's go into the buffer, and `second` is
- * the length of that text. It may be any rule that does no work in this file, not only the one shown; any other name is
+ * the length of that text, less than the file's. It may be any rule that does no work in this file, not only the one shown; any other name is
  * refused with JOGIMADUVE_NOT_NEEDLESS. The text decides every request as the file does, with the same obligations. Bytes
  * behind the text stay as they were.
  *

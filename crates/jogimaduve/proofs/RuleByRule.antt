@@ -26,10 +26,11 @@ use Rattle.meaning.specs.Claims.RuleByRule.{NeedlessRule}
 use Rattle.meaning.specs.Claims.Operations.{Writes}
 use Rattle.laws.proofs.Bools.{Test, passed, failed, test}
 use Rattle.laws.proofs.Names.{name-refl, equal-names}
-use Rattle.laws.proofs.Reading.{given-given, accepted}
+use Rattle.laws.proofs.Reading.{given-given, step-then, accepted}
 use Rattle.laws.proofs.WellFormed.{well-formed}
 use Rattle.laws.proofs.Refused.{refuses}
 use Rattle.laws.proofs.Trimming.{trimmed-steps, steps-settle}
+use Rattle.laws.proofs.Answers.{decides-alike}
 use Rattle.laws.proofs.Demand3.{trims-soundly}
 use Rattle.laws.proofs.RuleByRule.{rule-name, first-shown, showing, striking, no-needless-rule}
 use Rattle.laws.proofs.Operations.{gave}
@@ -55,11 +56,12 @@ pub record Strikes (rule : Bytes) (o : Strike rule) (f b : Bytes) : Type 0 where
   -- else the file without that line, or 11
   pub the-text : (p : Policy) → WellFormed f p → (r : NeedlessRule f rule) → Writes 11 (given (strike (r .place) f)) (o .answer f b) b (o .after f b)
 
--- A round: the next rule is shown in the first buffer, and struck by the name that was written there into the second. The text stays
--- where no rule is named, or one of the two calls is refused
+-- a buffer for the name, and one for the text
 abbrev pub Buffers : Type 0
 Buffers = Bytes × Bytes
 
+-- A round: the next rule is shown in the first buffer, and struck by the name that was written there into the second. The text stays
+-- where no rule is named, or one of the two calls is refused
 abbrev pub afterRound : Operate → Bytes → Buffers → Bytes
 afterRound o f (b, c) =
     let name = written (o .next-rule) f b in
@@ -74,9 +76,11 @@ afterRounds o f (bs ∷ rounds) = afterRounds o (afterRound o f bs) rounds
 abbrev pub Roomy : Buffers → Type 0
 Roomy (b, c) = (16 ≤ length b) × (16384 ≤ length c)
 
--- Showing and striking a policy file, for any rounds with any buffers
+-- Showing and striking a policy file
 pub record RuleByRule (o : Operate) (f : Bytes) : Type 0 where
-  -- what is left at any time is answered alike on every request line, and is trimmed to the same text
+  -- whichever rule is struck: what is left is answered alike on every request line
+  pub any-strike : (rule c : Bytes) → o .strike rule .answer f c .number ≡ 0 → (r b : Bytes) → decided o (written (o .strike rule) f c) r b ≡ decided o f r b
+  -- any rounds, with any buffers: what is left is answered alike, and is trimmed to the same text
   pub alike : (rounds : List Buffers) (r b : Bytes) → decided o (afterRounds o f rounds) r b ≡ decided o f r b
   pub same-trimming : (rounds : List Buffers) (b : Bytes) → (o .trim .answer (afterRounds o f rounds) b ≡ o .trim .answer f b) × (o .trim .after (afterRounds o f rounds) b ≡ o .trim .after f b)
   -- none is named exactly if what is left is the trimmed text
@@ -247,10 +251,21 @@ module _ (o : Operate) (f : Bytes) (p : Policy) (h : read f ≡ given p) where
         λ e. none .1 (subst (λ t. (k : ℕ) → Needless t k → ⊥) (sym (e ∙ text-is c d)) (trims-soundly f p h .none-needless)),
       )
 
+-- A strike by a name
+strike-alike : (o : Operate) (f : Bytes) (p : Policy) → read f ≡ given p → (rule c : Bytes) → o .strike rule .answer f c .number ≡ 0 → (room : ℕ) (r : Bytes)
+    → decideFile room (written (o .strike rule) f c) r ≡ decideFile room f r
+strike-alike o f p h rule c d room r =
+    let x = gave (strikes rule (o .strike rule) f c) d in
+    let struck = step-then (read f) (λ p. strikeNamed f rule) (x .result) (x .is) .2 in
+    let (own, is) = striking f p h rule (x .result) .0 struck in
+    let n = own .is-needless in
+    ap (λ t. decideFile room t r) (x .taken ∙ is) ∙ decides-alike f (strike (own .place) f) (n .policy) (n .policy-left) (n .is-accepted) (n .left-accepted) (n .alike) room r
+
 pub rule-by-rule : (o : Operate) (f : Bytes) (p : Policy) → WellFormed f p → RuleByRule o f
 rule-by-rule o f p w =
     let h = well-formed f p .1 w in
     record {
+      any-strike = λ rule c d r b. told-is o (written (o .strike rule) f c) r b ∙ ap (telling b) (strike-alike o f p h rule c d (length b) r) ∙ sym (told-is o f r b);
       alike = λ rounds r b. told-is o (afterRounds o f rounds) r b ∙ ap (telling b) (same-decisions o f p h rounds (length b) r) ∙ sym (told-is o f r b);
       same-trimming = λ rounds b.
           let left = afterRounds o f rounds in

@@ -1,4 +1,5 @@
--- Trimming rule by rule: which rule is shown, and which a name strikes.
+-- Trimming rule by rule: which rule is shown, and which a name strikes. That both in turn end in the trimmed policy is said of the
+-- operations, in `jogimaduve`, proofs/RuleByRule.
 use mathlib.Core.Path.{_≡_}
 use mathlib.Core.Logic.{_↔_}
 use Prim.Native.Nat.{ℕ}
