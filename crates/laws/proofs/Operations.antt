@@ -16,9 +16,10 @@ use Rattle.meaning.specs.Trimming.{trimmed}
 use Rattle.meaning.specs.Report.{report, fitted, trimFile, reportFile, program}
 use Rattle.meaning.specs.ValuePairs.{pairsNamed, valuePairsFile}
 use Rattle.meaning.specs.RuleByRule.{nextName, strikeNamed, nextRuleFile, strikeFile}
+use Rattle.meaning.specs.HeldState.{stepFile}
 use Rattle.meaning.specs.Writing.{headerTests, readElements, elementLines, listFile, writeFile}
 use Rattle.meaning.specs.Deciding.{decideFile}
-use Rattle.meaning.specs.Operations.{answered, lent, decidedBy}
+use Rattle.meaning.specs.Operations.{answered, lent, decidedBy, steppedBy}
 use Rattle.meaning.specs.Claims.Operations.{Writes, Operations, Prints}
 use Rattle.laws.proofs.Types.{Element}
 use Rattle.laws.proofs.Bools.{Test, passed, failed, test}
@@ -26,6 +27,7 @@ use Rattle.laws.proofs.Reading.{refused-given, given-given}
 use Rattle.laws.proofs.Refusals.{Numbered, then-numbered, read-numbered, pairs-numbered, strike-numbered, write-numbered}
 use Rattle.laws.proofs.RequestLines.{decides}
 use Rattle.laws.proofs.Settled.{fields-settle}
+use Rattle.laws.proofs.HeldState.{step-shorter}
 
 module _ {A : Type 0} (too-short : ℕ) (old : List A) where
   -- a result for the lent places
@@ -101,7 +103,7 @@ write-room room header es =
     (λ p. short-room room (h ++ gathered (elementLines (p .attributes)) (p .elements)))))
 
 pub operations : Operations
-unfolding trimFile reportFile valuePairsFile nextRuleFile strikeFile listFile decideFile
+unfolding trimFile reportFile valuePairsFile nextRuleFile strikeFile stepFile listFile decideFile
 operations = record {
   decision-numbers = refl;
   decides-no-file = λ f r buffer n m h. (rw h, rw h);
@@ -119,6 +121,12 @@ operations = record {
   tells-pairs = λ f name buffer. writes 11 buffer (lit≤ tt) (read f then λ p. pairsNamed p name) (then-numbered (read f) (λ p. pairsNamed p name) (read-numbered f) (λ p. pairs-numbered p name)) (valuePairsFile (length buffer) f name) (then-through (read f) _ _ (fitted (length buffer)) (λ p. refl));
   shows-next = λ f buffer. writes 11 buffer (lit≤ tt) (read f then λ p. given (nextName f)) (given-numbered (read f) _ (read-numbered f)) (nextRuleFile (length buffer) f) (given-then (read f) (λ p. nextName f) (fitted (length buffer)));
   strikes = λ f rule buffer. writes 11 buffer (lit≤ tt) (read f then λ p. strikeNamed f rule) (then-numbered (read f) (λ p. strikeNamed f rule) (read-numbered f) (λ p. strike-numbered f rule)) (strikeFile (length buffer) f rule) (then-through (read f) _ _ (fitted (length buffer)) (λ p. refl));
+  steps-no-file = λ text n m h. (rw h, rw h);
+  steps = λ text p h s i.
+      let gets : stepFile text ≡ given s = rw (h, i) in
+      let own = ap (λ x. lent text (x then λ s. given (s .text))) gets in
+      let behind = drop (length (s .text)) text in
+      (ap steppedBy gets, rw i (step-shorter text), ap (take (length (s .text))) own ∙ take-at (s .text) behind (length (s .text)) refl, ap (drop (length (s .text))) own ∙ drop-append-seam (s .text) behind);
   reads = λ f list. writes 12 list (lit≤ tt) (read f then λ p. given (p .elements)) (given-numbered (read f) _ (read-numbered f)) (listFile (length list) f) (given-then (read f) (λ p. p .elements) (fit 12 list));
   writes = λ header es buffer. writes 11 buffer (lit≤ tt) (writeFile 16384 header es) (write-numbered 16384 header es) (writeFile (length buffer) header es) (write-room (length buffer) header es);
 }

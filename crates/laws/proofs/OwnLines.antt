@@ -8,7 +8,7 @@ use Rattle.meaning.specs.Text.{Bytes, any, keep, without, front, same, sameName
 use Rattle.meaning.specs.Model.{nameOf, Policy, given}
 use Rattle.meaning.specs.Reading.{Line, attributeLine, treeLine, otherLine, lineOf, elementOf, Sofar, lineTests, extended, readLines, nothing, read, obligationLine, obligationOf, nearestWith}
 use Rattle.meaning.specs.Trimming.{lines, fieldOf, ruleLine, nameAt, strike}
-use Rattle.meaning.specs.Claims.Trimming.{Trims, none-left, last-struck, stays}
+use Rattle.meaning.specs.Claims.Trimming.{Needless, Trims, none-left, last-struck, stays}
 use Rattle.laws.proofs.Types.{rule, Obligation, Element}
 use Rattle.laws.proofs.Bools.{Test, passed, failed, test, contradiction, or-false, or-true, and-true}
 use Rattle.laws.proofs.Text.{same-true, same-refl}
@@ -127,9 +127,9 @@ without-keep (suc k) (l ∷ ls) o r = go (test (called (nameIn (getD ls k [])) l
     go (failed e) ih = rw (e, ← ih)
 
 -- The lines left by the steps of trimming
-none-struck : (ls : List Bytes) → ls ≡ keep (stays []) ls
-none-struck [] = refl
-none-struck (l ∷ ls) = go (test (ruleLine l)) (none-struck ls)
+pub none-gone : (ls : List Bytes) → ls ≡ keep (stays []) ls
+none-gone [] = refl
+none-gone (l ∷ ls) = go (test (ruleLine l)) (none-gone ls)
   where
     go : Test (ruleLine l) → ls ≡ keep (stays []) ls → l ∷ ls ≡ keep (stays []) (l ∷ ls)
     go (passed e) ih = rw (e, ← ih)
@@ -140,12 +140,14 @@ both-stay true true a = refl
 both-stay true false a = refl
 both-stay false s a = refl
 
-pub steps-own : {f t : Bytes} {struck : List Bytes} → Trims f struck t → lines t ≡ keep (stays struck) (lines f)
-steps-own (none-left f needed) = none-struck (lines f)
-steps-own (last-struck f k struck t n l s) =
+pub one-gone : (f : Bytes) (k : ℕ) → Needless f k → (struck : List Bytes) → keep (stays struck) (lines (strike k f)) ≡ keep (stays (nameAt f k ∷ struck)) (lines f)
+one-gone f k n struck =
     let gone : lines (strike k f) ≡ keep (λ l. not (called (nameAt f k) l)) (lines f) =
     strike-without f (n .policy) (n .is-accepted) k (n .rule-line) ∙ without-keep k (lines f) (file-once f (n .policy) (n .is-accepted)) (n .rule-line) in
-    steps-own s
-    ∙ ap (keep (stays struck)) gone
+    ap (keep (stays struck)) gone
     ∙ keep-keep (stays struck) (λ l. not (called (nameAt f k) l)) (lines f)
     ∙ keep-same (λ l. not (called (nameAt f k) l) && stays struck l) (stays (nameAt f k ∷ struck)) (λ l. both-stay (ruleLine l) (same (nameIn l) (nameAt f k)) (any (same (nameIn l)) struck)) (lines f)
+
+pub steps-own : {f t : Bytes} {struck : List Bytes} → Trims f struck t → lines t ≡ keep (stays struck) (lines f)
+steps-own (none-left f needed) = none-gone (lines f)
+steps-own (last-struck f k struck t n l s) = steps-own s ∙ one-gone f k n struck

@@ -6,6 +6,7 @@ pub mod Conflicts
 pub mod Sets
 pub mod ValuePairs
 pub mod RuleByRule
+pub mod HeldState
 pub mod Stepping
 pub mod Outcomes
 pub mod Obligations

@@ -21,7 +21,7 @@ abbrev not-struck : (file name : String) → Case
 not-struck f n = strikes 16384 f n (refused 15 0)
 
 -- the paper's report strikes r4 and then r3, which is needless at once
-abbrev kept : String
+abbrev pub kept : String
 kept =
     "A\trole\ttech\tguest\n"
     and "A\tact\tjog\tteach\n"
@@ -29,10 +29,10 @@ kept =
     and "R\t1\tr1\tpermit\ttech\t*\n"
     and "R\t1\tr2\tdeny\tguest\tteach\n"
 
-abbrev third : String
+abbrev pub third : String
 third = "R\t1\tr3\tdeny\t*\tteach\n"
 
-abbrev fourth : String
+abbrev pub fourth : String
 fourth = "R\t1\tr4\tpermit\ttech\tjog\n"
 
 abbrev worked : String
@@ -59,7 +59,7 @@ abbrev twins : String
 twins = bare and one-twin and other-twin
 
 -- the first policy permits and settles; without its rule the second permits, but the obligation does not come
-abbrev obliged : String
+abbrev pub obliged : String
 obliged =
     "A\tx\ta\n"
     and "S\t0\ttop\tpermit-overrides\t*\n"
@@ -69,7 +69,7 @@ obliged =
     and "P\t1\tempty\tdeny-overrides\t*\n"
     and "P\t1\tq\tdeny-overrides\t*\n"
 
-abbrev second : String
+abbrev pub second : String
 second = "R\t2\tr2\tpermit\t*\n"
 
 abbrev pub in-turn : List Case

@@ -14,5 +14,6 @@ pub mod ReportLines
 pub mod Trimming
 pub mod ValuePairs
 pub mod RuleByRule
+pub mod HeldState
 pub mod Operations
 pub mod Promises

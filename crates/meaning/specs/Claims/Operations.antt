@@ -2,6 +2,7 @@
 use mathlib.Core.Path.{_≡_}
 use mathlib.Core.Logic.{_≢_}
 use Prim.Native.Nat.{ℕ, _≤_, _<_}
+use mathlib.Core.Bool.{cond}
 use mathlib.Core.List.{List, [], _∷_, map}
 use lib.ListN.{length, take, drop}
 use Rattle.meaning.specs.Text.{Bytes}
@@ -12,8 +13,9 @@ use Rattle.meaning.specs.Trimming.{trimmed}
 use Rattle.meaning.specs.Report.{report, program}
 use Rattle.meaning.specs.ValuePairs.{pairsNamed}
 use Rattle.meaning.specs.RuleByRule.{nextName, strikeNamed}
+use Rattle.meaning.specs.HeldState.{Step, stepOn}
 use Rattle.meaning.specs.Writing.{writeFile}
-use Rattle.meaning.specs.Operations.{Answer, decideAnswer, decideLent, trimAnswer, trimLent, reportAnswer, reportLent, valuePairsAnswer, valuePairsLent, nextRuleAnswer, nextRuleLent, strikeAnswer, strikeLent, readAnswer, readLent, writeAnswer, writeLent}
+use Rattle.meaning.specs.Operations.{Answer, decideAnswer, decideLent, trimAnswer, trimLent, reportAnswer, reportLent, valuePairsAnswer, valuePairsLent, nextRuleAnswer, nextRuleLent, strikeAnswer, strikeLent, stepAnswer, stepLent, readAnswer, readLent, writeAnswer, writeLent}
 use Rattle.meaning.specs.Claims.ReportLines.{errorLine, fieldLines}
 
 -- An operation that writes to lent memory, by what it is to write there: a refusal, with its numbers, leaves no trace, and so
@@ -26,7 +28,7 @@ pub record Writes {A : Type 0} (too-short : ℕ) (wanted : Result (List A)) (ans
   pub no-trace : answer .number ≢ 0 → after ≡ before
   pub done : answer .number ≡ 0 → (xs : List A) × (wanted ≡ given xs) × (length xs ≤ length before)
 
--- the eight operations; a decision's number is its place in this list; a file that is written has at most 16,384 bytes
+-- the nine operations; a decision's number is its place in this list; a file that is written has at most 16,384 bytes
 pub record Operations : Type 0 where
   pub decision-numbers : map decisionNumber (Decision.Permit ∷ Decision.Deny ∷ not-applicable ∷ indeterminate ∷ []) ≡ 0 ∷ 1 ∷ 2 ∷ 3 ∷ []
   pub decides-no-file : (f r buffer : Bytes) (n m : ℕ) → read f ≡ refused n m → (decideAnswer f r buffer ≡ record { number = n; second = m; length = 0 }) × (decideLent f r buffer ≡ buffer)
@@ -44,6 +46,10 @@ pub record Operations : Type 0 where
   pub tells-pairs : (f name buffer : Bytes) → Writes 11 (read f then λ p. pairsNamed p name) (valuePairsAnswer f name buffer) buffer (valuePairsLent f name buffer)
   pub shows-next : (f buffer : Bytes) → Writes 11 (read f then λ p. given (nextName f)) (nextRuleAnswer f buffer) buffer (nextRuleLent f buffer)
   pub strikes : (f rule buffer : Bytes) → Writes 11 (read f then λ p. strikeNamed f rule) (strikeAnswer f rule buffer) buffer (strikeLent f rule buffer)
+  pub steps-no-file : (text : Bytes) (n m : ℕ) → read text ≡ refused n m → (stepAnswer text ≡ record { number = n; second = m; struck = 0 }) × (stepLent text ≡ text)
+  pub steps : (text : Bytes) (p : Policy) → read text ≡ given p → (s : Step) → s ≡ stepOn text
+      → (stepAnswer text ≡ record { number = 0; second = length (s .text); struck = cond (s .struck) 1 0 })
+      × (length (s .text) ≤ length text) × (take (length (s .text)) (stepLent text) ≡ s .text) × (drop (length (s .text)) (stepLent text) ≡ drop (length (s .text)) text)
   pub reads : (f : Bytes) (list : List Element) → Writes 12 (read f then λ p. given (p .elements)) (readAnswer f list) list (readLent f list)
   pub writes : (header : Bytes) (es : List Element) (buffer : Bytes) → Writes 11 (writeFile 16384 header es) (writeAnswer header es buffer) buffer (writeLent header es buffer)
 

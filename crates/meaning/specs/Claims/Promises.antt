@@ -14,6 +14,7 @@ use Rattle.meaning.specs.Segments.{segments, segmentSize, Conflict, conf
 use Rattle.meaning.specs.Report.{report}
 use Rattle.meaning.specs.ValuePairs.{pairsNamed}
 use Rattle.meaning.specs.RuleByRule.{nextName, strikeNamed}
+use Rattle.meaning.specs.HeldState.{stepOn}
 use Rattle.meaning.specs.Writing.{writeFile}
 use Rattle.meaning.specs.Claims.Texts.{All, Texts}
 use Rattle.meaning.specs.Claims.PolicyFile.{GoodAttribute, Spelled, WellFormed, Reads}
@@ -28,6 +29,7 @@ use Rattle.meaning.specs.Claims.Segments.{Segmented, Opens, Conflicting,
 use Rattle.meaning.specs.Claims.Trimming.{Lines, Needless, ReportOf, Meets}
 use Rattle.meaning.specs.Claims.ValuePairs.{NamedAttribute, PairsNamed}
 use Rattle.meaning.specs.Claims.RuleByRule.{ShowsNext, NeedlessRule}
+use Rattle.meaning.specs.Claims.HeldState.{StepsOnce}
 use Rattle.meaning.specs.Claims.Operations.{Operations, Prints}
 
 -- Whoever meets these claims gives just what is defined: every wrong tool is shut out
@@ -87,6 +89,8 @@ pub record Promises : Type 0 where
   pub showing : (f : Bytes) (p : Policy) → read f ≡ given p → ShowsNext f (nextName f)
   pub striking : (f : Bytes) (p : Policy) → read f ≡ given p → (name t : Bytes) → strikeNamed f name ≡ given t ↔ ((r : NeedlessRule f name) × (t ≡ strike (r .place) f))
   pub no-needless-rule : (f : Bytes) (p : Policy) → read f ≡ given p → (name : Bytes) (n m : ℕ) → strikeNamed f name ≡ refused n m ↔ ((NeedlessRule f name → ⊥) × (n ≡ 15) × (m ≡ 0))
+  -- a held state: what a step leaves
+  pub stepping : (f : Bytes) (p : Policy) → read f ≡ given p → StepsOnce f (stepOn f)
   pub settled : Settled
   pub shut-out : ShutOut
   pub operations : Operations
