@@ -34,7 +34,7 @@ use Rattle.trimmed_text.proofs.Table.{name-at}
 use Rattle.trimmed_text.proofs.Tabled.{needless-is}
 use Rattle.trimmed_text.proofs.Placed.{text-copied}
 use Rattle.trimmed_text.proofs.Whole.{lineOf, name-of-line, needless-line, line-needless, strike-line}
-use Rattle.rule_by_rule.proofs.Held.{sizes}
+use Rattle.trimmed_text.proofs.Held.{sizes}
 
 module _ (f table places : List ℕ) (s : Shape) (held : PolicyHeld f table places s) (name : Bytes) where
   abbrev p : Policy

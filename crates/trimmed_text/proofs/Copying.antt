@@ -31,26 +31,20 @@ module _ (f : Bytes) (places : List ℕ) (n : ℕ) where
 module _ (f : Bytes) (places struck : List ℕ) (n : ℕ) where
   -- What is left of an element's lines: nothing, or all up to the next element or the file's end
   module _ (h : Copies f places struck n) (i : ℕ) (l : i < n) where
-    lines-lie : startOf places i ≤ linesEnd f places n i
+    pub lines-lie : (startOf places i ≤ linesEnd f places n i) × (linesEnd f places n i ≤ length f)
     lines-lie = go (test (ltb (i + 1) n))
       where
-        go : Test (ltb (i + 1) n) → startOf places i ≤ linesEnd f places n i
-        go (passed e) = rw e (h .rising i (ltb-true (i + 1) n e))
-        go (failed e) = rw e (h .inside i l)
+        go : Test (ltb (i + 1) n) → (startOf places i ≤ linesEnd f places n i) × (linesEnd f places n i ≤ length f)
+        go (passed e) = let more = ltb-true (i + 1) n e in rw e (h .rising i more, h .inside (i + 1) more)
+        go (failed e) = rw e (h .inside i l, omega arith)
 
     pub piece-struck : (getD struck i 0 ≡ 0 → ⊥) → Piece f places struck n i (startOf places i)
     piece-struck flag =
         let nothing : startOf places i - startOf places i ≡ 0 = omega arith in
-        record { is = rw (ne-eqb (getD struck i 0) 0 flag, nothing); starts = omega arith; ends = lines-lie; inside = h .inside i l }
+        record { is = rw (ne-eqb (getD struck i 0) 0 flag, nothing); starts = omega arith; ends = lines-lie .0; inside = h .inside i l }
 
-    piece-left : getD struck i 0 ≡ 0 → linesEnd f places n i ≤ length f → Piece f places struck n i (linesEnd f places n i)
-    piece-left flag lies = record { is = rw (eq-eqb (getD struck i 0) 0 flag); starts = lines-lie; ends = omega arith; inside = lies }
-
-    pub piece-inner : getD struck i 0 ≡ 0 → i + 1 < n → Piece f places struck n i (startOf places (i + 1))
-    piece-inner flag more = let e = reached-line f places n (i + 1) more in rw e at (piece-left flag (rw e (h .inside (i + 1) more)))
-
-    pub piece-last : getD struck i 0 ≡ 0 → n ≤ i + 1 → Piece f places struck n i (length f)
-    piece-last flag none = let e = reached-end f places n (i + 1) none in rw e at (piece-left flag (rw e (omega arith)))
+    pub piece-left : getD struck i 0 ≡ 0 → Piece f places struck n i (linesEnd f places n i)
+    piece-left flag = record { is = rw (eq-eqb (getD struck i 0) 0 flag); starts = lines-lie .0; ends = omega arith; inside = lines-lie .1 }
 
   pub length-head : Copies f places struck n → length (part f 0 (startOf places 0)) ≡ startOf places 0
   length-head h = omega (arith, length-part f 0 (startOf places 0) (h .inside 0 (h .some)))

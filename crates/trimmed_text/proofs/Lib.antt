@@ -12,3 +12,4 @@ pub mod Copying
 pub mod Tabled
 pub mod Whole
 pub mod Steadying
+pub mod Held

@@ -1,4 +1,4 @@
--- What trimming a file rule by rule, and its report, ask of the table and the places that are lent.
+-- What trimming a file rule by rule or in steps, and its report, ask of the table and the places that are lent.
 use mathlib.Core.Path.{_≡_}
 use Prim.Native.Nat.{ℕ, _<_}
 use mathlib.Core.List.{List, reverse}

@@ -4,8 +4,8 @@ use native.Mathlib.Omega.{arith}
 use lib.Seq.{length-take-le}
 use borrow.Author.Needs.{needs}
 use Rattle.printing.proofs.Fitting.{written}
-use Rattle.rule_by_rule.proofs.Held.{steady-held}
-use Rattle.rule_by_rule.proofs.Shown.{next-within, show-fitted}
+use Rattle.trimmed_text.proofs.Held.{steady-held, next-within}
+use Rattle.rule_by_rule.proofs.Shown.{show-fitted}
 use Rattle.rule_by_rule.proofs.show.Statement.{statement}
 use Rattle.rule_by_rule.proofs.show.Tie as tie
 

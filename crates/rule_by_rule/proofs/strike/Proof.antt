@@ -5,7 +5,7 @@ use lib.Seq.{length-take-le}
 use borrow.Author.Needs.{needs}
 use borrow.Author.Tests.{not-true, not-false}
 use Rattle.printing.proofs.Fitting.{written}
-use Rattle.rule_by_rule.proofs.Held.{steady-held, named-held, copies-held, small-part}
+use Rattle.trimmed_text.proofs.Held.{steady-held, named-held, copies-held, small-part}
 use Rattle.rule_by_rule.proofs.Struck.{no-element, here, needed, strike-fitted}
 use Rattle.rule_by_rule.proofs.strike.Statement.{statement}
 use Rattle.rule_by_rule.proofs.strike.Tie as tie
