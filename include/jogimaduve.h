@@ -3,10 +3,12 @@
  * Every operation takes a policy file as bytes and relies on no earlier call. It keeps nothing, allocates nothing and
  * may be called from several threads at once. Pointers must not be NULL, also where a length is 0. The buffer must not
  * overlap the file, a request or a name: a text that is written over its own file comes out wrong, with no sign of it.
+ * Only jogimaduve_step writes to the file that it is given: no other thread may use those bytes meanwhile.
  *
- * Each answers two numbers, jogimaduve_decide three. `number` is 0 where the operation did its work; `second` is then its
- * result. Any other `number` is a refusal, so test it first: the `second` of a refusal can be JOGIMADUVE_PERMIT. A refused
- * operation leaves lent memory as it was. A buffer of length 0 asks for the bytes that a text needs.
+ * Each answers two numbers, jogimaduve_decide and jogimaduve_step three. `number` is 0 where the operation did its work;
+ * `second` is then its result. Any other `number` is a refusal, so test it first: the `second` of a refusal can be
+ * JOGIMADUVE_PERMIT. A refused operation leaves lent memory as it was. A buffer of length 0 asks for the bytes that a text
+ * needs.
  */
 #ifndef JOGIMADUVE_H
 #define JOGIMADUVE_H
@@ -14,7 +16,7 @@
 #include <stddef.h>
 #include <stdint.h>
 
-#define JOGIMADUVE_VERSION "2.1.0"
+#define JOGIMADUVE_VERSION "2.2.0"
 
 #ifdef __cplusplus
 extern "C" {
@@ -30,6 +32,12 @@ typedef struct {
     uint32_t second;
     uint32_t length; /* of the obligations in the buffer; 0 with a refusal */
 } jogimaduve_decision;
+
+typedef struct {
+    uint32_t number;
+    uint32_t second;
+    uint32_t struck; /* 1 if a rule was struck, 0 if none is left to strike; 0 with a refusal */
+} jogimaduve_stepped;
 
 /* `number`, and what `second` is then. Lines and places count from 1. */
 enum {
@@ -66,6 +74,7 @@ enum {
     JOGIMADUVE_TRIM_STACK = 65536,
     JOGIMADUVE_NEXT_RULE_STACK = 65536,
     JOGIMADUVE_STRIKE_STACK = 65536,
+    JOGIMADUVE_STEP_STACK = 65536,
     JOGIMADUVE_REPORT_STACK = 262144,
     JOGIMADUVE_VALUE_PAIRS_STACK = 65536
 };
@@ -105,6 +114,17 @@ jogimaduve_answer jogimaduve_next_rule(const uint8_t *file, size_t file_length, 
 jogimaduve_answer jogimaduve_strike(const uint8_t *file, size_t file_length,
                                     const uint8_t *rule, size_t rule_length,
                                     uint8_t *buffer, size_t buffer_length);
+
+/* Trims one rule at a time and in place, for an arm that cannot stand still while a large policy is trimmed. Strikes the rule
+ * that trimming would strike next: its line is left out of the text, those behind it close up, `second` is the length of the
+ * text now, and `struck` is 1. Bytes from that length on stay as they were. Where every rule does work `struck` is 0, `second`
+ * is the length that was given, and nothing changes, now and at every later step. A text that is no policy file is refused
+ * with 1 to 9 or 14.
+ *
+ * The text left is all that is held, and any policy file is a fresh state. The next step, and jogimaduve_decide between steps,
+ * take the text left with its length now: with the length of before, struck lines can be back. Every request gets what the file
+ * first handed in gives it, with the same obligations. Steps until none is struck end in the bytes that jogimaduve_trim gives. */
+jogimaduve_stepped jogimaduve_step(uint8_t *text, size_t text_length);
 
 /* Reports on a file: its segments (G), conflicts (C), the rules that trimming strikes (X) and those that it keeps (K), as
  * lines of fields parted by tabs. Every build gives the same bytes for the same file. The text goes into the buffer and

@@ -1,4 +1,4 @@
--- What the report, and trimming rule by rule, ask of a file that was read.
+-- What the report, trimming rule by rule and a step ask of a file that was read.
 use mathlib.Core.Path.{_≡_, refl, sym, subst}
 use Prim.Native.Nat.{ℕ}
 use native.Mathlib.Omega.{arith}

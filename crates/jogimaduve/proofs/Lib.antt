@@ -8,5 +8,6 @@ mod Demand3
 mod SameReports
 mod TellsPairs
 mod RuleByRule
+mod HeldState
 mod Holding
 mod Pairing

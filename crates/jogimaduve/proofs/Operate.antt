@@ -4,6 +4,7 @@ use mathlib.Core.Path.{_≡_, refl}
 use lib.ListN.{take}
 use Rattle.meaning.specs.declared.Answer.{Answer}
 use Rattle.meaning.specs.declared.Decided.{Decided}
+use Rattle.meaning.specs.declared.Stepped.{Stepped}
 use Rattle.meaning.specs.Text.{Bytes}
 use Rattle.meaning.specs.Model.{given, _then_}
 use Rattle.meaning.specs.Reading.{read}
@@ -11,7 +12,7 @@ use Rattle.meaning.specs.Trimming.{trimmed}
 use Rattle.meaning.specs.Report.{report}
 use Rattle.meaning.specs.ValuePairs.{pairsNamed}
 use Rattle.meaning.specs.RuleByRule.{nextName, strikeNamed}
-use Rattle.meaning.specs.Operations.{decideAnswer, decideLent, trimAnswer, trimLent, reportAnswer, reportLent, valuePairsAnswer, valuePairsLent, nextRuleAnswer, nextRuleLent, strikeAnswer, strikeLent}
+use Rattle.meaning.specs.Operations.{decideAnswer, decideLent, trimAnswer, trimLent, reportAnswer, reportLent, valuePairsAnswer, valuePairsLent, nextRuleAnswer, nextRuleLent, strikeAnswer, strikeLent, stepAnswer, stepLent}
 use Rattle.meaning.specs.Claims.Operations.{Writes}
 use Rattle.laws.proofs.Operations.{operations}
 
@@ -43,7 +44,14 @@ NextRule = TextOperation nextRuleAnswer nextRuleLent
 abbrev pub Strike : Bytes → Type 0
 Strike rule = TextOperation (λ file buffer. strikeAnswer file rule buffer) (λ file buffer. strikeLent file rule buffer)
 
--- All six
+-- A step of trimming: its answer, and what then stands in the place of its text
+pub record Step : Type 0 where
+  pub answer : (text : Bytes) → Stepped
+  pub after : (text : Bytes) → Bytes
+  pub answer-is : (t : Bytes) → answer t ≡ stepAnswer t
+  pub after-is : (t : Bytes) → after t ≡ stepLent t
+
+-- All seven
 pub record Operate : Type 0 where
   pub decide : (file request buffer : Bytes) → Decided
   pub decide-after : (file request buffer : Bytes) → Bytes
@@ -54,6 +62,7 @@ pub record Operate : Type 0 where
   pub value-pairs : (name : Bytes) → ValuePairs name
   pub next-rule : NextRule
   pub strike : (rule : Bytes) → Strike rule
+  pub step : Step
 
 -- what is defined meets them
 pub as-defined : Operate
@@ -67,6 +76,7 @@ as-defined = record {
   value-pairs = λ name. record { answer = λ f b. valuePairsAnswer f name b; after = λ f b. valuePairsLent f name b; answer-is = λ f b. refl; after-is = λ f b. refl };
   next-rule = record { answer = nextRuleAnswer; after = nextRuleLent; answer-is = λ f b. refl; after-is = λ f b. refl };
   strike = λ rule. record { answer = λ f b. strikeAnswer f rule b; after = λ f b. strikeLent f rule b; answer-is = λ f b. refl; after-is = λ f b. refl };
+  step = record { answer = stepAnswer; after = stepLent; answer-is = λ t. refl; after-is = λ t. refl };
 }
 
 -- what they write

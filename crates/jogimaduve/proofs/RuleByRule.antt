@@ -33,6 +33,7 @@ use Rattle.laws.proofs.Trimming.{trimmed-steps, steps-settle}
 use Rattle.laws.proofs.Answers.{decides-alike}
 use Rattle.laws.proofs.Demand3.{trims-soundly}
 use Rattle.laws.proofs.RuleByRule.{rule-name, first-shown, showing, striking, no-needless-rule}
+use Rattle.laws.proofs.HeldState.{decide-as}
 use Rattle.laws.proofs.Operations.{gave}
 use Rattle.jogimaduve.specs.Told.{told}
 use Rattle.jogimaduve.proofs.Operate.{NextRule, Strike, Operate, written, trims, shows-next, strikes}
@@ -210,7 +211,7 @@ any-rounds o (bs ∷ rounds) s p h =
     let y = any-rounds o rounds (x .steps) (x .policy) (x .is-accepted) in
     record { later = y .later; steps = y .steps; policy = y .policy; is-accepted = y .is-accepted }
 
-none-more : {f t : Bytes} {names : List Bytes} → Trims f names t → length names ≤ 0 → f ≡ t
+pub none-more : {f t : Bytes} {names : List Bytes} → Trims f names t → length names ≤ 0 → f ≡ t
 none-more (none-left f needed) l = refl
 none-more (last-struck f k names t n m s) l = absurd (omega arith)
 
@@ -230,7 +231,7 @@ module _ (o : Operate) (f : Bytes) (p : Policy) (h : read f ≡ given p) where
   same-decisions : (rounds : List Buffers) (room : ℕ) (r : Bytes) → decideFile room (afterRounds o f rounds) r ≡ decideFile room f r
   same-decisions rounds room r =
       let x = left-by rounds in
-      sym (trims-soundly (afterRounds o f rounds) (x .policy) (x .is-accepted) .decides room r) ∙ ap (λ t. decideFile room t r) (same-text rounds) ∙ trims-soundly f p h .decides room r
+      decide-as (trimmed-steps f p h) (x .steps) p (x .policy) h (x .is-accepted) room r
 
   same-trim : (rounds : List Buffers) (room : ℕ) → trimFile room (afterRounds o f rounds) ≡ trimFile room f
   unfolding trimFile

@@ -1,8 +1,9 @@
 // The operations for C callers.
 use meaning::Answer;
 use meaning::Decided;
+use meaning::Stepped;
 ghost use mathlib.Core.Path.{_≡_};
-ghost use Rattle.meaning.specs.Operations.{decideAnswer, decideLent, trimAnswer, trimLent, nextRuleAnswer, nextRuleLent, strikeAnswer, strikeLent, reportAnswer, reportLent, valuePairsAnswer, valuePairsLent};
+ghost use Rattle.meaning.specs.Operations.{decideAnswer, decideLent, trimAnswer, trimLent, nextRuleAnswer, nextRuleLent, strikeAnswer, strikeLent, stepAnswer, stepLent, reportAnswer, reportLent, valuePairsAnswer, valuePairsLent};
 
 // The answer of a request that is not decided.
 fn refused(answer: Answer) -> Decided
@@ -93,6 +94,26 @@ pub extern "C" fn jogimaduve_strike(file: &[u8], rule: &[u8], out: &mut [u8]) ->
     }
     let shape = reader::policy_shape(reading);
     rule_by_rule::strike(file, &table, &places, shape, rule, out)
+}
+
+// Strikes, in place, the rule that trimming a policy file would strike next.
+#[no_mangle]
+pub extern "C" fn jogimaduve_step(text: &mut [u8]) -> Stepped
+    ensures { λ r. ⌜ r ≡ stepAnswer (now (text .entry)) ⌝ }
+    ensures { λ r. ⌜ now (text .exit) ≡ stepLent (now (text .entry)) ⌝ }
+{
+    let mut table = [0u16; 512];
+    let mut places = [0usize; 384];
+    let reading = reader::read(text, &mut table, &mut places);
+    if reading.number != 0 {
+        let answer = reader::refusal(reading);
+        return Stepped {
+            number: answer.number,
+            second: answer.second,
+            struck: 0,
+        };
+    }
+    held_state::step(text, &table, &places, reader::policy_shape(reading))
 }
 
 // The report of a policy file, in a lent buffer.

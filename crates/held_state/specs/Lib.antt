@@ -1,0 +1,2 @@
+-- What the contracts of a held state cite.
+pub mod Closed
