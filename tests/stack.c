@@ -40,6 +40,16 @@ static void *strike(void *unused) {
     return unused;
 }
 
+/* The last rule, then none. */
+static void *step(void *unused) {
+    memcpy(buffer, file, size);
+    jogimaduve_stepped got = jogimaduve_step(buffer, size);
+    check(got.number == JOGIMADUVE_DONE && got.second == size - last && got.struck == 1, "step", __LINE__);
+    got = jogimaduve_step(buffer, size - last);
+    check(got.number == JOGIMADUVE_DONE && got.second == size - last && got.struck == 0, "step", __LINE__);
+    return unused;
+}
+
 static void *report(void *unused) {
     check(jogimaduve_report((const uint8_t *)file, size, buffer, sizeof buffer).number == JOGIMADUVE_DONE, "report", __LINE__);
     return unused;
@@ -103,6 +113,7 @@ int main(void) {
     within(trim, JOGIMADUVE_TRIM_STACK, "trim");
     within(next_rule, JOGIMADUVE_NEXT_RULE_STACK, "next rule");
     within(strike, JOGIMADUVE_STRIKE_STACK, "strike");
+    within(step, JOGIMADUVE_STEP_STACK, "step");
     within(report, JOGIMADUVE_REPORT_STACK, "report");
     largest('M', (const int[]){8, 16, 1});
     within(value_pairs, JOGIMADUVE_VALUE_PAIRS_STACK, "value pairs");

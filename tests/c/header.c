@@ -63,6 +63,23 @@ static void longest_name(void) {
     REFUSED(GOOD "R\t1\t0123456789abcdefg\tpermit\ta\n", JOGIMADUVE_BAD_NAME, 5);
 }
 
+/* A step answers by the same names, with a third number. */
+static void steps(void) {
+    static uint8_t text[] = GOOD "R\t1\tr3\tpermit\ta\n";
+    jogimaduve_stepped got = jogimaduve_step(text, sizeof text - 1);
+    check(got.number == JOGIMADUVE_DONE && got.second == sizeof GOOD - 1 && got.struck == 1, "a rule struck", __LINE__);
+    got = jogimaduve_step(text, got.second);
+    check(got.number == JOGIMADUVE_DONE && got.second == sizeof GOOD - 1 && got.struck == 0, "none left", __LINE__);
+    got = jogimaduve_step(text, got.second - 1);
+    check(got.number == JOGIMADUVE_BAD_LINE && got.second == 4 && got.struck == 0, "no last newline", __LINE__);
+    got = jogimaduve_step(long_file, sizeof long_file);
+    check(got.number == JOGIMADUVE_TOO_LONG && got.second == 0 && got.struck == 0, "too long", __LINE__);
+    got = jogimaduve_step(long_file, sizeof long_file - 1);
+    check(got.number == JOGIMADUVE_BAD_LINE && got.second == 1 && got.struck == 0, "as long as can be", __LINE__);
+    /* what every caller is compiled with */
+    check(sizeof got == 12 && offsetof(jogimaduve_stepped, second) == 4 && offsetof(jogimaduve_stepped, struck) == 8, "the answer of a step", __LINE__);
+}
+
 int main(void) {
     memset(long_file, 'A', sizeof long_file);
     answers(jogimaduve_trim(long_file, sizeof long_file, buffer, sizeof buffer), JOGIMADUVE_TOO_LONG, 0, "too long", __LINE__);
@@ -94,6 +111,7 @@ int main(void) {
     DECIDED(GOOD, "b", JOGIMADUVE_DENY);
     DECIDED(A P, "a", JOGIMADUVE_NOT_APPLICABLE);
     DECIDED(A "S\t0\ttop\tonly-one-applicable\t*\nP\t1\tp\tdeny-overrides\t*\nP\t1\tq\tdeny-overrides\t*\n", "a", JOGIMADUVE_INDETERMINATE);
+    steps();
     longest_name();
     longest_request();
     longest_obligations();

@@ -25,6 +25,15 @@ static void strikes(const char *name, const char *given, uint32_t number, int li
     answers(got, number, number == 0 ? sizeof KEPT - 1 : 0, given, line);
 }
 
+/* The same rule struck by a step: it has a line of its own, whatever its name. */
+static void steps(const char *name, int line) {
+    uint8_t text[120];
+    size_t size = (size_t)sprintf((char *)text, KEPT "R\t1\t%s\tpermit\t*\n", name);
+    jogimaduve_stepped got = jogimaduve_step(text, size);
+    answers((jogimaduve_answer){got.number, got.second}, 0, sizeof KEPT - 1, name, line);
+    check(got.struck == 1, name, line);
+}
+
 static void requests(void) {
     GIVES(CELL, "Tech\tJog", JOGIMADUVE_PERMIT);
     GIVES(CELL, "tech\tjog", JOGIMADUVE_PERMIT);
@@ -101,6 +110,7 @@ static void pair(const char *name, const char *like, const char *unlike, int let
     sprintf(file, "A\tx\tw\t%s\n" TOP "R\t1\tr\tpermit\t%s\n", value, like);
     decides(file, value, 8, 3, __LINE__);
     strikes(value, value, 0, __LINE__);
+    steps(value, __LINE__);
     strikes(value, like, letter ? 0 : 15, __LINE__);
     if (letter) strikes(value, unlike, 15, __LINE__);
 }
