@@ -8,6 +8,7 @@
 
 /* expect.c */
 extern int bad_cases; /* how many did not hold */
+size_t bytes_of(const char *text, uint8_t *bytes); /* with tabs for its spaces and no zero behind it; gives its length */
 /* In a buffer of any size: no obligations come with it. */
 void decides(const char *what, const char *policy, const char *line, uint32_t number, uint32_t second);
 /* Permit or deny, with these obligations in a buffer of their size and in a longer one; 11 in each that is too short. */
@@ -35,5 +36,8 @@ void cases_of_places(void);
 
 /* cases_rules.c */
 void cases_of_rules(void);
+
+/* cases_step.c */
+void cases_of_steps(void);
 
 #endif

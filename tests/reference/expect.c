@@ -8,7 +8,7 @@ enum { TEXT_BYTES = 2000 };
 
 int bad_cases;
 
-static size_t bytes_of(const char *text, uint8_t *bytes)
+size_t bytes_of(const char *text, uint8_t *bytes)
 {
     size_t length = strlen(text);
     for (size_t i = 0; i < length; i++)

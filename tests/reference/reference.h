@@ -1,4 +1,4 @@
-/* Reference implementation of paper 01 with changes C-11 to C-17, written from the papers alone: plain code, for
+/* Reference implementation of paper 01 with changes C-11 to C-18, written from the papers alone: plain code, for
  * comparing with. What C-16 calls a duty is an obligation here, as in XACML.
  *
  * Every function answers two numbers. `number` is 0 where the work was done, and `second` is then the result; any other
@@ -25,6 +25,11 @@ struct answer ref_next_rule(const uint8_t *file, size_t len, uint8_t *out, size_
 
 /* `second` is the length of the file without the needless rule that is named. */
 struct answer ref_strike(const uint8_t *file, size_t len, const uint8_t *name, size_t name_len, uint8_t *out, size_t room);
+
+/* Strikes the rule that trimming strikes next, in the text itself. `second` is the text's length then; the bytes from there
+ * on stay as they were. `struck` is 1 if there was such a rule, 0 if none is left, and 0 for a refusal. */
+struct stepped { uint32_t number, second, struck; };
+struct stepped ref_step(uint8_t *text, size_t len);
 
 /* `second` is the length of the report. Each conflict is shown by its lowest request. */
 struct answer ref_report(const uint8_t *file, size_t len, uint8_t *out, size_t room);
