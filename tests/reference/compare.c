@@ -1,7 +1,7 @@
 /* Compares libjogimaduve with the reference on generated inputs: valid files of many shapes, damaged ones, good and bad
  * request lines, names of attributes, rules and others, buffers too short, exact and longer. Lent memory is compared byte
- * for byte. Of stored files, whose reports are compared elsewhere, only the pairs of values, showing and striking rules
- * and, of those with obligations, every request are.
+ * for byte. Of stored files, whose reports are compared elsewhere, only the pairs of values, showing and striking rules,
+ * steps and, of those with obligations, every request are.
  *
  * Usage: compare SEED COUNT [FILE ...]. Each input is made from its own seed alone, SEED and those behind it, so that
  * `compare <seed shown> 1` makes it again. Prints the number of differences; the exit status is 1 if there are any, or if
@@ -47,7 +47,7 @@ uint8_t *exactly(const uint8_t *bytes, size_t length)
     return copy;
 }
 
-static void difference(const char *what, struct answer wanted, jogimaduve_answer got, const struct bytes *file)
+void difference(const char *what, struct answer wanted, jogimaduve_answer got, const struct bytes *file)
 {
     if (++differences > 20)
         return; /* enough shown */
@@ -106,7 +106,7 @@ static int has_set(const struct policy *policy)
     return 0;
 }
 
-static int has_obligation(const struct policy *policy)
+int has_obligation(const struct policy *policy)
 {
     for (int place = 0; place < policy->elements; place++)
         if (policy->element[place].obligations > 0)
@@ -133,6 +133,9 @@ static void compare_input(uint64_t seed)
     compare_rooms("report", &file, small ? 5 : 1, below(2) ? REPORT_BYTES : below(64), ref_report, jogimaduve_report);
     compare_pairs(&file, &policy, accepted);
     compare_rules(&file, &policy, accepted);
+    compare_step(&file, &policy, accepted);
+    if (accepted && small)
+        compare_held(&file);
     compare_small_files();
     compare_obliged_files();
 }
@@ -156,6 +159,9 @@ static void compare_stored(const char *name)
         compare_request(&file, &policy, request);
     compare_pairs(&file, &policy, accepted);
     compare_rules(&file, &policy, accepted);
+    compare_step(&file, &policy, accepted);
+    if (accepted && policy.space <= 256)
+        compare_held(&file);
 }
 
 int seen_often(const char *of_what, const struct seen *seen, size_t count)
@@ -186,6 +192,7 @@ static int all_seen(void)
     all = requests_seen() && all;
     all = obligations_seen() && all;
     all = rules_seen() && all;
+    all = steps_seen() && all;
     return pairs_seen() && all;
 }
 

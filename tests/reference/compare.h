@@ -11,8 +11,10 @@ typedef struct answer reference_text(const uint8_t *file, size_t length, uint8_t
 typedef jogimaduve_answer library_text(const uint8_t *file, size_t length, uint8_t *out, size_t room);
 
 extern unsigned long differences;
+void difference(const char *what, struct answer wanted, jogimaduve_answer got, const struct bytes *file); /* counts it too */
 void show_bytes(const char *what, const uint8_t *bytes, size_t length);
 uint8_t *exactly(const uint8_t *bytes, size_t length); /* to be freed */
+int has_obligation(const struct policy *policy);
 
 /* In a buffer of the first room and, where that gives a text or 11, in up to so many others around what is needed.
  * Gives the first answer. */
@@ -23,8 +25,11 @@ struct answer compare_rooms(const char *what, const struct bytes *file, size_t m
 struct seen { const char *what; unsigned long times; };
 int seen_often(const char *of_what, const struct seen *seen, size_t count);
 
-/* compare_decide.c: a request line of the policy, or a bad one, in buffers of every fit */
-void compare_decide(const struct bytes *file, const struct policy *policy, int accepted);
+/* compare_decide.c: a request line of the policy, or a bad one, in buffers of every fit. Gives the answer in the first of
+ * them, for a decision with the length of its obligations. */
+struct answer compare_decide(const struct bytes *file, const struct policy *policy, int accepted);
+/* The same, but that the library has what steps have left of an accepted file. */
+struct answer compare_decide_left(const struct bytes *file, const struct policy *policy, struct slice left);
 void compare_request(const struct bytes *file, const struct policy *policy, int number); /* the one of this number */
 int requests_seen(void); /* whether each kind came up often; prints how often */
 
@@ -40,7 +45,12 @@ int pairs_seen(void); /* whether each kind came up often; prints how often */
 
 /* compare_rules.c: next_rule and strike */
 void compare_rules(const struct bytes *file, struct policy *policy, int accepted);
-void compare_steps(const struct bytes *file, struct policy *policy); /* the same, and both to the end; of a small policy */
+void compare_strikes(const struct bytes *file, struct policy *policy); /* the same, and both to the end; of a small policy */
 int rules_seen(void); /* whether each kind came up often; prints how often */
+
+/* compare_step.c */
+void compare_step(const struct bytes *file, const struct policy *policy, int accepted); /* one step */
+void compare_held(const struct bytes *file); /* a list of steps and requests from an accepted file on */
+int steps_seen(void); /* whether each kind came up often; prints how often */
 
 #endif

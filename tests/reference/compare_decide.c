@@ -7,6 +7,7 @@
 
 static struct bytes request;
 static struct decided wanted;
+static const struct slice *text_left; /* what the library has in place of the file; NULL for the file itself */
 
 /* How often requests held two values of an M or more or were refused at its field, requests with a comma were refused at an
  * A's field, permit and deny came with obligations, and these were too long for the buffer. */
@@ -23,6 +24,10 @@ static struct answer by_reference(const uint8_t *file, size_t length, uint8_t *o
 static jogimaduve_answer by_library(const uint8_t *file, size_t length, uint8_t *out, size_t room)
 {
     uint8_t *line = exactly(request.bytes, request.length);
+    if (text_left != NULL) {
+        file = text_left->bytes;
+        length = text_left->length;
+    }
     jogimaduve_decision got = jogimaduve_decide(file, length, line, request.length, out, room);
     jogimaduve_answer answer = {got.number, got.number == 0 ? got.length : got.second};
 
@@ -48,7 +53,7 @@ static void count_request(const struct policy *policy, struct decided answer)
         came_up.bad_lists += comma;
 }
 
-void compare_decide(const struct bytes *file, const struct policy *policy, int accepted)
+struct answer compare_decide(const struct bytes *file, const struct policy *policy, int accepted)
 {
     unsigned long before = differences;
 
@@ -61,6 +66,15 @@ void compare_decide(const struct bytes *file, const struct policy *policy, int a
         compare_rooms("decide", file, 5, answer.second, by_reference, by_library);
     if (differences > before)
         show_bytes("request", request.bytes, request.length);
+    return answer;
+}
+
+struct answer compare_decide_left(const struct bytes *file, const struct policy *policy, struct slice left)
+{
+    text_left = &left;
+    struct answer answer = compare_decide(file, policy, 1);
+    text_left = NULL;
+    return answer;
 }
 
 void compare_request(const struct bytes *file, const struct policy *policy, int number)

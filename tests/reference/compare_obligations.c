@@ -184,7 +184,9 @@ void compare_obliged_files(void)
         compare_request(&file, &policy, request);
     compare_rooms("trim", &file, 1, FILE_BYTES, ref_trim, jogimaduve_trim);
     compare_rooms("report", &file, 1, 4096, ref_report, jogimaduve_report);
-    compare_steps(&file, &policy);
+    compare_strikes(&file, &policy);
+    if (one_in(4))
+        compare_held(&file);
     count_rules(&policy);
 }
 

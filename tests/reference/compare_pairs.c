@@ -85,7 +85,9 @@ void compare_small_files(void)
         if (read_policy(file.bytes, file.length, &policy).number != 0)
             continue;
         compare_attributes(&file, &policy, 0);
-        compare_steps(&file, &policy);
+        compare_strikes(&file, &policy);
+        if (one_in(4))
+            compare_held(&file);
     }
 }
 

@@ -138,7 +138,7 @@ static jogimaduve_answer by_steps(const uint8_t *file, size_t length, uint8_t *o
 }
 
 /* There are many such files. */
-void compare_steps(const struct bytes *file, struct policy *policy)
+void compare_strikes(const struct bytes *file, struct policy *policy)
 {
     if (one_in(4))
         compare_rooms("next_rule and strike to the end", file, 0, FILE_BYTES, ref_trim, by_steps);
