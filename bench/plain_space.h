@@ -70,6 +70,9 @@ void plain_look_at(struct trimming *trimming, const struct policy *policy, unsig
 /* Strikes the last needless rule while there is one, once every block was looked at. */
 void plain_strike_needless(struct trimming *trimming, const struct policy *policy);
 
+/* Reads a file and finds the rule that is struck first, or -1. Nothing is found in a file that is refused. */
+jogimaduve_answer plain_find_needless(struct policy *policy, const uint8_t *file, size_t length, int *rule);
+
 /* Fills the chain for all sets and policies. */
 void plain_chain(const struct policy *policy, const struct block *block, struct chain *chain);
 

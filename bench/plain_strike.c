@@ -1,4 +1,4 @@
-/* Striking one rule that is named. */
+/* Striking one rule: the one that is named, or in place the one that trimming strikes next. */
 #include "plain.h"
 #include "plain_names.h"
 #include "plain_space.h"
@@ -53,4 +53,20 @@ jogimaduve_answer plain_strike(const uint8_t *file, size_t file_length, const ui
     memcpy(buffer, file, line);
     memcpy(buffer + line, file + line + line_length, length - line);
     return (jogimaduve_answer){0, (uint32_t)length};
+}
+
+jogimaduve_stepped plain_step(uint8_t *text, size_t text_length)
+{
+    struct policy policy;
+    int rule;
+
+    jogimaduve_answer answer = plain_find_needless(&policy, text, text_length, &rule);
+    if (answer.number != 0)
+        return (jogimaduve_stepped){answer.number, answer.second, 0};
+    if (rule < 0)
+        return (jogimaduve_stepped){0, (uint32_t)text_length, 0};
+    size_t line = policy.element[rule].line, line_length = policy.element[rule].line_length;
+    size_t length = text_length - line_length;
+    memmove(text + line, text + line + line_length, length - line);
+    return (jogimaduve_stepped){0, (uint32_t)length, 1};
 }

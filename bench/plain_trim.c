@@ -178,15 +178,24 @@ static jogimaduve_answer look_through(struct trimming *trimming, struct policy *
     return answer;
 }
 
+jogimaduve_answer plain_find_needless(struct policy *policy, const uint8_t *file, size_t length, int *rule)
+{
+    struct trimming trimming;
+
+    jogimaduve_answer answer = look_through(&trimming, policy, file, length);
+    if (answer.number == 0)
+        *rule = last_needless(&trimming, policy);
+    return answer;
+}
+
 jogimaduve_answer plain_next_rule(const uint8_t *file, size_t file_length, uint8_t *buffer, size_t buffer_length)
 {
     struct policy policy;
-    struct trimming trimming;
+    int rule;
 
-    jogimaduve_answer answer = look_through(&trimming, &policy, file, file_length);
+    jogimaduve_answer answer = plain_find_needless(&policy, file, file_length, &rule);
     if (answer.number != 0)
         return answer;
-    int rule = last_needless(&trimming, &policy);
     if (rule < 0)
         return (jogimaduve_answer){0, 0};
     const struct element *element = &policy.element[rule];
