@@ -1,15 +1,14 @@
 /* Measures the proved library beside the plain C operations, in one run: each file and operation first checked to give
  * the same answer and bytes from both, then timed in turns. Times are processor time, the best round of each. */
-#define _POSIX_C_SOURCE 200809L
 #include "files.h"
 #include "jogimaduve.h"
 #include "plain.h"
+#include "processor_time.h"
 #include "steps.h"
 
 #include <stdio.h>
 #include <stdlib.h>
 #include <string.h>
-#include <time.h>
 
 /* What next shows is struck; where it shows none, striking the last rule is refused. Pairs of values are listed for the
  * first M, and not for a file without one. Refusing a file is the same for all six; it is measured by decide. */
@@ -102,15 +101,14 @@ static void check_same(const struct policy_file *file, int operation)
 
 static double seconds_of(const struct side *side, const struct policy_file *file, int operation, unsigned calls)
 {
-    struct timespec start, end;
     uint32_t sum = 0;
 
-    clock_gettime(CLOCK_THREAD_CPUTIME_ID, &start);
+    double start = processor_seconds();
     for (unsigned i = 0; i < calls; i++)
         sum += call(side, file, operation, i).second;
-    clock_gettime(CLOCK_THREAD_CPUTIME_ID, &end);
+    double end = processor_seconds();
     seen = sum;
-    return (double)(end.tv_sec - start.tv_sec) + 1e-9 * (double)(end.tv_nsec - start.tv_nsec);
+    return end - start;
 }
 
 /* Calls that take about a round; always as many decisions as there are request lines, or a multiple. */

@@ -1,12 +1,11 @@
 /* One step to the next request: the library's beside plain C that goes the same way, and beside plain C that compares. */
-#define _POSIX_C_SOURCE 200809L
 #include "steps.h"
+#include "processor_time.h"
 #include "request.h"
 
 #include <stdio.h>
 #include <stdlib.h>
 #include <string.h>
-#include <time.h>
 
 enum { ROUNDS = 7, STEPS = 1 << 20, FORMS = 3 };
 
@@ -28,15 +27,14 @@ static step *const forms[FORMS] = {next_request, by_quotient, comparing};
 /* Seconds for one step, from request 0 round and round, and where it ends. */
 static double seconds_of(step *next, const struct space *space, struct request *end_at)
 {
-    struct timespec start, end;
     struct request q = {.len = space->len};
 
-    clock_gettime(CLOCK_THREAD_CPUTIME_ID, &start);
+    double start = processor_seconds();
     for (unsigned i = 0; i < STEPS; i++)
         q = next(q, space->counts);
-    clock_gettime(CLOCK_THREAD_CPUTIME_ID, &end);
+    double end = processor_seconds();
     *end_at = q;
-    return ((double)(end.tv_sec - start.tv_sec) + 1e-9 * (double)(end.tv_nsec - start.tv_nsec)) / STEPS;
+    return (end - start) / STEPS;
 }
 
 void bench_steps(void)
