@@ -5,14 +5,16 @@
 #include "plain.h"
 #include "processor_time.h"
 #include "steps.h"
+#include "trimming_steps.h"
 
 #include <stdio.h>
 #include <stdlib.h>
 #include <string.h>
 
-/* What next shows is struck; where it shows none, striking the last rule is refused. Pairs of values are listed for the
- * first M, and not for a file without one. Refusing a file is the same for all six; it is measured by decide. */
-enum operation { DECIDE, TRIM, REPORT, NEXT, STRIKE, PAIRS, REFUSE, OPERATIONS };
+/* What next shows is struck; where it shows none, striking the last rule is refused. A step is the first one of a file.
+ * Pairs of values are listed for the first M, and not for a file without one. Refusing a file is the same for all seven; it
+ * is measured by decide. */
+enum operation { DECIDE, TRIM, REPORT, NEXT, STRIKE, STEP, PAIRS, REFUSE, OPERATIONS };
 
 enum { ROUNDS = 7, TEXT_BYTES = 6 << 20 };
 
@@ -22,23 +24,33 @@ struct side {
     jogimaduve_decision (*decide)(const uint8_t *, size_t, const uint8_t *, size_t, uint8_t *, size_t);
     jogimaduve_answer (*text[3])(const uint8_t *, size_t, uint8_t *, size_t); /* trim, report, next */
     jogimaduve_answer (*strike)(const uint8_t *, size_t, const uint8_t *, size_t, uint8_t *, size_t);
+    jogimaduve_stepped (*step)(uint8_t *, size_t);
     jogimaduve_answer (*pairs)(const uint8_t *, size_t, const uint8_t *, size_t, uint8_t *, size_t);
     uint8_t *buffer;
 };
 
 static uint8_t library_text[TEXT_BYTES], plain_text[TEXT_BYTES];
 static const struct side sides[2] = {
-    {jogimaduve_decide, {jogimaduve_trim, jogimaduve_report, jogimaduve_next_rule}, jogimaduve_strike,
+    {jogimaduve_decide, {jogimaduve_trim, jogimaduve_report, jogimaduve_next_rule}, jogimaduve_strike, jogimaduve_step,
      jogimaduve_value_pairs, library_text},
-    {plain_decide, {plain_trim, plain_report, plain_next_rule}, plain_strike, plain_value_pairs, plain_text},
+    {plain_decide, {plain_trim, plain_report, plain_next_rule}, plain_strike, plain_step, plain_value_pairs, plain_text},
 };
 static const char *const operation_names[OPERATIONS] = {
-    "decide", "trim", "report", "next", "strike", "pairs", "refuse",
+    "decide", "trim", "report", "next", "strike", "step", "pairs", "refuse",
 };
 
 static volatile uint32_t seen; /* keeps calls from being left out */
 
-/* Decides one request line, or fills the buffer with a text alone. */
+/* The step's text is the file, copied into the buffer before each call. The copy is timed with it, as it is too short to be
+ * told from the clock's own time; both sides make it. */
+static jogimaduve_decision step(const struct side *side, const struct policy_file *file)
+{
+    memcpy(side->buffer, file->bytes, file->length);
+    jogimaduve_stepped answer = side->step(side->buffer, file->length);
+    return (jogimaduve_decision){answer.number, answer.second, answer.struck};
+}
+
+/* Decides one request line, steps, or fills the buffer with a text alone. */
 static jogimaduve_decision call(const struct side *side, const struct policy_file *file, int operation, unsigned number)
 {
     static const uint8_t none[1];
@@ -49,6 +61,8 @@ static jogimaduve_decision call(const struct side *side, const struct policy_fil
     if (operation == DECIDE)
         return side->decide(file->bytes, file->length, file->request[number % file->requests],
                             file->request_length[number % file->requests], side->buffer, TEXT_BYTES);
+    if (operation == STEP)
+        return step(side, file);
     if (operation == STRIKE)
         answer = side->strike(file->bytes, file->length, file->rule, file->rule_length, side->buffer, TEXT_BYTES);
     else if (operation == PAIRS)
@@ -175,6 +189,8 @@ int main(void)
     for (int operation = 0; operation < OPERATIONS; operation++)
         printf("%s %s %.2f", operation > 0 ? "," : "", operation_names[operation], largest[operation]);
     printf("\n\n");
+    bench_trimming_steps();
+    printf("\n");
     bench_steps();
     return 0;
 }
