@@ -42,11 +42,14 @@ void common_laboratory(struct policy_file *file, struct shape *shape, char roles
 void spelled_laboratory(struct policy_file *file, struct shape *shape);
 
 /* obliged_files.c: obligations for a laboratory, or for every set and policy of a file; and files in which rules are needed
- * for obligations alone, at late requests, or for nothing, where the same name comes from another element. */
+ * for obligations alone, at late requests, or for nothing, where the same name comes from another element: two policies in
+ * each of many sets, or narrow rules in one policy, which may stand behind needless ones. */
 void oblige_laboratory(struct policy_file *file);
 void oblige_all(struct policy_file *file);
 void obliged_late(struct policy_file *file, struct shape *shape);
 void obliged_alike(struct policy_file *file, struct shape *shape);
+void obliged_narrow(struct policy_file *file, struct shape *shape);
+void obliged_behind(struct policy_file *file, struct shape *shape);
 
 /* requests.c */
 void make_requests(struct policy_file *file, const struct shape *shape);

@@ -240,7 +240,7 @@ int make_file(struct policy_file *file, unsigned number)
         "flat-deny", "flat-permit", "flat-first", "all-needed", "none-needed-first", "none-needed-permit",
         "needless-first", "deep", "only-one", "many-policies", "sets-of-12", "sets-of-6-and-6", "every-pair",
         "obliged-lab-12", "obliged-lab-25", "obliged-badge-25", "obliged-deep", "obliged-policies", "obliged-late",
-        "obliged-alike",
+        "obliged-alike", "obliged-narrow", "obliged-behind",
         "refused-target", "refused-name", "refused-values",
     };
     enum { FILES = sizeof names / sizeof *names };
@@ -279,11 +279,13 @@ int make_file(struct policy_file *file, unsigned number)
     case 30: many_policies(file, &shape); oblige_all(file); break;
     case 31: obliged_late(file, &shape); break;
     case 32: obliged_alike(file, &shape); break;
-    case 33: bad_last_target(file, &shape); break;
-    case 34: name_again(file, &shape); break;
+    case 33: obliged_narrow(file, &shape); break;
+    case 34: obliged_behind(file, &shape); break;
+    case 35: bad_last_target(file, &shape); break;
+    case 36: name_again(file, &shape); break;
     default: many_values(file, &shape); break;
     }
-    if (number < 33)
+    if (number < 35)
         make_requests(file, &shape);
     return 1;
 }

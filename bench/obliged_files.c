@@ -30,6 +30,12 @@ static void oblige_named(struct policy_file *file, const char *name)
             obligation(file, laboratory[i].name, laboratory[i].word);
 }
 
+static void oblige_alike(struct policy_file *file)
+{
+    obligation(file, "log", "permit");
+    obligation(file, "lower-speed", "permit");
+}
+
 static void oblige_each(struct policy_file *file, const char *name)
 {
     obligation(file, "log", "permit");
@@ -90,3 +96,33 @@ void obliged_late(struct policy_file *file, struct shape *shape) { pairs(file, s
 
 /* No request needs the first rule of any set, and each is tried on nearly all. */
 void obliged_alike(struct policy_file *file, struct shape *shape) { pairs(file, shape, 0x7fff, 0); }
+
+/* A policy of narrow rules, each with one request of every 64; then one that gives the same names but where the first
+ * attribute has its last value, and one that gives none. So a narrow rule is needed at late requests alone. Needless ones
+ * stand before them: each permits a part of what a narrow rule does. */
+static void narrow(struct policy_file *file, struct shape *shape, unsigned needless)
+{
+    unsigned not_last[6] = {0x7fff}, number = 0;
+
+    even_space(file, shape, 'A', 3, 16, 0);
+    numbered(file, shape, 'S', 0, number++, "first-applicable", everything);
+    numbered(file, shape, 'P', 1, number++, "permit-overrides", everything);
+    oblige_alike(file);
+    for (unsigned i = 0; i < 58; i++) {
+        unsigned of_64 = i < needless ? i + needless : i, target[6] = {0, 0x1111u << of_64 / 16, 1u << of_64 % 16};
+        if (i < needless)
+            target[0] = 1u << i % 14;
+        numbered(file, shape, 'R', 2, number++, "permit", target);
+    }
+    numbered(file, shape, 'P', 1, number++, "first-applicable", everything);
+    oblige_alike(file);
+    numbered(file, shape, 'R', 2, number++, "permit", not_last);
+    numbered(file, shape, 'P', 1, number++, "deny-overrides", everything);
+    numbered(file, shape, 'R', 2, number++, "permit", everything);
+}
+
+/* No rule is needless, and the narrow ones are tried on nearly all requests. */
+void obliged_narrow(struct policy_file *file, struct shape *shape) { narrow(file, shape, 0); }
+
+/* Half are needless: before the next of them is found, the other half is tried. */
+void obliged_behind(struct policy_file *file, struct shape *shape) { narrow(file, shape, 29); }
