@@ -3,7 +3,8 @@
  * Every operation takes a policy file as bytes and relies on no earlier call. It keeps nothing, allocates nothing and
  * may be called from several threads at once. Pointers must not be NULL, also where a length is 0. The buffer must not
  * overlap the file, a request or a name: a text that is written over its own file comes out wrong, with no sign of it.
- * Only jogimaduve_step writes to the file that it is given: no other thread may use those bytes meanwhile.
+ * Only jogimaduve_step writes to the file that it is given: nothing else, another thread or a signal handler, may use those
+ * bytes meanwhile.
  *
  * Each answers two numbers, jogimaduve_decide and jogimaduve_step three. `number` is 0 where the operation did its work;
  * `second` is then its result. Any other `number` is a refusal, so test it first: the `second` of a refusal can be

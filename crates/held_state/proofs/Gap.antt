@@ -11,6 +11,7 @@ use lib.ListN.{length, take, drop, length-drop}
 use lib.Seq.{take-all, take-add, drop-drop}
 use Rattle.meaning.specs.Text.{Bytes, gathered, counting}
 use Rattle.layout.specs.Places.{part, startOf}
+use Rattle.printing.proofs.Walks.{gathered-more}
 use Rattle.trimmed_text.specs.Flags.{isLeft}
 use Rattle.trimmed_text.specs.Copied.{linesEnd, pieceAt, copied, Copies}
 use Rattle.trimmed_text.proofs.Copying.{reached, reached-line, reached-end, lines-lie}
@@ -27,15 +28,6 @@ no-part f a = let size : a - a ≡ 0 = omega arith in rw size
 
 last-part : (f : Bytes) (a : ℕ) → part f a (length f) ≡ drop a f
 last-part f a = take-all (length f - a) (drop a f) (omega (arith, length-drop a f))
-
--- what is gathered from places that follow one another
-gathered-parts : (F : ℕ → Bytes) (a k m whole : ℕ) → whole ≡ k + m → gathered F (counting a whole) ≡ gathered F (counting a k) ++ gathered F (counting (a + k) m)
-gathered-parts F a zero m whole e = let size : whole ≡ m = omega arith in let first : a + 0 ≡ a = omega arith in rw (size, first)
-gathered-parts F a (suc k) m zero e = absurd (omega arith)
-gathered-parts F a (suc k) m (suc whole) e =
-    let there : suc a + k ≡ a + suc k = omega arith in
-    ap (λ x. F a ++ x) (gathered-parts F (suc a) k m whole (omega arith) ∙ ap (λ j. gathered F (counting (suc a) k) ++ gathered F (counting j m)) there)
-    ∙ sym (append-assoc (F a) (gathered F (counting (suc a) k)) (gathered F (counting (a + suc k) m)))
 
 module _ (f : Bytes) (places struck : List ℕ) (n : ℕ) (h : Copies f places struck n) where
   abbrev from : ℕ → ℕ
@@ -61,6 +53,7 @@ module _ (f : Bytes) (places struck : List ℕ) (n : ℕ) (h : Copies f places s
   unfolding copied
   one-struck i l gone left =
       let m = n - suc i in
+      let count : n ≡ i + suc m = omega arith in
       let (before, low) = lines-left 0 i (omega arith) (λ j u v. left j (λ e. omega (arith, e, v))) in
       let (behind, high) = lines-left (suc i) m (omega arith) (λ j u v. left j (λ e. omega (arith, e, u))) in
       let none : pieceAt f places struck n i ≡ [] = ap (λ b. cond b (part f (startOf places i) (linesEnd f places n i)) []) gone in
@@ -71,7 +64,7 @@ module _ (f : Bytes) (places struck : List ℕ) (n : ℕ) (h : Copies f places s
       let head : part f 0 (from 0) ++ part f (from 0) (from (0 + i)) ≡ take (startOf places i) f = join-parts f 0 (from 0) (from (0 + i)) (omega arith) low ∙ ap (λ k. take k f) (sub-zero (from (0 + i)) ∙ here) in
       let tail : part f (from (suc i)) (from (suc i + m)) ≡ drop (linesEnd f places n i) f = ap₂ (part f) next end ∙ last-part f (linesEnd f places n i) in
       ap (λ a. part f 0 a ++ pieces 0 n) first
-      ∙ ap (λ x. part f 0 (from 0) ++ x) (gathered-parts (pieceAt f places struck n) 0 i (suc m) n (omega arith) ∙ ap₂ (λ x j. x ++ pieces j (suc m)) before (omega arith))
+      ∙ ap (λ x. part f 0 (from 0) ++ x) (ap (pieces 0) count ∙ gathered-more (pieceAt f places struck n) 0 i (suc m) ∙ ap₂ (λ x j. x ++ pieces j (suc m)) before (omega arith))
       ∙ ap₂ (λ x y. part f 0 (from 0) ++ (part f (from 0) (from (0 + i)) ++ (x ++ y))) none behind
       ∙ sym (append-assoc (part f 0 (from 0)) (part f (from 0) (from (0 + i))) (part f (from (suc i)) (from (suc i + m))))
       ∙ ap₂ (λ x y. x ++ y) head tail

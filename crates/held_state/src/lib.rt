@@ -9,7 +9,7 @@ ghost use Rattle.trimmed_text.specs.Held.{PolicyHeld};
 ghost use Rattle.held_state.specs.Closed.{closed};
 
 // Moves the bytes from `end` on down to `start`. What then lies behind them stays as it was.
-pub fn close_gap(text: &mut [u8], start: usize, end: usize)
+fn close_gap(text: &mut [u8], start: usize, end: usize)
     requires { ⌜ (start ≤ end) × (end ≤ length (now text)) ⌝ }
     ensures { λ _. ⌜ now (text .exit) ≡ closed (now (text .entry)) start end ⌝ }
 {

@@ -2,37 +2,38 @@
 -- decisions and refused requests comes to.
 use mathlib.Core.Path.{_≡_, refl, sym, ap, ap₂, _∙_, subst}
 use mathlib.Core.Logic.{_↔_}
-use Prim.Native.Nat.{ℕ, suc, _+_, _-_, _≤_, _<_}
+use Prim.Native.Nat.{ℕ, _+_, _-_, _≤_, _<_}
 use native.Mathlib.Omega.{arith}
 use mathlib.Core.Bool.{false, cond}
 use mathlib.Core.List.{List, [], _∷_, _++_, append-assoc, append-nil}
-use lib.Dec.{eqb}
 use lib.ListN.{length, take, drop, take-append-drop, length-append, length-drop}
 use lib.Seq.{length-take-le, drop-length, take-append-seam, drop-append-seam, drop-append-le, drop-drop}
-use Rattle.meaning.specs.declared.Decided.{Decided}
 use Rattle.meaning.specs.declared.Stepped.{Stepped}
 use Rattle.meaning.specs.Text.{Bytes, keep}
-use Rattle.meaning.specs.Model.{Policy, Result, refused, given}
+use Rattle.meaning.specs.Model.{Policy, Result, refused, given, _then_}
 use Rattle.meaning.specs.Reading.{read}
-use Rattle.meaning.specs.Trimming.{lines, strike}
+use Rattle.meaning.specs.Trimming.{lines, strike, trimmed}
 use Rattle.meaning.specs.HeldState.{stepOn}
 use Rattle.meaning.specs.Claims.PolicyFile.{WellFormed}
 use Rattle.meaning.specs.Claims.Refusals.{Refuses}
-use Rattle.meaning.specs.Claims.Trimming.{Needless, Trims, stays}
+use Rattle.meaning.specs.Claims.Trimming.{Needless, Trims, none-left, stays}
 use Rattle.laws.proofs.Bools.{Test, passed, failed, test}
+use Rattle.laws.proofs.Reading.{given-given}
 use Rattle.laws.proofs.WellFormed.{well-formed}
 use Rattle.laws.proofs.Refused.{refuses}
-use Rattle.laws.proofs.HeldState.{stepping, afterSteps, OnTheWay, on-the-way, decide-as}
-use Rattle.laws.proofs.Operations.{operations}
-use Rattle.jogimaduve.proofs.Operate.{Step, Operate}
-use Rattle.jogimaduve.proofs.Demand3.{told, told-is, telling}
-use Rattle.jogimaduve.proofs.RuleByRule.{none-more}
+use Rattle.laws.proofs.Trimming.{trimmed-steps, steps-end, none-more, steps-settle}
+use Rattle.laws.proofs.Answers.{same-end-alike}
+use Rattle.laws.proofs.HeldState.{steps-once, afterSteps, OnTheWay, on-the-way}
+use Rattle.laws.proofs.Operations.{operations, gave}
+use Rattle.jogimaduve.proofs.Operate.{StepOperation, Operate, written, trims}
+use Rattle.jogimaduve.proofs.Demand3.{told-is, telling}
+use Rattle.jogimaduve.proofs.Calls.{Held, textOf, fresh, Call, step, decide, stepped, afterCalls, toldBy, toldOf, stepsIn}
 
 abbrev pub stepTold : (number second struck : ℕ) → Stepped
 stepTold n m s = record { number = n; second = m; struck = s }
 
 -- A text that is handed to a step
-pub record Steps (o : Step) (f : Bytes) : Type 0 where
+pub record Steps (o : StepOperation) (f : Bytes) : Type 0 where
   -- one that is refused
   pub no-file : (n m : ℕ) → Refuses f n m → (o .answer f ≡ stepTold n m 0) × (o .after f ≡ f)
   -- of a policy file the last needless rule is struck: the text left stands at the start, and what is behind it stays
@@ -42,74 +43,35 @@ pub record Steps (o : Step) (f : Bytes) : Type 0 where
   pub none-left : (p : Policy) → WellFormed f p → (o .answer f ≡ stepTold 0 (length f) 0) ↔ ((k : ℕ) → Needless f k → ⊥)
   pub unchanged : o .answer f .struck ≡ 0 → o .after f ≡ f
 
--- A held state: the caller's memory, of which the first bytes are the text left so far
-pub record Held : Type 0 where
-  pub memory : Bytes
-  pub size : ℕ
-
-abbrev pub textOf : Held → Bytes
-textOf s = take (s .size) (s .memory)
-
--- a policy file handed in is a fresh state, whatever is behind it
-abbrev pub fresh : (file behind : Bytes) → Held
-fresh f behind = record { memory = f ++ behind; size = length f }
-
--- A call: a step, or a request line with a buffer for its obligations, which is decided or refused
-pub data Call : Type 0 where
-  step : Call
-  decide : (request buffer : Bytes) → Call
-
--- A step is lent the text alone; unless it is refused, it tells how long the text is now
-abbrev pub stepped : Operate → Held → Held
-stepped o s =
-    let answer = o .step .answer (textOf s) in
-    record { memory = o .step .after (textOf s) ++ drop (s .size) (s .memory); size = cond (eqb (answer .number) 0) (answer .second) (s .size) }
-
--- the state after some calls, and what the decisions among them are told: the answer and the buffer
-abbrev pub afterCalls : Operate → Held → List Call → Held
-afterCalls o s [] = s
-afterCalls o s (step ∷ cs) = afterCalls o (stepped o s) cs
-afterCalls o s (decide r b ∷ cs) = afterCalls o s cs
-
-abbrev pub toldBy : Operate → Held → List Call → List (Decided × Bytes)
-toldBy o s [] = []
-toldBy o s (step ∷ cs) = toldBy o (stepped o s) cs
-toldBy o s (decide r b ∷ cs) = told o (textOf s) r b ∷ toldBy o s cs
-
--- what they are told of one file; how many of the calls are steps
-abbrev pub toldOf : Operate → Bytes → List Call → List (Decided × Bytes)
-toldOf o f [] = []
-toldOf o f (step ∷ cs) = toldOf o f cs
-toldOf o f (decide r b ∷ cs) = told o f r b ∷ toldOf o f cs
-
-abbrev pub stepsIn : List Call → ℕ
-stepsIn [] = 0
-stepsIn (step ∷ cs) = suc (stepsIn cs)
-stepsIn (decide r b ∷ cs) = stepsIn cs
-
--- A policy file f with other bytes behind it, from which trimming strikes the rules of these names and comes to t, after any calls
-module _ (o : Operate) (f behind : Bytes) (names : List Bytes) (t : Bytes) where
+-- A policy file f with other bytes behind it, after any calls
+module _ (o : Operate) (f behind : Bytes) where
   abbrev after : List Call → Held
   after cs = afterCalls o (fresh f behind) cs
 
-  pub record HeldState : Type 0 where
+  abbrev left : List Call → Bytes
+  left cs = textOf (after cs)
+
+  -- Trimming strikes the rules of these names from it and comes to t; every policy file has such (`trimmed-steps`, `laws`)
+  pub record HeldState (names : List Bytes) (t : Bytes) : Type 0 where
     -- each decision, with its obligations, is the one of the file first read
     pub same-decisions : (cs : List Call) → toldBy o (fresh f behind) cs ≡ toldOf o f cs
     -- the state is that file without the first rules that trimming strikes, one for each step, or the trimmed policy if there were more
-    pub lines-left : (cs : List Call) → lines (textOf (after cs)) ≡ keep (stays (take (stepsIn cs) names)) (lines f)
-    pub ends-trimmed : (cs : List Call) → length names ≤ stepsIn cs → textOf (after cs) ≡ t
+    pub lines-left : (cs : List Call) → lines (left cs) ≡ keep (stays (take (stepsIn cs) names)) (lines f)
+    pub ends-trimmed : (cs : List Call) → length names ≤ stepsIn cs → left cs ≡ t
     -- it is a policy file, from which trimming strikes the other rules and comes to the same text
-    pub is-file : (cs : List Call) → (q : Policy) × WellFormed (textOf (after cs)) q
-    pub goes-on : (cs : List Call) → Trims (textOf (after cs)) (drop (stepsIn cs) names) t
-    -- a step then says that none is left exactly if no rule is needless, and changes nothing
-    pub none-left : (cs : List Call) → (o .step .answer (textOf (after cs)) .struck ≡ 0) ↔ ((k : ℕ) → Needless (textOf (after cs)) k → ⊥)
-    pub unchanged : (cs : List Call) → o .step .answer (textOf (after cs)) .struck ≡ 0 → stepped o (after cs) ≡ after cs
+    pub is-file : (cs : List Call) → (q : Policy) × WellFormed (left cs) q
+    pub goes-on : (cs : List Call) → Trims (left cs) (drop (stepsIn cs) names) t
+    -- a step then says that none is left exactly if no rule is needless, which is if the text is the one that trimming writes; and then
+    -- it changes nothing
+    pub none-left : (cs : List Call) → (o .step .answer (left cs) ≡ stepTold 0 (after cs .size) 0) ↔ ((k : ℕ) → Needless (left cs) k → ⊥)
+    pub as-trimmed : (cs : List Call) (b : Bytes) → o .trim .answer f b .number ≡ 0 → (o .step .answer (left cs) ≡ stepTold 0 (after cs .size) 0) ↔ (left cs ≡ written (o .trim) f b)
+    pub unchanged : (cs : List Call) → o .step .answer (left cs) .struck ≡ 0 → stepped o (after cs) ≡ after cs
     -- the bytes behind the text that it leaves stay as they were, and those behind the file first read after any calls
     pub behind-text : (cs : List Call) → drop (stepped o (after cs) .size) (stepped o (after cs) .memory) ≡ drop (stepped o (after cs) .size) (after cs .memory)
     pub behind-file : (cs : List Call) → drop (length f) (after cs .memory) ≡ behind
 
 -- What a step leaves of an accepted text
-module _ (o : Step) (f : Bytes) (p : Policy) (h : read f ≡ given p) where
+module _ (o : StepOperation) (f : Bytes) (p : Policy) (h : read f ≡ given p) where
   answers : o .answer f ≡ stepTold 0 (length (stepOn f .text)) (cond (stepOn f .struck) 1 0)
   answers = o .answer-is f ∙ operations .steps f p h (stepOn f) refl .0
 
@@ -129,26 +91,26 @@ module _ (o : Step) (f : Bytes) (p : Policy) (h : read f ≡ given p) where
       go (passed s) = let one : _≡_ {A = ℕ} (cond (stepOn f .struck) 1 0) 1 = rw s in absurd (omega (arith, one, sym (ap (λ a. a .struck) answers) ∙ e))
       go (failed s) = s
 
-  none-says : stepOn f .struck ≡ false → o .answer f .struck ≡ 0
-  none-says s = ap (λ a. a .struck) answers ∙ ap (λ b. cond b 1 0) s
-
   same-text : stepOn f .struck ≡ false → (stepOn f .text ≡ f) × (o .after f ≡ f)
   same-text s =
-      let e = stepping f p h .unchanged s in
+      let e = steps-once f p h .unchanged s in
       (e, leaves ∙ ap (λ t. t ++ drop (length t) f) e ∙ ap (λ t. f ++ t) (drop-length f) ∙ append-nil f)
 
-pub steps-text : (o : Step) (f : Bytes) → Steps o f
+  -- none is left exactly if no rule is needless
+  none-exactly : (o .answer f ≡ stepTold 0 (length f) 0) ↔ ((k : ℕ) → Needless f k → ⊥)
+  none-exactly = (
+    λ e. steps-once f p h .none-left .0 (says-none (ap (λ a. a .struck) e)),
+    λ needed. let s = steps-once f p h .none-left .1 needed in answers ∙ ap₂ (λ t b. stepTold 0 (length t) (cond b 1 0)) (same-text s .0) s,
+  )
+
+pub steps-text : (o : StepOperation) (f : Bytes) → Steps o f
 steps-text o f = record {
   no-file = λ n m x. let (a, b) = operations .steps-no-file f n m (refuses f n m .1 x) in (o .answer-is f ∙ a, o .after-is f ∙ b);
   last-struck = λ p w k needless no-later.
       let h = well-formed f p .1 w in
-      let (said, is) = stepping f p h .last-struck k needless no-later in
+      let (said, is) = steps-once f p h .last-struck k needless no-later in
       (answers o f p h ∙ ap₂ (λ t b. stepTold 0 (length t) (cond b 1 0)) is said, leaves o f p h ∙ ap (λ t. t ++ drop (length t) f) is);
-  none-left = λ p w.
-      let h = well-formed f p .1 w in (
-        λ e. stepping f p h .none-left .0 (says-none o f p h (ap (λ a. a .struck) e)),
-        λ needed. let s = stepping f p h .none-left .1 needed in answers o f p h ∙ ap₂ (λ t b. stepTold 0 (length t) (cond b 1 0)) (same-text o f p h s .0) s,
-      );
+  none-left = λ p w. none-exactly o f p (well-formed f p .1 w);
   unchanged = λ e. go (read f) refl e;
 }
   where
@@ -207,14 +169,14 @@ nothing-changes o s fits p h e =
     let size : stepped o s .size ≡ s .size = told ∙ ap length text ∙ text-size s fits in
     λ i. record { memory = memory i; size = size i }
 
--- What any calls leave of a state that trimming takes to t
+-- What any calls leave of a state: the text of so many steps, and all that is behind the first text
 record AfterCalls (o : Operate) (s : Held) (cs : List Call) : Type 0 where
   text : textOf (afterCalls o s cs) ≡ afterSteps (stepsIn cs) (textOf s)
   fits : Fits (afterCalls o s cs)
   behind : (k : ℕ) → s .size ≤ k → drop k (afterCalls o s cs .memory) ≡ drop k (s .memory)
 
-further : (k n : ℕ) (a b : Bytes) → n ≤ k → drop n a ≡ drop n b → drop k a ≡ drop k b
-further k n a b l e =
+dropped-alike : (k n : ℕ) (a b : Bytes) → n ≤ k → drop n a ≡ drop n b → drop k a ≡ drop k b
+dropped-alike k n a b l e =
     let there : n + (k - n) ≡ k = omega arith in
     ap (λ m. drop m a) (sym there) ∙ sym (drop-drop (k - n) n a) ∙ ap (drop (k - n)) e ∙ drop-drop (k - n) n b ∙ ap (λ m. drop m b) there
 
@@ -227,7 +189,7 @@ after-calls o (step ∷ cs) s fits z p h =
     record {
       text = x .text ∙ ap (afterSteps (stepsIn cs)) (one .text);
       fits = x .fits;
-      behind = λ k l. x .behind k (omega (arith, one .shorter)) ∙ further k (stepped o s .size) (stepped o s .memory) (s .memory) (omega (arith, one .shorter)) (one .behind);
+      behind = λ k l. x .behind k (omega (arith, one .shorter)) ∙ dropped-alike k (stepped o s .size) (stepped o s .memory) (s .memory) (omega (arith, one .shorter)) (one .behind);
     }
 
 -- what the decisions among them are told, of a file f that trimming takes to t as well
@@ -235,7 +197,7 @@ told-alike : (o : Operate) (f : Bytes) {names : List Bytes} {t : Bytes} → Trim
     → (cs : List Call) (s : Held) {later : List Bytes} → Fits s → Trims (textOf s) later t → (p : Policy) → read (textOf s) ≡ given p → toldBy o s cs ≡ toldOf o f cs
 told-alike o f y q i [] s fits z p h = refl
 told-alike o f y q i (decide r b ∷ cs) s fits z p h =
-    ap₂ (λ x xs. x ∷ xs) (told-is o (textOf s) r b ∙ ap (telling b) (decide-as y z q p i h (length b) r) ∙ sym (told-is o f r b)) (told-alike o f y q i cs s fits z p h)
+    ap₂ (λ x xs. x ∷ xs) (told-is o (textOf s) r b ∙ ap (telling b) (same-end-alike y z q p i h (length b) r) ∙ sym (told-is o f r b)) (told-alike o f y q i cs s fits z p h)
 told-alike o f y q i (step ∷ cs) s fits z p h =
     let (one, onward, r, j) = step-on o s fits z p h in
     told-alike o f y q i cs (stepped o s) (one .fits) onward r j
@@ -245,14 +207,15 @@ held-state o f behind p w names t z = record {
   same-decisions = λ cs. told-alike o f z p h cs (fresh f behind) fits whole-steps p whole-read;
   lines-left = λ cs. ap lines (text cs) ∙ way cs .lines-left;
   ends-trimmed = λ cs l. text cs ∙ none-more (way cs .steps) (omega (arith, length-drop (stepsIn cs) names));
-  is-file = λ cs. (way cs .policy, well-formed (textOf (after o f behind names t cs)) (way cs .policy) .0 (accepted cs));
-  goes-on = λ cs. rw (text cs) (way cs .steps);
-  none-left = λ cs.
-      let g = textOf (after o f behind names t cs) in
-      let h = accepted cs in
-      (λ e. stepping g (way cs .policy) h .none-left .0 (says-none (o .step) g (way cs .policy) h e), λ needed. none-says (o .step) g (way cs .policy) h (stepping g (way cs .policy) h .none-left .1 needed));
-  unchanged = λ cs e. nothing-changes o (after o f behind names t cs) (calls cs .fits) (way cs .policy) (accepted cs) e;
-  behind-text = λ cs. one-step o (after o f behind names t cs) (calls cs .fits) (way cs .policy) (accepted cs) .behind;
+  is-file = λ cs. (way cs .policy, well-formed (left o f behind cs) (way cs .policy) .0 (accepted cs));
+  goes-on = λ cs. onward cs;
+  none-left = none-now;
+  as-trimmed = λ cs b d. (
+    λ e. steps-settle (none-left (left o f behind cs) (none-now cs .0 e)) (onward cs) .1 ∙ sym (written-is b d),
+    λ e. none-now cs .1 (subst (λ g. (k : ℕ) → Needless g k → ⊥) (sym (e ∙ written-is b d)) (steps-end z)),
+  );
+  unchanged = λ cs e. nothing-changes o (after o f behind cs) (calls cs .fits) (way cs .policy) (accepted cs) e;
+  behind-text = λ cs. one-step o (after o f behind cs) (calls cs .fits) (way cs .policy) (accepted cs) .behind;
   behind-file = λ cs. calls cs .behind (length f) (omega arith) ∙ drop-append-seam f behind;
 }
   where
@@ -277,8 +240,21 @@ held-state o f behind p w names t z = record {
     calls : (cs : List Call) → AfterCalls o (fresh f behind) cs
     calls cs = after-calls o cs (fresh f behind) fits whole-steps p whole-read
 
-    text : (cs : List Call) → textOf (after o f behind names t cs) ≡ afterSteps (stepsIn cs) f
+    text : (cs : List Call) → left o f behind cs ≡ afterSteps (stepsIn cs) f
     text cs = calls cs .text ∙ ap (afterSteps (stepsIn cs)) whole
 
-    accepted : (cs : List Call) → read (textOf (after o f behind names t cs)) ≡ given (way cs .policy)
+    accepted : (cs : List Call) → read (left o f behind cs) ≡ given (way cs .policy)
     accepted cs = ap read (text cs) ∙ way cs .is-accepted
+
+    onward : (cs : List Call) → Trims (left o f behind cs) (drop (stepsIn cs) names) t
+    onward cs = rw (text cs) (way cs .steps)
+
+    none-now : (cs : List Call) → (o .step .answer (left o f behind cs) ≡ stepTold 0 (after o f behind cs .size) 0) ↔ ((k : ℕ) → Needless (left o f behind cs) k → ⊥)
+    none-now cs = rw (text-size (after o f behind cs) (calls cs .fits)) at (none-exactly (o .step) (left o f behind cs) (way cs .policy) (accepted cs))
+
+    -- what trimming writes of it
+    written-is : (b : Bytes) → o .trim .answer f b .number ≡ 0 → written (o .trim) f b ≡ t
+    written-is b d =
+        let x = gave (trims (o .trim) f b) d in
+        let wanted : (read f then λ p. given (trimmed f .text)) ≡ given (trimmed f .text) = rw h in
+        x .taken ∙ given-given (sym (x .is) ∙ wanted) ∙ steps-settle (trimmed-steps f p h) z .1

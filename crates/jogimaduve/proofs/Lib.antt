@@ -8,6 +8,7 @@ mod Demand3
 mod SameReports
 mod TellsPairs
 mod RuleByRule
+mod Calls
 mod HeldState
 mod Holding
 mod Pairing

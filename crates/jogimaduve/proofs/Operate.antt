@@ -45,7 +45,7 @@ abbrev pub Strike : Bytes → Type 0
 Strike rule = TextOperation (λ file buffer. strikeAnswer file rule buffer) (λ file buffer. strikeLent file rule buffer)
 
 -- A step of trimming: its answer, and what then stands in the place of its text
-pub record Step : Type 0 where
+pub record StepOperation : Type 0 where
   pub answer : (text : Bytes) → Stepped
   pub after : (text : Bytes) → Bytes
   pub answer-is : (t : Bytes) → answer t ≡ stepAnswer t
@@ -62,7 +62,7 @@ pub record Operate : Type 0 where
   pub value-pairs : (name : Bytes) → ValuePairs name
   pub next-rule : NextRule
   pub strike : (rule : Bytes) → Strike rule
-  pub step : Step
+  pub step : StepOperation
 
 -- what is defined meets them
 pub as-defined : Operate

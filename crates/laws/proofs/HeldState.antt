@@ -1,24 +1,23 @@
 -- Trimming as a held state: what a step leaves, and what some steps do.
 use mathlib.Core.Path.{_≡_, refl, sym, ap, _∙_}
-use Prim.Native.Nat.{ℕ, zero, suc, _+_, _≤_}
+use Prim.Native.Nat.{ℕ, zero, suc, _≤_}
 use native.Mathlib.Omega.{arith}
 use mathlib.Core.Bool.{true, false, false≢true}
-use mathlib.Core.List.{List, [], _∷_}
+use mathlib.Core.List.{List}
 use mathlib.Core.Option.{Option, none, some}
-use lib.ListN.{length, take, drop, length-append}
+use lib.ListN.{length, take, drop}
 use lib.Seq.{take-nil, drop-nil}
-use Rattle.meaning.specs.Text.{Bytes, keep, without, join, newline}
+use Rattle.meaning.specs.Text.{Bytes, keep, newline}
 use Rattle.meaning.specs.Model.{Policy, given}
 use Rattle.meaning.specs.Reading.{read}
-use Rattle.meaning.specs.Deciding.{decideFile}
 use Rattle.meaning.specs.Trimming.{lines, strike, nextStruck}
 use Rattle.meaning.specs.HeldState.{stepBy, stepOn}
 use Rattle.meaning.specs.Claims.Trimming.{Trims, none-left, last-struck, stays}
 use Rattle.meaning.specs.Claims.HeldState.{StepsOnce}
 use Rattle.laws.proofs.Text.{join-cut}
-use Rattle.laws.proofs.Trimming.{next-none, none-next, steps-alike}
+use Rattle.laws.proofs.Striking.{length-join-without}
+use Rattle.laws.proofs.Trimming.{next-none, none-next}
 use Rattle.laws.proofs.OwnLines.{none-gone, one-gone}
-use Rattle.laws.proofs.Answers.{decides-alike}
 use Rattle.laws.proofs.RuleByRule.{next-is}
 
 -- A step by what is struck next
@@ -38,8 +37,8 @@ said-none f e = go (nextStruck f) refl
     go none i = i
     go (some k) i = absurd (false≢true (sym e ∙ ap (λ s. s .struck) (step-some f k i)))
 
-pub stepping : (f : Bytes) (p : Policy) → read f ≡ given p → StepsOnce f (stepOn f)
-stepping f p h = record {
+pub steps-once : (f : Bytes) (p : Policy) → read f ≡ given p → StepsOnce f (stepOn f)
+steps-once f p h = record {
   last-struck = λ k n no-later. let e = step-some f k (next-is f p h k n no-later) in (ap (λ s. s .struck) e, ap (λ s. s .text) e);
   none-left = (λ e. next-none f (said-none f e), λ needed. ap (λ s. s .struck) (step-none f (none-next f p h needed)));
   unchanged = λ e. ap (λ s. s .text) (step-none f (said-none f e));
@@ -73,31 +72,10 @@ on-the-way (last-struck f k names t x l s) p h (suc n) =
     let rest = on-the-way s (x .policy-left) (x .left-accepted) n in
     record { steps = rw one (rest .steps); policy = rest .policy; is-accepted = rw one (rest .is-accepted); lines-left = rw one (rest .lines-left) ∙ one-gone f k x (take n names) }
 
--- Texts that trimming takes to one text decide alike
-pub decide-as : {f g t : Bytes} {names later : List Bytes} → Trims f names t → Trims g later t → (p q : Policy) → read f ≡ given p → read g ≡ given q → (room : ℕ) (r : Bytes) → decideFile room g r ≡ decideFile room f r
-decide-as {f} {g} {t} s z p q h i room r =
-    let (a, b, c) = steps-alike s p h in
-    let (d, e, k) = steps-alike z q i in
-    sym (decides-alike g t q d i e k room r) ∙ decides-alike f t p a h b c room r
-
--- Lines left out make a text no longer
-join-without : (b k : ℕ) (ps : List Bytes) → length (join b (without k ps)) ≤ length (join b ps)
-join-without b k [] = omega arith
-join-without b zero (p ∷ []) = omega arith
-join-without b zero (p ∷ q ∷ ps) = omega (arith, length-append p (b ∷ join b (q ∷ ps)))
-join-without b (suc k) (p ∷ []) = omega arith
-join-without b (suc k) (p ∷ q ∷ ps) = go (without k (q ∷ ps)) (join-without b k (q ∷ ps))
-  where
-    whole : length (join b (p ∷ q ∷ ps)) ≡ length p + suc (length (join b (q ∷ ps)))
-    whole = length-append p (b ∷ join b (q ∷ ps))
-
-    go : (ls : List Bytes) → length (join b ls) ≤ length (join b (q ∷ ps)) → length (join b (p ∷ ls)) ≤ length (join b (p ∷ q ∷ ps))
-    go [] l = omega (arith, whole)
-    go (x ∷ ls) l = omega (arith, whole, length-append p (b ∷ join b (x ∷ ls)))
-
+-- It is no longer than the file
 pub step-shorter : (f : Bytes) → length (stepOn f .text) ≤ length f
 step-shorter f = go (nextStruck f) refl
   where
     go : (o : Option ℕ) → nextStruck f ≡ o → length (stepOn f .text) ≤ length f
     go none e = omega (arith, ap (λ s. length (s .text)) (step-none f e))
-    go (some k) e = omega (arith, ap (λ s. length (s .text)) (step-some f k e), join-without newline k (lines f), ap length (join-cut newline f))
+    go (some k) e = omega (arith, ap (λ s. length (s .text)) (step-some f k e), length-join-without newline k (lines f), ap length (join-cut newline f))

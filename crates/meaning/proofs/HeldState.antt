@@ -19,7 +19,7 @@ stays f n = steps f (record { number = 0; second = n; struck = 0 }) f
 abbrev refuses : (text : String) (number second : ℕ) → Case
 refuses f n m = steps f (record { number = n; second = m; struck = 0 }) f
 
--- rules that are struck, with lines behind them; the last of these has as many bytes as r2's
+-- the lines before r2 and r3, which are struck, and those behind them; the last of these has as many bytes as r2's
 abbrev before : String
 before =
     "A\tx\ta\tb\n"

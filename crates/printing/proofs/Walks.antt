@@ -1,7 +1,7 @@
 -- A loop that stores what each number gives: the text so far, and one more.
 use mathlib.Core.Path.{_≡_, refl, sym, ap, _∙_, subst}
 use Prim.Native.Nat.{ℕ, zero, suc, _+_, _-_, _*_, _≤_}
-use native.Mathlib.Nat.{mul-suc}
+use native.Mathlib.Nat.{zero-add, mul-suc}
 use native.Mathlib.Omega.{arith}
 use mathlib.Core.List.{List, [], _∷_, _++_, append-assoc, append-nil}
 use lib.ListN.{length, take, getD}
@@ -15,6 +15,14 @@ gathered-last F a zero = let here : a + 0 ≡ a = omega arith in rw here (append
 gathered-last F a (suc k) =
     let next : suc a + k ≡ a + suc k = omega arith in
     ap (λ t. F a ++ t) (gathered-last F (suc a) k ∙ ap (λ m. gathered F (counting (suc a) k) ++ F m) next) ∙ sym (append-assoc (F a) (gathered F (counting (suc a) k)) (F (a + suc k)))
+
+-- so many numbers and so many behind them
+pub gathered-more : (F : ℕ → Bytes) (a m k : ℕ) → gathered F (counting a (m + k)) ≡ gathered F (counting a m) ++ gathered F (counting (a + m) k)
+gathered-more F a zero k = let here : a + 0 ≡ a = omega arith in rw (zero-add k, here)
+gathered-more F a (suc m) k =
+    let next : suc m + k ≡ suc (m + k) = omega arith in
+    let behind : suc a + m ≡ a + suc m = omega arith in
+    rw next (ap (λ t. F a ++ t) (gathered-more F (suc a) m k ∙ ap (λ n. gathered F (counting (suc a) m) ++ gathered F (counting n k)) behind) ∙ sym (append-assoc (F a) (gathered F (counting (suc a) m)) (gathered F (counting (a + suc m) k))))
 
 -- the texts of the numbers from a up to i, of at most so many bytes each, stored over x from n on
 pub record Sofar (F : ℕ → Bytes) (most a : ℕ) (x : List ℕ) (n i : ℕ) (y : List ℕ) (m : ℕ) : Type 0 where

@@ -16,7 +16,7 @@ pub fn lines_end(file: &[u8], places: &[usize], n: usize, i: usize) -> usize
     file.len()
 }
 
-// Where what is left of them ends: where they start, if it is struck.
+// Where what is left of element i's lines ends: where they start if it is struck, else where they end.
 fn piece_end(file: &[u8], places: &[usize], struck: &[u8], n: usize, i: usize) -> usize
     requires { ⌜ Copies (now file) (now places) (now struck) n × (i < n) ⌝ }
     ensures { λ r. ⌜ Piece (now (file .entry)) (now (places .entry)) (now (struck .entry)) n i r ⌝ }

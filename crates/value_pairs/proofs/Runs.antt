@@ -3,17 +3,9 @@ use mathlib.Core.Path.{_≡_, refl, sym, ap, ap₂, _∙_}
 use Prim.Native.Nat.{ℕ, zero, suc, _+_, _*_}
 use native.Mathlib.Nat.{add-zero, zero-add, suc-mul, zero-mul}
 use native.Mathlib.Omega.{arith}
-use mathlib.Core.List.{[], _++_, append-assoc}
+use mathlib.Core.List.{[], _++_}
 use Rattle.meaning.specs.Text.{Bytes, gathered, counting}
-use Rattle.printing.proofs.Walks.{gathered-last}
-
--- so many numbers and so many behind them
-gathered-more : (F : ℕ → Bytes) (a m k : ℕ) → gathered F (counting a (m + k)) ≡ gathered F (counting a m) ++ gathered F (counting (a + m) k)
-gathered-more F a zero k = let here : a + 0 ≡ a = omega arith in rw (zero-add k, here)
-gathered-more F a (suc m) k =
-    let next : suc m + k ≡ suc (m + k) = omega arith in
-    let behind : suc a + m ≡ a + suc m = omega arith in
-    rw next (ap (λ t. F a ++ t) (gathered-more F (suc a) m k ∙ ap (λ n. gathered F (counting (suc a) m) ++ gathered F (counting n k)) behind) ∙ sym (append-assoc (F a) (gathered F (counting (suc a) m)) (gathered F (counting (a + suc m) k))))
+use Rattle.printing.proofs.Walks.{gathered-last, gathered-more}
 
 -- counted from 0 on
 gathered-from : (F : ℕ → Bytes) (a b k : ℕ) → gathered F (counting (a + b) k) ≡ gathered (λ i. F (a + i)) (counting b k)

@@ -90,7 +90,7 @@ pub record Promises : Type 0 where
   pub striking : (f : Bytes) (p : Policy) → read f ≡ given p → (name t : Bytes) → strikeNamed f name ≡ given t ↔ ((r : NeedlessRule f name) × (t ≡ strike (r .place) f))
   pub no-needless-rule : (f : Bytes) (p : Policy) → read f ≡ given p → (name : Bytes) (n m : ℕ) → strikeNamed f name ≡ refused n m ↔ ((NeedlessRule f name → ⊥) × (n ≡ 15) × (m ≡ 0))
   -- a held state: what a step leaves
-  pub stepping : (f : Bytes) (p : Policy) → read f ≡ given p → StepsOnce f (stepOn f)
+  pub steps-once : (f : Bytes) (p : Policy) → read f ≡ given p → StepsOnce f (stepOn f)
   pub settled : Settled
   pub shut-out : ShutOut
   pub operations : Operations
