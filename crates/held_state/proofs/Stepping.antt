@@ -37,9 +37,9 @@ others-left : (i j : ℕ) → j ≢ i → isLeft (set none-struck i 1) j ≡ tru
 others-left i j other = eq-eqb (getD (set none-struck i 1) j 0) 0 (getD-set-other none-struck i j 1 0 other ∙ none-clear j)
 
 module _ (f table places : List ℕ) (s : Shape) (held : PolicyHeld f table places s) (next : ℕ) (is : next ≡ placeOr (s .n) (found f table places s held)) where
-  stepped : (x : Step) → stepOn f ≡ x → stepFile f ≡ given x
+  step-read : (x : Step) → stepOn f ≡ x → stepFile f ≡ given x
   unfolding stepFile
-  stepped x e = rw (held .is-read, e)
+  step-read x e = rw (held .is-read, e)
 
   -- no rule is found
   nothing-found : next ≡ s .n → found f table places s held ≡ none
@@ -52,7 +52,7 @@ module _ (f table places : List ℕ) (s : Shape) (held : PolicyHeld f table plac
   pub none-left : next ≡ s .n → (record { number = 0; second = length f; struck = 0 } ≡ stepAnswer f) × (f ≡ stepLent f)
   none-left end =
       let none-next : nextStruck f ≡ none = line-found f table places s held ∙ ap (Option·map (lineOf f (held .policy) (held .is-read))) (nothing-found end) in
-      let e = stepped _ (step-none f none-next) in
+      let e = step-read _ (step-none f none-next) in
       let whole : lent f (given f) ≡ f = ap (λ x. f ++ x) (drop-length f) ∙ append-nil f in
       (rw e, rw e (sym whole))
 
@@ -93,7 +93,7 @@ module _ (f table places : List ℕ) (s : Shape) (held : PolicyHeld f table plac
     step-is : stepFile f ≡ given (record { text = take (startOf places next) f ++ drop (linesEnd f places (s .n) next) f; struck = true })
     step-is =
         let next-is : nextStruck f ≡ some (lineOf f (held .policy) (held .is-read) next) = line-found f table places s held ∙ ap (Option·map (lineOf f (held .policy) (held .is-read))) rule-found in
-        stepped _ (step-some f _ next-is ∙ ap (λ t. record { text = t; struck = true }) text-left)
+        step-read _ (step-some f _ next-is ∙ ap (λ t. record { text = t; struck = true }) text-left)
 
     pub struck-so : (end : ℕ) → end ≡ linesEnd f places (s .n) next → {new : Bytes} → new ≡ closed f (startOf places next) end
         → (record { number = 0; second = length f - (end - startOf places next); struck = 1 } ≡ stepAnswer f) × (new ≡ stepLent f)

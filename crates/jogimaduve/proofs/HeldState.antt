@@ -10,23 +10,23 @@ use lib.ListN.{length, take, drop, take-append-drop, length-append, length-drop}
 use lib.Seq.{length-take-le, drop-length, take-append-seam, drop-append-seam, drop-append-le, drop-drop}
 use Rattle.meaning.specs.declared.Stepped.{Stepped}
 use Rattle.meaning.specs.Text.{Bytes, keep}
-use Rattle.meaning.specs.Model.{Policy, Result, refused, given, _then_}
+use Rattle.meaning.specs.Model.{Policy, Result, refused, given}
 use Rattle.meaning.specs.Reading.{read}
-use Rattle.meaning.specs.Trimming.{lines, strike, trimmed}
+use Rattle.meaning.specs.Trimming.{lines, strike}
 use Rattle.meaning.specs.HeldState.{stepOn}
 use Rattle.meaning.specs.Claims.PolicyFile.{WellFormed}
 use Rattle.meaning.specs.Claims.Refusals.{Refuses}
 use Rattle.meaning.specs.Claims.Trimming.{Needless, Trims, none-left, stays}
 use Rattle.laws.proofs.Bools.{Test, passed, failed, test}
-use Rattle.laws.proofs.Reading.{given-given}
 use Rattle.laws.proofs.WellFormed.{well-formed}
 use Rattle.laws.proofs.Refused.{refuses}
 use Rattle.laws.proofs.Trimming.{trimmed-steps, steps-end, none-more, steps-settle}
 use Rattle.laws.proofs.Answers.{same-end-alike}
 use Rattle.laws.proofs.HeldState.{steps-once, afterSteps, OnTheWay, on-the-way}
-use Rattle.laws.proofs.Operations.{operations, gave}
-use Rattle.jogimaduve.proofs.Operate.{StepOperation, Operate, written, trims}
+use Rattle.laws.proofs.Operations.{operations}
+use Rattle.jogimaduve.proofs.Operate.{StepOperation, Operate, written}
 use Rattle.jogimaduve.proofs.Demand3.{told-is, telling}
+use Rattle.jogimaduve.proofs.RuleByRule.{text-is}
 use Rattle.jogimaduve.proofs.Calls.{Held, textOf, fresh, Call, step, decide, stepped, afterCalls, toldBy, toldOf, stepsIn}
 
 abbrev pub stepTold : (number second struck : ℕ) → Stepped
@@ -208,7 +208,7 @@ held-state o f behind p w names t z = record {
   lines-left = λ cs. ap lines (text cs) ∙ way cs .lines-left;
   ends-trimmed = λ cs l. text cs ∙ none-more (way cs .steps) (omega (arith, length-drop (stepsIn cs) names));
   is-file = λ cs. (way cs .policy, well-formed (left o f behind cs) (way cs .policy) .0 (accepted cs));
-  goes-on = λ cs. onward cs;
+  goes-on = onward;
   none-left = none-now;
   as-trimmed = λ cs b d. (
     λ e. steps-settle (none-left (left o f behind cs) (none-now cs .0 e)) (onward cs) .1 ∙ sym (written-is b d),
@@ -254,7 +254,4 @@ held-state o f behind p w names t z = record {
 
     -- what trimming writes of it
     written-is : (b : Bytes) → o .trim .answer f b .number ≡ 0 → written (o .trim) f b ≡ t
-    written-is b d =
-        let x = gave (trims (o .trim) f b) d in
-        let wanted : (read f then λ p. given (trimmed f .text)) ≡ given (trimmed f .text) = rw h in
-        x .taken ∙ given-given (sym (x .is) ∙ wanted) ∙ steps-settle (trimmed-steps f p h) z .1
+    written-is b d = text-is o f p h b d ∙ steps-settle (trimmed-steps f p h) z .1

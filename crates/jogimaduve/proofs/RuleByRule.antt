@@ -232,7 +232,7 @@ module _ (o : Operate) (f : Bytes) (p : Policy) (h : read f ≡ given p) where
   unfolding trimFile
   same-trim rounds room = rw (left-by rounds .is-accepted, h, same-text rounds)
 
-  text-is : (c : Bytes) → o .trim .answer f c .number ≡ 0 → written (o .trim) f c ≡ trimmed f .text
+  pub text-is : (c : Bytes) → o .trim .answer f c .number ≡ 0 → written (o .trim) f c ≡ trimmed f .text
   text-is c d =
       let x = gave (trims (o .trim) f c) d in
       let wanted : (read f then λ p. given (trimmed f .text)) ≡ given (trimmed f .text) = rw h in

@@ -72,7 +72,7 @@ on-the-way (last-struck f k names t x l s) p h (suc n) =
     let rest = on-the-way s (x .policy-left) (x .left-accepted) n in
     record { steps = rw one (rest .steps); policy = rest .policy; is-accepted = rw one (rest .is-accepted); lines-left = rw one (rest .lines-left) ∙ one-gone f k x (take n names) }
 
--- It is no longer than the file
+-- What a step leaves is no longer than the file
 pub step-shorter : (f : Bytes) → length (stepOn f .text) ≤ length f
 step-shorter f = go (nextStruck f) refl
   where
