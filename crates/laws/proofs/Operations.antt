@@ -17,6 +17,7 @@ use Rattle.meaning.specs.Report.{report, fitted, trimFile, reportFile, program}
 use Rattle.meaning.specs.ValuePairs.{pairsNamed, valuePairsFile}
 use Rattle.meaning.specs.RuleByRule.{nextName, strikeNamed, nextRuleFile, strikeFile}
 use Rattle.meaning.specs.HeldState.{stepFile}
+use Rattle.meaning.specs.Accepting.{acceptFile}
 use Rattle.meaning.specs.Writing.{headerTests, readElements, elementLines, listFile, writeFile}
 use Rattle.meaning.specs.Deciding.{decideFile}
 use Rattle.meaning.specs.Operations.{answered, lent, decidedBy, steppedBy}
@@ -103,7 +104,7 @@ write-room room header es =
     (λ p. short-room room (h ++ gathered (elementLines (p .attributes)) (p .elements)))))
 
 pub operations : Operations
-unfolding trimFile reportFile valuePairsFile nextRuleFile strikeFile stepFile listFile decideFile
+unfolding trimFile reportFile valuePairsFile nextRuleFile strikeFile stepFile acceptFile listFile decideFile
 operations = record {
   decision-numbers = refl;
   decides-no-file = λ f r buffer n m h. (rw h, rw h);
@@ -127,6 +128,10 @@ operations = record {
       let own = ap (λ x. lent text (x then λ s. given (s .text))) gets in
       let behind = drop (length (s .text)) text in
       (ap steppedBy gets, rw i (step-shorter text), ap (take (length (s .text))) own ∙ take-at (s .text) behind (length (s .text)) refl, ap (drop (length (s .text))) own ∙ drop-append-seam (s .text) behind);
+  accepts-no-original = λ f g n m h. rw h;
+  accepts-no-proposal = λ f g p n m h i. rw (h, i);
+  accepts-not = λ f g p q n m h i e. rw (h, i, e);
+  accepts = λ f g p q t h i e. rw (h, i, e);
   reads = λ f list. writes 12 list (lit≤ tt) (read f then λ p. given (p .elements)) (given-numbered (read f) _ (read-numbered f)) (listFile (length list) f) (given-then (read f) (λ p. p .elements) (fit 12 list));
   writes = λ header es buffer. writes 11 buffer (lit≤ tt) (writeFile 16384 header es) (write-numbered 16384 header es) (writeFile (length buffer) header es) (write-room (length buffer) header es);
 }

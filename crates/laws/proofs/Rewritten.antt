@@ -249,6 +249,12 @@ file-fields f p h =
     whole-again 1 [] (front (cut newline f)) (a .sofar) (a .text .lines-read) .fields-same
     ∙ ap (λ q. map (cut tab) (keep isAttribute (front (cut newline f))) ++ gathered (lineFields (q .attributes)) (q .elements)) (sym (a .is-policy))
 
+-- what its attribute lines alone give
+pub header-attributes : (f : Bytes) (p : Policy) → read f ≡ given p → readLines headerTests [] 1 (only []) (keep isAttribute (front (cut newline f))) ≡ given (only (p .attributes))
+header-attributes f p h =
+    let a = accepted f p h in
+    whole-again 1 [] (front (cut newline f)) (a .sofar) (a .text .lines-read) .header-read ∙ ap (λ q. given (only (q .attributes))) (sym (a .is-policy))
+
 -- and so are its bytes
 pub file-text : (f : Bytes) (p : Policy) → read f ≡ given p → f ≡ attributeLines f ++ treeText (p .attributes) (p .elements)
 file-text f p h =

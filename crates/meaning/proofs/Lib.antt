@@ -7,6 +7,7 @@ pub mod Sets
 pub mod ValuePairs
 pub mod RuleByRule
 pub mod HeldState
+pub mod Accepting
 pub mod Stepping
 pub mod Outcomes
 pub mod Obligations

@@ -49,13 +49,13 @@ abbrev others : String
 others = "A\tx\ta\tb\tc\n" and "P\t0\ttop\tfirst-applicable\t*\n" and "R\t1\tr1\tpermit\ta\n" and "R\t1\tr3\tpermit\ta,c\n" and last
 
 -- equal rules, of which either is needless while the other stands
-abbrev one-twin : String
+abbrev pub one-twin : String
 one-twin = "R\t1\tTwin-1\tpermit\t*\n"
 
-abbrev other-twin : String
+abbrev pub other-twin : String
 other-twin = "R\t1\ttwin-2\tpermit\t*\n"
 
-abbrev twins : String
+abbrev pub twins : String
 twins = bare and one-twin and other-twin
 
 -- the first policy permits and settles; without its rule the second permits, but the obligation does not come

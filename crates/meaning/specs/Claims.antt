@@ -15,5 +15,6 @@ pub mod Trimming
 pub mod ValuePairs
 pub mod RuleByRule
 pub mod HeldState
+pub mod Accepting
 pub mod Operations
 pub mod Promises

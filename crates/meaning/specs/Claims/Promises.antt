@@ -15,6 +15,7 @@ use Rattle.meaning.specs.Report.{report}
 use Rattle.meaning.specs.ValuePairs.{pairsNamed}
 use Rattle.meaning.specs.RuleByRule.{nextName, strikeNamed}
 use Rattle.meaning.specs.HeldState.{stepOn}
+use Rattle.meaning.specs.Accepting.{judged}
 use Rattle.meaning.specs.Writing.{writeFile}
 use Rattle.meaning.specs.Claims.Texts.{All, Texts}
 use Rattle.meaning.specs.Claims.PolicyFile.{GoodAttribute, Spelled, WellFormed, Reads}
@@ -30,6 +31,7 @@ use Rattle.meaning.specs.Claims.Trimming.{Lines, Needless, ReportOf, Mee
 use Rattle.meaning.specs.Claims.ValuePairs.{NamedAttribute, PairsNamed}
 use Rattle.meaning.specs.Claims.RuleByRule.{ShowsNext, NeedlessRule}
 use Rattle.meaning.specs.Claims.HeldState.{StepsOnce}
+use Rattle.meaning.specs.Claims.Accepting.{Sound, Unsound}
 use Rattle.meaning.specs.Claims.Operations.{Operations, Prints}
 
 -- Whoever meets these claims gives just what is defined: every wrong tool is shut out
@@ -91,6 +93,11 @@ pub record Promises : Type 0 where
   pub no-needless-rule : (f : Bytes) (p : Policy) → read f ≡ given p → (name : Bytes) (n m : ℕ) → strikeNamed f name ≡ refused n m ↔ ((NeedlessRule f name → ⊥) × (n ≡ 15) × (m ≡ 0))
   -- a held state: what a step leaves
   pub steps-once : (f : Bytes) (p : Policy) → read f ≡ given p → StepsOnce f (stepOn f)
+  -- a proposal beside its original: it is accepted exactly if it is sound, and refused exactly as the request says; the trimmed text is
+  -- accepted
+  pub accepting : (f : Bytes) (p : Policy) (g : Bytes) (q : Policy) → read f ≡ given p → read g ≡ given q → (t : Bytes) → judged f p g q ≡ given t ↔ (Sound f p g q × (t ≡ g))
+  pub not-accepting : (f : Bytes) (p : Policy) (g : Bytes) (q : Policy) → read f ≡ given p → read g ≡ given q → (n m : ℕ) → judged f p g q ≡ refused n m ↔ Unsound f p g q n m
+  pub own-trimmed : (f : Bytes) (p : Policy) → read f ≡ given p → (q : Policy) × (read (trimmed f .text) ≡ given q) × Sound f p (trimmed f .text) q
   pub settled : Settled
   pub shut-out : ShutOut
   pub operations : Operations
