@@ -1,0 +1,2 @@
+-- Laws that the proofs of other_lines cite.
+mod Walking
