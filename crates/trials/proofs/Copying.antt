@@ -1,4 +1,4 @@
--- Flags copied one after the other, and which elements are chained by flags that agree.
+-- Flags copied one after the other, and what requests get under flags that agree.
 use Prim.Native.Nat.{ℕ, zero, suc, _+_, _-_, _≤_, _<_}
 use mathlib.Core.Path.{_≡_, refl, sym, _∙_}
 use mathlib.Core.Bool.{Bool}
@@ -11,12 +11,15 @@ use borrow.Author.Tests.{eqb-true, eqb-false}
 use Rattle.meaning.specs.declared.Word.{Word}
 use Rattle.meaning.specs.declared.Decision.{Decision}
 use Rattle.meaning.specs.declared.Element.{Element}
+use Rattle.meaning.specs.Text.{Bytes}
+use Rattle.meaning.specs.Deciding.{firstDecision}
 use Rattle.laws.proofs.Bools.{Test, passed, failed, test}
 use Rattle.table.specs.Tree.{left}
 use Rattle.decisions.specs.Replies.{repliesFrom, replyAt}
 use Rattle.chains.specs.Chain.{chainedIn, chained}
 use Rattle.moves.specs.Moved.{kept}
 use Rattle.outcomes.proofs.Searching.{up-to}
+use Rattle.obligations.specs.Given.{givenText, outcomeLeft}
 use Rattle.trials.specs.Trial.{Copied}
 
 module _ (t a b : List ℕ) (n : ℕ) (copied : Copied a n b) where
@@ -37,9 +40,15 @@ module _ (t a b : List ℕ) (n : ℕ) (copied : Copied a n b) where
         let next : (v : Word) (p : ℕ) (x : Bool) → chainedIn hit d t b n v p x j (i + 1) m ≡ chainedIn hit d t a n v p x j (i + 1) m = λ v p x. chained-in d v p x j m (i + 1) (omega arith) in
         simp (copied i (omega arith), reply-copied i (omega arith), next)
 
-    pub chained-copied : 0 < n → (j : ℕ) → chained hit t b n j ≡ chained hit t a n j
+    chained-copied : 0 < n → (j : ℕ) → chained hit t b n j ≡ chained hit t a n j
     unfolding chained
     chained-copied some j = rw (reply-copied 0 some) (chained-in _ Word.FirstApplicable _ _ j (n - 0) 0 (omega arith))
+
+    -- what a request gets
+    pub outcome-copied : 0 < n → (f : Bytes) (places : List ℕ) → outcomeLeft hit f t places b n ≡ outcomeLeft hit f t places a n
+    outcome-copied some f places =
+        let es : left t b 0 n ≡ left t a 0 n = left-copied n 0 (omega arith) in
+        λ i. let d = firstDecision hit (es i) in record { decision = d; obligations = givenText d (λ j. chained-copied some j i) f places n }
 
 -- one flag more
 pub copied-next : (struck copy : List ℕ) (i : ℕ) → i < length copy → Copied struck i copy → Copied struck (i + 1) (set copy i (getD struck i 0))

@@ -3,12 +3,10 @@ use Prim.Native.Nat.{ℕ, _+_, _*_, _/_, _%_, _≤_, _<_}
 use mathlib.Core.Path.{_≡_, sym, ap, ap₂, _∙_}
 use mathlib.Core.Bool.{Bool, true, false, not}
 use mathlib.Core.List.{List}
-use native.Mathlib.Nat.{sub-zero}
 use native.Mathlib.Omega.{arith}
 use lib.Dec.{ltb}
 use lib.ListN.{getD}
-use borrow.Author.Tests.{ltb-true, ltb-false, not-true}
-use Rattle.meaning.specs.declared.Decision.{Decision}
+use borrow.Author.Tests.{ltb-true, ltb-false}
 use Rattle.meaning.specs.Text.{Bytes}
 use Rattle.meaning.specs.Deciding.{bit, is, sameOutcome}
 use Rattle.laws.proofs.Bits.{bit-zero}
@@ -18,42 +16,29 @@ use Rattle.table.specs.Rows.{elementAt}
 use Rattle.table.specs.declared.Shape.{Shape}
 use Rattle.table.specs.Shape.{hitOf}
 use Rattle.decisions.specs.Replies.{replyAt}
-use Rattle.decisions.proofs.Children.{first-left}
 use Rattle.blocks.specs.Bits.{Block, Lowest}
 use Rattle.moves.specs.Moved.{kept, movedAt, Under, Child}
-use Rattle.outcomes.specs.Decided.{decidedAt}
-use Rattle.outcomes.specs.PolicyTable.{PolicyTable}
 use Rattle.outcomes.specs.Changes.{InBlock}
 use Rattle.obligations.specs.Given.{outcomeLeft}
+use Rattle.differences.specs.Apart.{apart, Suspects}
+use Rattle.differences.proofs.Apart.{first-is, decided-apart}
 use Rattle.trials.specs.Decided.{apartAt}
 use Rattle.trials.specs.Steady.{Unchanged}
-use Rattle.trials.specs.Trial.{Grouped, Trial, Reached, Suspects}
-
--- what a request gets is what the first element decides
-pub first-is : {t flags : List ℕ} {s : Shape} → PolicyTable t flags s → (m : ℕ) → decidedAt t (s .n) (hitOf s) flags m ≡ replyAt (hitOf s m) t flags (s .n) 0 .decision
-unfolding decidedAt
-first-is {t} {flags} {s} ready m = rw sub-zero at (first-left (hitOf s m) t flags (s .n) 0 (omega (arith, ready .some)) (ready .stays))
+use Rattle.trials.specs.Trial.{Grouped, Trial, Reached}
 
 -- Rule `rule`, which is tried
 module _ (f : Bytes) (places t struck hits outcomes : List ℕ) (s : Shape) (rule : ℕ) (trial : Trial f places t struck hits outcomes s rule) where
-  abbrev apart : ℕ → Bool
-  apart = apartAt f places t (s .n) (hitOf s) struck rule
+  abbrev parted : ℕ → Bool
+  parted = apartAt f places t (s .n) (hitOf s) struck rule
 
-  abbrev decided : List ℕ → ℕ → Decision
-  decided = decidedAt t (s .n) (hitOf s)
-
-  pub unchanged-not : (m : ℕ) → Unchanged f places t struck s rule m → apart m ≡ false
-  unfolding apartAt
+  pub unchanged-not : (m : ℕ) → Unchanged f places t struck s rule m → parted m ≡ false
+  unfolding apart
   unchanged-not m same =
       let without = outcomeLeft (hitOf s m) f t places struck (s .n) in
       ap (λ o. not (sameOutcome o without)) same ∙ ap not (outcome-same without)
 
-  pub decided-apart : (m : ℕ) → not (is (decided (kept struck rule) m) (decided struck m)) ≡ true → apart m ≡ true
-  unfolding apartAt decidedAt
-  decided-apart m e = let other : is (decided (kept struck rule) m) (decided struck m) ≡ false = not-true _ e in rw other
-
   -- no request of a block in which none matches the rule gets anything else
-  pub block-off : (block : ℕ) → getD hits (64 * rule + block) 0 ≡ 0 → (m : ℕ) → m < s .space → m / 64 ≡ block → apart m ≡ false
+  pub block-off : (block : ℕ) → getD hits (64 * rule + block) 0 ≡ 0 → (m : ℕ) → m < s .space → m / 64 ≡ block → parted m ≡ false
   block-off block none m l e =
       let off : hitOf s m (elementAt t rule) ≡ false = sym (rw e at (trial .matched .hits-are rule m (trial .aside .element) l)) ∙ ap (λ w. bit w (m % 64)) none ∙ bit-zero (m % 64) in
       unchanged-not m (trial .steady .unmatched struck rule (trial .aside) m l off)
@@ -78,7 +63,7 @@ module _ (f : Bytes) (places t struck hits outcomes : List ℕ) (s : Shape) (rul
         ap (λ x. bit x (m % 64)) (reached .matches none) ∙ rw e at (trial .matched .hits-are rule m (trial .aside .element) l)
 
     -- no other request gets anything else
-    pub suspects : Suspects f places t struck s rule block w
+    pub suspects : Suspects f places t (kept struck rule) struck s block w
     suspects m l e off = unchanged-not m (go (test (ltb up (s .n))))
       where
         go : Test (ltb up (s .n)) → Unchanged f places t struck s rule m
@@ -87,7 +72,7 @@ module _ (f : Bytes) (places t struck hits outcomes : List ℕ) (s : Shape) (rul
             trial .steady .unmoved struck rule up (trial .aside) (grouped .under inside) m l (sym (moved-bit inside m l e) ∙ off)
         go (failed x) = trial .steady .unmatched struck rule (trial .aside) m l (sym (matched-bit (ltb-false up (s .n) x) m l e) ∙ off)
 
-    pub none-moved : w ≡ 0 → InBlock apart (s .space) block (s .space)
+    pub none-moved : w ≡ 0 → InBlock parted (s .space) block (s .space)
     none-moved none =
         record {
           within = omega arith;
@@ -96,18 +81,18 @@ module _ (f : Bytes) (places t struck hits outcomes : List ℕ) (s : Shape) (rul
         }
 
     -- the first element decides otherwise where the rule moves it
-    moved-apart : up ≡ 0 → (m : ℕ) → m < s .space → movedAt (hitOf s m) t struck (s .n) up rule ≡ true → apart m ≡ true
+    moved-apart : up ≡ 0 → (m : ℕ) → m < s .space → movedAt (hitOf s m) t struck (s .n) up rule ≡ true → parted m ≡ true
     unfolding movedAt
     moved-apart first m l moved =
         let aside = trial .aside in
-        decided-apart m (ap₂ (λ x y. not (is x y)) (first-is (aside .before) m) (first-is (aside .ready) m) ∙ rw first at moved)
+        decided-apart f places t (s .n) (hitOf s) (kept struck rule) struck m (ap₂ (λ x y. not (is x y)) (first-is (aside .before) m) (first-is (aside .ready) m) ∙ rw first at moved)
 
     -- no bit behind the requests is set
     bit-none : up < s .n → (m : ℕ) → s .space ≤ m → m / 64 ≡ block → bit w (m % 64) ≡ false
     unfolding movedAt replyAt
     bit-none inside m past e = reached .moves inside (m % 64) (λ x. false) (λ i below. rw e at (trial .matched .clear i m below past (omega arith)))
 
-    pub first-moved : up ≡ 0 → (v : ℕ) → Lowest w v → InBlock apart (s .space) block (64 * block + v)
+    pub first-moved : up ≡ 0 → (v : ℕ) → Lowest w v → InBlock parted (s .space) block (64 * block + v)
     first-moved first v lowest =
         record {
           within = omega (arith, below);

@@ -1,5 +1,5 @@
 -- Whether a rule is needless, by what requests get without it.
-use Prim.Native.Nat.{ℕ, _+_, _-_, _*_, _≤_, _<_, zero-le}
+use Prim.Native.Nat.{ℕ, _+_, _*_, _≤_, _<_, zero-le}
 use mathlib.Core.Path.{_≡_, refl, sym, ap, subst, _∙_}
 use mathlib.Core.Bool.{Bool, true, false, not}
 use mathlib.Core.List.{List}
@@ -21,6 +21,8 @@ use Rattle.table.proofs.Children.{rule-struck}
 use Rattle.outcomes.specs.PolicyTable.{PolicyTable, OutcomesLaid}
 use Rattle.outcomes.proofs.Searching.{first-alike}
 use Rattle.obligations.specs.Given.{outcomeLeft}
+use Rattle.differences.specs.Apart.{apart}
+use Rattle.differences.proofs.Apart as differences
 use Rattle.trials.specs.Decided.{changesAt, apartAt, firstChangeAt, shownAt, needlessAt}
 use Rattle.trials.specs.Steady.{Aside, Steady}
 use Rattle.trials.specs.Trial.{Laid, Trial}
@@ -76,22 +78,22 @@ set-back struck i flag e = set-set struck i 1 flag ∙ ap (set struck i) (sym e)
 
 -- Element i, which is left: what is apart with its flag set is what changes without it
 module _ (f : Bytes) (places t struck : List ℕ) (s : Shape) (i : ℕ) (live : getD struck i 0 ≡ 0) where
-  abbrev apart : ℕ → Bool
-  apart = apartAt f places t (s .n) (hitOf s) (set struck i 1) i
+  abbrev parted : ℕ → Bool
+  parted = apartAt f places t (s .n) (hitOf s) (set struck i 1) i
 
-  pub apart-changes : (m : ℕ) → apart m ≡ changesAt f places t (s .n) (hitOf s) struck i m
-  unfolding apartAt changesAt
+  pub apart-changes : (m : ℕ) → parted m ≡ changesAt f places t (s .n) (hitOf s) struck i m
+  unfolding apart changesAt
   apart-changes m =
       ap (λ flags. not (sameOutcome (outcomeLeft (hitOf s m) f t places flags (s .n)) (outcomeLeft (hitOf s m) f t places (set struck i 1) (s .n)))) (set-back struck i 0 live)
 
-  first-changes : firstFrom apart 0 (s .space) ≡ firstChangeAt f places t (s .n) (hitOf s) (s .space) struck i
+  first-changes : firstFrom parted 0 (s .space) ≡ firstChangeAt f places t (s .n) (hitOf s) (s .space) struck i
   unfolding firstChangeAt
   first-changes = first-alike _ _ 0 (s .space) (λ m low high. apart-changes m)
 
-  pub first-change-is : (r : ℕ) → r ≡ placeOr (s .space) (firstFrom apart 0 (s .space)) → r ≡ placeOr (s .space) (firstChangeAt f places t (s .n) (hitOf s) (s .space) struck i)
+  pub first-change-is : (r : ℕ) → r ≡ placeOr (s .space) (firstFrom parted 0 (s .space)) → r ≡ placeOr (s .space) (firstChangeAt f places t (s .n) (hitOf s) (s .space) struck i)
   first-change-is r e = e ∙ ap (placeOr (s .space)) first-changes
 
-  pub needless-rule : (b : Bool) → ruleLeft t struck i ≡ true → b ≡ isNone (firstFrom apart 0 (s .space)) → b ≡ needlessAt f places t (s .n) (hitOf s) (s .space) struck i
+  pub needless-rule : (b : Bool) → ruleLeft t struck i ≡ true → b ≡ isNone (firstFrom parted 0 (s .space)) → b ≡ needlessAt f places t (s .n) (hitOf s) (s .space) struck i
   unfolding needlessAt
   needless-rule b rule e = rw rule (e ∙ ap isNone first-changes)
 
@@ -147,4 +149,4 @@ tested f places t s i same is answered = ap (λ flags. needlessAt f places t (s 
 
 -- The places have room for the obligations of all elements
 pub obligation-room : {f : Bytes} {places t struck : List ℕ} {s : Shape} → Steady f places t s → PolicyTable t struck s → 128 + 4 * s .n ≤ length places
-obligation-room {s = s} steady ready = let some = ready .some in omega (arith, steady .obliged (s .n - 1) (omega arith) .room)
+obligation-room steady ready = differences.obligation-room (steady .obliged) ready

@@ -10,6 +10,7 @@ use Rattle.meaning.specs.declared.Element.{Element}
 use Rattle.table.specs.Tree.{placeOr, ruleLeft}
 use Rattle.moves.specs.Moved.{kept}
 use Rattle.obligations.specs.Given.{outcomeLeft}
+use Rattle.differences.specs.Apart.{apart}
 
 -- A policy: its file, where its elements and their obligations stand there, its table, the number of its elements, which requests match an element's own target, and how many there are
 module _ (f : Bytes) (places t : List ℕ) (n : ℕ) (hit : ℕ → Element → Bool) where
@@ -18,8 +19,8 @@ module _ (f : Bytes) (places t : List ℕ) (n : ℕ) (hit : ℕ → Element → 
   changesAt struck i m = not (sameOutcome (outcomeLeft (hit m) f t places struck n) (outcomeLeft (hit m) f t places (set struck i 1) n))
 
   -- the same of a rule that is struck, against the rule left
-  unfoldable pub apartAt : List ℕ → ℕ → ℕ → Bool
-  apartAt struck rule m = not (sameOutcome (outcomeLeft (hit m) f t places (kept struck rule) n) (outcomeLeft (hit m) f t places struck n))
+  abbrev pub apartAt : List ℕ → ℕ → ℕ → Bool
+  apartAt struck rule = apart f places t n hit (kept struck rule) struck
 
   module _ (space : ℕ) where
     -- the first such request

@@ -3,8 +3,8 @@ use Prim.Native.Nat.{_+_, _-_, _*_, _<_}
 use native.Mathlib.Omega.{arith}
 use borrow.Author.Needs.{needs}
 use Rattle.table.specs.Shape.{hitOf}
+use Rattle.differences.proofs.Blocks.{NoneBelow, block-passed, block-searched, block-found, none-found-at-all}
 use Rattle.trials.specs.Decided.{apartAt}
-use Rattle.trials.proofs.Blocks.{NoneBelow, block-passed, block-searched, block-found, none-found-at-all}
 use Rattle.trials.proofs.Moving.{block-off}
 use Rattle.trials.proofs.first_change.Statement.{statement}
 use Rattle.trials.proofs.first_change.Tie as tie

@@ -12,7 +12,7 @@ use Rattle.laws.proofs.Bools.{Test, passed, failed, test, contradiction, and-tr
 use Rattle.outcomes.proofs.Searching.{up-to}
 use Rattle.obligations.specs.Given.{givenText, effect, marksIn}
 use Rattle.obligations.proofs.Texts.{text-alike}
-use Rattle.trials.specs.Trial.{LikeMarks, othersGiven}
+use Rattle.differences.specs.Marks.{LikeMarks, othersGiven}
 
 -- request u is among those of `on`, and has the bit of request v
 abbrev pub LikeBit : (word v on u : ℕ) → Type 0

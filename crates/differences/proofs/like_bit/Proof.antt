@@ -2,9 +2,9 @@
 use mathlib.Core.Path.{sym, _∙_}
 use borrow.Author.Tests.{eq-eqb, ne-eqb}
 use borrow.Author.Needs.{needs}
-use Rattle.trials.proofs.Likes.{like-set, like-clear}
-use Rattle.trials.proofs.trial.like_bit.Statement.{statement}
-use Rattle.trials.proofs.trial.like_bit.Tie as tie
+use Rattle.differences.proofs.Likes.{like-set, like-clear}
+use Rattle.differences.proofs.like_bit.Statement.{statement}
+use Rattle.differences.proofs.like_bit.Tie as tie
 
 returns : tie.Need-returns
 returns c = let args = c .before .args in λ u. like-set (args .word) (args .v) (args .on) u (eq-eqb _ 1 (c .if1 .taken))

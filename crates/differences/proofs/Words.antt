@@ -12,7 +12,7 @@ use Rattle.laws.proofs.Bools.{or-false}
 use Rattle.outcomes.proofs.Searching.{up-to}
 use Rattle.layout.specs.Places.{obligationEnd}
 use Rattle.obligations.specs.Given.{marksIn}
-use Rattle.trials.specs.Trial.{Marked}
+use Rattle.differences.specs.Marks.{Marked}
 
 xor-same : (a b : Bool) → xor a b ≡ false → a ≡ b
 xor-same true true e = refl

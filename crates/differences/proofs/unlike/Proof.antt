@@ -2,10 +2,10 @@
 use Prim.Native.Nat.{_-_, _≤_}
 use native.Mathlib.Omega.{arith}
 use borrow.Author.Needs.{needs}
-use Rattle.trials.specs.Trial.{Marked}
-use Rattle.trials.proofs.Words.{marked-skip, marked-next}
-use Rattle.trials.proofs.trial.unlike.Statement.{statement}
-use Rattle.trials.proofs.trial.unlike.Tie as tie
+use Rattle.differences.specs.Marks.{Marked}
+use Rattle.differences.proofs.Words.{marked-skip, marked-next}
+use Rattle.differences.proofs.unlike.Statement.{statement}
+use Rattle.differences.proofs.unlike.Tie as tie
 
 abbrev Inv-loop : tie.InvT-loop
 Inv-loop places n one other word₀ i₀ word i = (i ≤ n) × Marked places i one other word

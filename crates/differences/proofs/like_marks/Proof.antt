@@ -2,10 +2,10 @@
 use Prim.Native.Nat.{_-_, _≤_}
 use native.Mathlib.Omega.{arith}
 use borrow.Author.Needs.{needs}
-use Rattle.trials.specs.Trial.{LikeMarks}
-use Rattle.trials.proofs.Likes.{like-next}
-use Rattle.trials.proofs.trial.like_marks.Statement.{statement}
-use Rattle.trials.proofs.trial.like_marks.Tie as tie
+use Rattle.differences.specs.Marks.{LikeMarks}
+use Rattle.differences.proofs.Likes.{like-next}
+use Rattle.differences.proofs.like_marks.Statement.{statement}
+use Rattle.differences.proofs.like_marks.Tie as tie
 
 abbrev Inv-loop : tie.InvT-loop
 Inv-loop words n v on like₀ i₀ like i = (i ≤ n) × LikeMarks words i v on like

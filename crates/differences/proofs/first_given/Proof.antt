@@ -8,10 +8,10 @@ use borrow.Author.Needs.{needs}
 use Rattle.meaning.specs.Deciding.{bit}
 use Rattle.laws.proofs.Bools.{contradiction}
 use Rattle.outcomes.proofs.Searching.{up-to}
-use Rattle.trials.specs.Trial.{othersGiven}
-use Rattle.trials.proofs.Likes.{left-next}
-use Rattle.trials.proofs.trial.first_given.Statement.{statement}
-use Rattle.trials.proofs.trial.first_given.Tie as tie
+use Rattle.differences.specs.Marks.{othersGiven}
+use Rattle.differences.proofs.Likes.{left-next}
+use Rattle.differences.proofs.first_given.Statement.{statement}
+use Rattle.differences.proofs.first_given.Tie as tie
 
 abbrev Inv-loop : tie.InvT-loop
 Inv-loop file places n one other permits on from first left₀ v₀ left v =

@@ -1,0 +1,3 @@
+-- What the contracts of differences cite.
+pub mod Apart
+pub mod Marks
