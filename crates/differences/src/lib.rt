@@ -4,7 +4,9 @@ ghost use mathlib.Core.Path.{_≡_};
 ghost use mathlib.Core.Bool.{true};
 ghost use Prim.Native.Nat.{ℕ, _+_, _*_, _≤_, _<_};
 ghost use lib.ListN.{length};
+ghost use Rattle.meaning.specs.Text.{firstFrom};
 ghost use Rattle.meaning.specs.Deciding.{bit};
+ghost use Rattle.table.specs.Tree.{placeOr};
 ghost use Rattle.table.specs.Shape.{hitOf};
 ghost use Rattle.outcomes.specs.Decided.{differsAt};
 ghost use Rattle.outcomes.specs.Changes.{InBlock};
@@ -162,4 +164,43 @@ pub fn difference_in(
         on,
         first,
     )
+}
+
+// The first request of all that gets another decision under `struck` than under `before`, or other obligations, or the number of requests; `outcomes` has the decisions under `before`.
+pub fn first_difference(
+    file: &[u8],
+    places: &[usize],
+    table: &[u16],
+    before: &[u8],
+    struck: &[u8],
+    hits: &[u64],
+    shape: Shape,
+    outcomes: &[u64],
+) -> usize
+    requires { ⌜ Compared (now file) (now places) (now table) (now before) (now struck) (now hits) (now outcomes) shape ⌝ }
+    ensures { λ r. ⌜ r ≡ placeOr (shape .space) (firstFrom (apart (now (file .entry)) (now (places .entry)) (now (table .entry)) (shape .n) (hitOf shape) (now (before .entry)) (now (struck .entry))) 0 (shape .space)) ⌝ }
+{
+    let space = shape.space;
+    let obliged = obligations::any_obligations(places, shape.n);
+    let mut block = 0;
+    while 64 * block < space {
+        let first = difference_in(
+            file,
+            places,
+            table,
+            before,
+            struck,
+            hits,
+            shape,
+            outcomes,
+            obliged,
+            block,
+            18446744073709551615,
+        );
+        if first < space {
+            return first;
+        }
+        block += 1;
+    }
+    space
 }
