@@ -40,4 +40,7 @@ void cases_of_rules(void);
 /* cases_step.c */
 void cases_of_steps(void);
 
+/* cases_accept.c */
+void cases_of_proposals(void);
+
 #endif

@@ -1,4 +1,4 @@
-/* Reference implementation of paper 01 with changes C-11 to C-18, written from the papers alone: plain code, for
+/* Reference implementation of paper 01 with changes C-11 to C-19, written from the papers alone: plain code, for
  * comparing with. What C-16 calls a duty is an obligation here, as in XACML.
  *
  * Every function answers two numbers. `number` is 0 where the work was done, and `second` is then the result; any other
@@ -30,6 +30,9 @@ struct answer ref_strike(const uint8_t *file, size_t len, const uint8_t *name, s
  * on stay as they were. `struck` is 1 if there was such a rule, 0 if none is left, and 0 for a refusal. */
 struct stepped { uint32_t number, second, struck; };
 struct stepped ref_step(uint8_t *text, size_t len);
+
+/* `second` is 0 where the proposal is accepted. What refuses either file is told alike, the original's first. */
+struct answer ref_accept(const uint8_t *original, size_t original_len, const uint8_t *proposal, size_t proposal_len);
 
 /* `second` is the length of the report. Each conflict is shown by its lowest request. */
 struct answer ref_report(const uint8_t *file, size_t len, uint8_t *out, size_t room);
