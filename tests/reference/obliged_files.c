@@ -92,11 +92,14 @@ static void put_line(struct tree *tree, char kind, int depth, const char *word)
         put_some(tree->file, tree->file->length, tree->pool, tree->elements);
 }
 
-/* A set of policies any of which settles the answer, each with an obligation for it: the earlier rules have fewer requests
- * than the last one, which gives the same name, one in other case, of as many bytes, or another. */
+/* A set of policies any of which settles the answer, each with an obligation for it or two: the earlier rules have fewer
+ * requests than the last one, which gives the same name, one in other case, of as many bytes, or another, or the two in
+ * another order. */
 static void put_rivals(struct tree *tree, int depth)
 {
-    static const char *const names[] = {"log", "log", "Log", "lag", "slow"};
+    static const char *const names[][OBLIGATIONS] = {
+        {"log"}, {"log"}, {"Log"}, {"lag"}, {"slow"}, {"log", "slow"}, {"log", "slow"}, {"slow", "log"}, {"slow", "log"},
+    };
     int permit = below(10) < tree->permits;
     const char *effect = permit ? "permit" : "deny";
     uint32_t wide = tree->wide;
@@ -106,8 +109,11 @@ static void put_rivals(struct tree *tree, int depth)
     for (int left = 1 + (int)below(2); left >= 0; left--) {
         tree->wide = 10;
         put_element(tree, 'P', depth + 1, "first-applicable");
-        sprintf(line, "O\t%s\t%s\n", names[below(5)], effect);
-        put(tree->file, line);
+        const char *const *name = names[below(sizeof names / sizeof *names)];
+        for (int i = 0; i < OBLIGATIONS && name[i] != NULL; i++) {
+            sprintf(line, "O\t%s\t%s\n", name[i], effect);
+            put(tree->file, line);
+        }
         tree->wide = left == 0 ? 9 : 2;
         put_element(tree, 'R', depth + 2, effect);
     }
