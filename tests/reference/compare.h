@@ -53,4 +53,9 @@ void compare_step(const struct bytes *file, const struct policy *policy, int acc
 void compare_held(const struct bytes *file); /* a list of steps and requests from an accepted file on */
 int steps_seen(void); /* whether each kind came up often; prints how often */
 
+/* compare_accept.c: many proposals for a file */
+void compare_accept(const struct bytes *file, const struct policy *policy, int accepted);
+void compare_sparse_file(void); /* whose requests differ late */
+int proposals_seen(void); /* whether each kind came up often; prints how often */
+
 #endif

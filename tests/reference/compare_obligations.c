@@ -187,6 +187,8 @@ void compare_obliged_files(void)
     compare_strikes(&file, &policy);
     if (one_in(4))
         compare_held(&file);
+    if (one_in(2))
+        compare_accept(&file, &policy, 1);
     count_rules(&policy);
 }
 

@@ -88,6 +88,8 @@ void compare_small_files(void)
         compare_strikes(&file, &policy);
         if (one_in(4))
             compare_held(&file);
+        if (one_in(8))
+            compare_accept(&file, &policy, 1);
     }
 }
 

@@ -69,6 +69,18 @@ void make_obliged_file(struct bytes *file); /* a small one, good, in which rules
 /* damage_obligations.c */
 void damage_obligations(struct bytes *file);
 
+/* proposals.c: an accepted file of which proposals are made, with the rules that trimming strikes, in that order */
+struct original {
+    struct policy policy; /* what is struck in it is left out of the proposal made last */
+    struct outcome outcomes[SPACE];
+    int strikes, order[ELEMENTS];
+};
+void take_original(struct original *original, const struct bytes *file);
+void make_trimmed(struct bytes *proposal, struct original *original);
+void leave_out_rules(struct bytes *proposal, struct original *original);
+void change_proposal(struct bytes *proposal); /* in a line or more; seldom in none */
+void make_sparse_file(struct bytes *file); /* rules for few requests of many, so that the first one without a rule is late */
+
 /* lists.c */
 enum { LONGEST = ELEMENTS + 2 }; /* more than the writer looks at */
 
