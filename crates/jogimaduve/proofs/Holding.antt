@@ -1,4 +1,4 @@
--- What the report, trimming rule by rule and a step ask of a file that was read.
+-- What the report, trimming rule by rule, a step and a proposal ask of a file that was read.
 use mathlib.Core.Path.{_≡_, refl, sym, subst}
 use Prim.Native.Nat.{ℕ}
 use native.Mathlib.Omega.{arith}
@@ -23,6 +23,7 @@ held f table places r p h holds s shaped = subst (PolicyHeld f table places) (sy
       elements = holds .elements;
       hits-are = hits-are f table places r p h holds;
       space-is = space-is f table places r p h holds;
+      len-is = sym (attributes-are f table places r p h holds);
       ready = ready f table places r p h holds (policyShape r) refl none-struck (omega arith) refl;
       naming = naming f table places r p h holds;
       obliged = holds .obliged;

@@ -1,6 +1,6 @@
--- The next rule to strike is the same on flags and on bytes.
+-- The next rule to strike is the same on flags and on bytes, and so is the topmost needless rule.
 use mathlib.Core.Path.{_≡_, refl, sym, ap, _∙_}
-use Prim.Native.Nat.{ℕ, _<_}
+use Prim.Native.Nat.{ℕ, _<_, zero-le}
 use native.Mathlib.Nat.{zero-add}
 use native.Mathlib.Omega.{arith}
 use mathlib.Core.Logic.{_≢_}
@@ -10,12 +10,12 @@ use mathlib.Core.Option.{Option, none, some, Option·map}
 use lib.Dec.{ltb, eqb}
 use lib.ListN.{length}
 use borrow.Author.Tests.{ltb-true, ltb-false, eqb-true, eqb-false}
-use Rattle.meaning.specs.Text.{Bytes, isNone, lastBelow}
+use Rattle.meaning.specs.Text.{Bytes, isNone, firstFrom, lastBelow}
 use Rattle.meaning.specs.Model.{Policy, given}
 use Rattle.meaning.specs.Reading.{read}
 use Rattle.meaning.specs.Trimming.{lines, isRuleLine, firstChange, needless, nextStruck}
 use Rattle.laws.proofs.Bools.{Test, passed, failed, test, contradiction, and-true}
-use Rattle.laws.proofs.Search.{Last, last-some, last-none, last-is, last-absent}
+use Rattle.laws.proofs.Search.{First, first-some, first-none, first-is, first-absent, Last, last-some, last-none, last-is, last-absent}
 use Rattle.laws.proofs.Trimming.{rule-within}
 use Rattle.laws.proofs.Striking.{strike-read}
 use Rattle.trimmed_text.specs.Flags.{isLeft, leftPolicy, textLeft, firstChangeAt, ruleIn, keptAt, needlessAt, nextAt}
@@ -101,3 +101,36 @@ module _ (f : Bytes) (p : Policy) (h : read f ≡ given p) (struck : List ℕ) (
       go : (o : Option ℕ) → lastBelow (needlessAt p struck) (length (p .elements)) ≡ o → nextStruck text ≡ Option·map (lineAt p struck) o
       go none e = next-none-left e
       go (some i) e = next-some-left i (last-some (needlessAt p struck) (length (p .elements)) i e)
+
+  -- The topmost needless rule is the same
+  none-first : firstFrom (needlessAt p struck) 0 (length (p .elements)) ≡ none → firstFrom (needless text) 0 (length (lines text)) ≡ none
+  none-first e = first-absent (needless text) 0 (length (lines text)) (λ k l u. go k (test (needless text k)))
+    where
+      go : (k : ℕ) → Test (needless text k) → needless text k ≡ false
+      go k (passed n) =
+          let (x, y) = needless-place k n in
+          contradiction y (first-none (needlessAt p struck) 0 (length (p .elements)) e (x .place) zero-le (omega (arith, kept-below p struck (x .place) (x .kept))))
+      go k (failed n) = n
+
+  some-first : (i : ℕ) → First (needlessAt p struck) 0 (length (p .elements)) i → firstFrom (needless text) 0 (length (lines text)) ≡ some (lineAt p struck i)
+  some-first i l =
+      let kept = needless-kept p struck i (l .holds) in
+      first-is (needless text) 0 (length (lines text)) (lineAt p struck i) (record {
+        low = zero-le;
+        high = omega (arith, rule-within text (lineAt p struck i) (kept-line f p h struck s i kept));
+        holds = needless-flag f p h struck s i kept ∙ l .holds;
+        no-earlier = λ k low u. go k u kept (test (needless text k));
+      })
+    where
+      go : (k : ℕ) → k < lineAt p struck i → keptAt p struck i ≡ true → Test (needless text k) → needless text k ≡ false
+      go k u kept (passed n) =
+          let (x, y) = needless-place k n in
+          contradiction y (l .no-earlier (x .place) zero-le (line-lower i (x .place) (kept-below p struck i kept) (kept-left p struck i kept) (rw (x .line) u)))
+      go k u kept (failed n) = n
+
+  pub first-flag : firstFrom (needless text) 0 (length (lines text)) ≡ Option·map (lineAt p struck) (firstFrom (needlessAt p struck) 0 (length (p .elements)))
+  first-flag = go (firstFrom (needlessAt p struck) 0 (length (p .elements))) refl
+    where
+      go : (o : Option ℕ) → firstFrom (needlessAt p struck) 0 (length (p .elements)) ≡ o → firstFrom (needless text) 0 (length (lines text)) ≡ Option·map (lineAt p struck) o
+      go none e = none-first e
+      go (some i) e = some-first i (first-some (needlessAt p struck) 0 (length (p .elements)) i e)

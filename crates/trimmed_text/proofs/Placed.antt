@@ -90,20 +90,20 @@ module _ (f : Bytes) (p : Policy) (h : read f ≡ given p) (table places struck 
   abbrev own : List Bytes
   own = front (lines f)
 
-  free : Frees newline own
+  pub free : Frees newline own
   free = free-before own ([] ∷ []) (subst (Frees newline) (accepted f p h .text .pieces) (cut-frees newline f))
 
   text : f ≡ unlines own
   text = text-unlines f own (accepted f p h .text .pieces)
 
-  count : length own ≡ a + linesIn (p .elements)
+  pub count : length own ≡ a + linesIn (p .elements)
   count = file-count f p h ∙ ap (λ x. x + linesIn (p .elements)) attributes
 
   -- how many lines an element has, and where the next one's start
-  lines-here : (i : ℕ) → i < n → getD (map lineCount (p .elements)) i 0 ≡ suc (obligationCount places i)
+  pub lines-here : (i : ℕ) → i < n → getD (map lineCount (p .elements)) i 0 ≡ suc (obligationCount places i)
   lines-here i l = element-at f table places n p is lineCount 0 i l ∙ ap suc (ap length (obligations-of f table places i) ∙ count-is f places i)
 
-  lines-next : (i m : ℕ) → m ≡ suc (obligationCount places i) → a + linesTo places (i + 1) ≡ a + linesTo places i + m
+  pub lines-next : (i m : ℕ) → m ≡ suc (obligationCount places i) → a + linesTo places (i + 1) ≡ a + linesTo places i + m
   unfolding linesTo
   lines-next i m e = rw (add-one i) (omega arith)
 
@@ -117,12 +117,18 @@ module _ (f : Bytes) (p : Policy) (h : read f ≡ given p) (table places struck 
       behind-it : {i : ℕ} → i < n → i + 1 ≤ n
       behind-it l = omega arith
 
-  -- an element's lines, if it is left
+  -- an element's lines, and what is left of them
+  pub lines-of : (i m : ℕ) → i < n → m ≡ suc (obligationCount places i) → a + linesTo places i + m ≤ length own → part f (startOf places i) (linesEnd f places n i) ≡ unlines (take m (drop (a + linesTo places i) own))
+  lines-of i m l e room = ap₂ (part f) (lined .starts i l) (end-is i l ∙ ap (lineStart f) (lines-next i m e)) ∙ lines-part f own free text (a + linesTo places i) m room
+
   piece-is : (i m : ℕ) → i < n → m ≡ suc (obligationCount places i) → a + linesTo places i + m ≤ length own
       → pieceAt f places struck n i ≡ cond (isLeft struck i) (unlines (take m (drop (a + linesTo places i) own))) []
-  piece-is i m l e room =
-      ap₂ (λ x y. cond (isLeft struck i) (part f x y) []) (lined .starts i l) (end-is i l ∙ ap (lineStart f) (lines-next i m e))
-      ∙ ap (λ x. cond (isLeft struck i) x []) (lines-part f own free text (a + linesTo places i) m room)
+  piece-is i m l e room = ap (λ x. cond (isLeft struck i) x []) (lines-of i m l e room)
+
+  -- the lines before the first element's
+  pub lines-before : 1 ≤ n → part f 0 (startOf places 0) ≡ unlines (take a own)
+  unfolding linesTo
+  lines-before some = ap (part f 0) (lined .starts 0 some ∙ ap (lineStart f) (add-zero a)) ∙ before-start f own free text a (omega (arith, count))
 
   pick : (b : Bool) (x : List Bytes) (later : List (List Bytes)) → cond b (unlines x) [] ++ unlines (gathered (λ ls. ls) later) ≡ unlines (gathered (λ ls. ls) (cond b (x ∷ later) later))
   pick true x later = sym (unlines-append x (gathered (λ ls. ls) later))
@@ -149,12 +155,11 @@ module _ (f : Bytes) (p : Policy) (h : read f ≡ given p) (table places struck 
   text-copied some =
       let es = p .elements in
       let left : ℕ → List Bytes = λ m. gathered (λ ls. ls) (leftFrom struck 0 (linesByElement es (drop m own))) in
-      let first : startOf places 0 ≡ lineStart f a = lined .starts 0 some ∙ ap (lineStart f) (add-zero a) in
       let each : (j : ℕ) → j < length es → getD (map lineCount es) j 0 ≡ suc (obligationCount places (0 + j)) = λ j l. lines-here j (omega arith) ∙ ap (λ k. suc (obligationCount places k)) (sym (zero-add j)) in
       ap (λ m. unlines (take m own ++ left m)) attributes
       ∙ unlines-append (take a own) (left a)
       ∙ ap₂ (λ x y. x ++ y)
-      (sym (ap (part f 0) first ∙ before-start f own free text a (omega (arith, count))))
+      (sym (lines-before some))
       (ap (λ m. unlines (left m)) (sym (add-zero a)) ∙ sym (copied-left 0 es (zero-add (length es) ∙ elements) (omega (arith, count)) each) ∙ ap (λ k. gathered (pieceAt f places struck n) (counting 0 k)) elements)
 
 -- Numbers that rise by each step

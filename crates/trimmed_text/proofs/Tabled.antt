@@ -34,7 +34,7 @@ last-alike F G (suc n) alike = ap₂ (λ b o. cond b (some n) o) (alike n (omega
 module _ (f : Bytes) (p : Policy) (h : read f ≡ given p) (table places : List ℕ) (n : ℕ) (is : p .elements ≡ reverse (elementsTo f table places n)) (size : length (p .elements) ≡ n)
     (hit : ℕ → Element → Bool) (space : ℕ) (hits-are : (m : ℕ) → hit m ≡ hits p m) (space-is : space ≡ spaceOf (p .attributes)) where
   -- what a request gets from the elements that are left, of which the first is one
-  outcome-is : (struck : List ℕ) → getD struck 0 0 ≡ 0 → (m : ℕ) → outcomeLeft (hit m) f table places struck n ≡ outcome (leftPolicy p struck) m
+  pub outcome-is : (struck : List ℕ) → getD struck 0 0 ≡ 0 → (m : ℕ) → outcomeLeft (hit m) f table places struck n ≡ outcome (leftPolicy p struck) m
   outcome-is struck live m =
       let q = requestOf (sizes (p .attributes)) m in
       ap (λ test. outcomeLeft test f table places struck n) (hits-are m)

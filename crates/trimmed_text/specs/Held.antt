@@ -1,4 +1,4 @@
--- What trimming a file rule by rule or in steps, and its report, ask of the table and the places that are lent.
+-- What trimming a file rule by rule or in steps, a proposal beside it and its report ask of the table and the places that are lent.
 use mathlib.Core.Path.{_≡_}
 use Prim.Native.Nat.{ℕ, _<_}
 use mathlib.Core.List.{List, reverse}
@@ -20,6 +20,7 @@ pub record PolicyHeld (f : Bytes) (table places : List ℕ) (s : Shape) : Type 0
   pub elements : policy .elements ≡ reverse (elementsTo f table places (s .n))
   pub hits-are : (m : ℕ) → hitOf s m ≡ hits policy m
   pub space-is : s .space ≡ space (policy .attributes)
+  pub len-is : s .len ≡ length (policy .attributes)
   pub ready : PolicyTable table none-struck s
   pub naming : Naming f places (s .n)
   pub obliged : (i : ℕ) → i < s .n → Obliged f places i
