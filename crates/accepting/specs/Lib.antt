@@ -1,0 +1,2 @@
+-- What the contracts of accepting cite.
+pub mod Judged

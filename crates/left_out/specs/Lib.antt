@@ -1,0 +1,2 @@
+-- What the contract of leaving out cites.
+pub mod Leaving
