@@ -1,10 +1,10 @@
 /* Jogimaduve: access policies of robot arms. The library is for Linux on x86-64.
  *
- * Every operation takes a policy file as bytes and relies on no earlier call. It keeps nothing, allocates nothing and
- * may be called from several threads at once. Pointers must not be NULL, also where a length is 0. The buffer must not
- * overlap the file, a request or a name: a text that is written over its own file comes out wrong, with no sign of it.
- * Only jogimaduve_step writes to the file that it is given: nothing else, another thread or a signal handler, may use those
- * bytes meanwhile.
+ * Every operation takes a policy file as bytes, jogimaduve_accept two, and relies on no earlier call. It keeps nothing,
+ * allocates nothing and may be called from several threads at once. Pointers must not be NULL, also where a length is 0. The
+ * buffer must not overlap the file, a request or a name: a text that is written over its own file comes out wrong, with no
+ * sign of it. Only jogimaduve_step writes to the file that it is given: nothing else, another thread or a signal handler, may
+ * use those bytes meanwhile.
  *
  * Each answers two numbers, jogimaduve_decide and jogimaduve_step three. `number` is 0 where the operation did its work;
  * `second` is then its result. Any other `number` is a refusal, so test it first: the `second` of a refusal can be
@@ -17,7 +17,7 @@
 #include <stddef.h>
 #include <stdint.h>
 
-#define JOGIMADUVE_VERSION "2.2.0"
+#define JOGIMADUVE_VERSION "2.3.0"
 
 #ifdef __cplusplus
 extern "C" {
@@ -56,7 +56,10 @@ enum {
     JOGIMADUVE_SHORT_BUFFER = 11, /* bytes: so many are needed */
     JOGIMADUVE_NO_M_LINE = 13,    /* 0: the name given is not that of an attribute of an M line; told before 11 */
     JOGIMADUVE_BAD_OBLIGATION = 14, /* line: an O line not behind S, P or O, or the third of its element; told before 7 */
-    JOGIMADUVE_NOT_NEEDLESS = 15   /* 0: the name given is not that of a rule that does no work; told before 11 */
+    JOGIMADUVE_NOT_NEEDLESS = 15,  /* 0: the name given is not that of a rule that does no work; told before 11 */
+    JOGIMADUVE_OTHER_LINE = 16,    /* line of the proposal that is not the original's next; 0 if all are, but one that is no rule is left over */
+    JOGIMADUVE_OTHER_OUTCOME = 17, /* request: the number of the first that gets another decision, or other obligations */
+    JOGIMADUVE_NEEDLESS_RULE = 18  /* line of the proposal's topmost rule that does no work */
 };
 
 /* What a request gets: `second` of jogimaduve_decide. */
@@ -76,6 +79,7 @@ enum {
     JOGIMADUVE_NEXT_RULE_STACK = 65536,
     JOGIMADUVE_STRIKE_STACK = 65536,
     JOGIMADUVE_STEP_STACK = 65536,
+    JOGIMADUVE_ACCEPT_STACK = 65536,
     JOGIMADUVE_REPORT_STACK = 262144,
     JOGIMADUVE_VALUE_PAIRS_STACK = 65536
 };
@@ -126,6 +130,28 @@ jogimaduve_answer jogimaduve_strike(const uint8_t *file, size_t file_length,
  * take the text left with its length now: with the length of before, struck lines can be back. Every request gets what the file
  * first handed in gives it, with the same obligations. Steps until none is struck end in the bytes that jogimaduve_trim gives. */
 jogimaduve_stepped jogimaduve_step(uint8_t *text, size_t text_length);
+
+/* Tells whether a proposal, a policy file that another program made of an original, may be loaded in its place. `number` and
+ * `second` are both 0 exactly if it is sound: it is the original's lines with only rule lines left out, it decides every request
+ * as the original does, with the same obligations, and every rule in it does work. What jogimaduve_trim gives of the original
+ * is accepted; so can other texts be, with other rules and more or fewer of them.
+ *
+ * Else the answer is the first of these that holds:
+ * - 1 to 9 or 14: the original is no policy file, or else the proposal is none. Which of the two is meant is not told. To tell,
+ *   give the original alone to another operation: jogimaduve_trim with a buffer of length 0 answers JOGIMADUVE_SHORT_BUFFER if
+ *   the original is good, so that it was the proposal.
+ * - JOGIMADUVE_OTHER_LINE: a line of the proposal is not, to the byte, the next of the original, where only rule lines may be
+ *   passed over; or, with 0, all its lines are, but one behind them in the original that is no rule line is missing.
+ * - JOGIMADUVE_OTHER_OUTCOME: a request gets another decision, or other obligations. Requests are numbered from 0 in the order
+ *   of the values on their attribute lines, the last attribute changing first; a set of values of an M line has as its number
+ *   the sum of 1 for the first value, 2 for the second, 4 for the third and so on, less 1.
+ * - JOGIMADUVE_NEEDLESS_RULE: the proposal would decide every request alike, with the same obligations, without this one rule.
+ *   It is the topmost such rule; jogimaduve_next_rule shows the last.
+ *
+ * Nothing is written, and no memory is lent: the two files may overlap, or be the same bytes. Load the bytes that were
+ * accepted, not a file that is read again: it can have changed meanwhile. */
+jogimaduve_answer jogimaduve_accept(const uint8_t *original, size_t original_length,
+                                    const uint8_t *proposal, size_t proposal_length);
 
 /* Reports on a file: its segments (G), conflicts (C), the rules that trimming strikes (X) and those that it keeps (K), as
  * lines of fields parted by tabs. Every build gives the same bytes for the same file. The text goes into the buffer and
