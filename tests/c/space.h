@@ -64,7 +64,7 @@ static void put_request(const long held[ATTRIBUTES], char *line) {
 }
 
 /* The D lines of an attribute, by the decision of each request, as a number or 4 for none; their length. */
-static size_t pair_lines(int attribute, unsigned decision(const long held[ATTRIBUTES]), char *text) {
+static inline size_t pair_lines(int attribute, unsigned decision(const long held[ATTRIBUTES]), char *text) {
     static const char *const words[] = {"permit", "deny", "not-applicable", "indeterminate", "nothing"};
     long held[ATTRIBUTES];
     size_t length = 0;
