@@ -104,7 +104,7 @@ static void make_file(void) {
 }
 
 /* A request line. A bad one has a field too many, one that is no value, or no field at all. */
-static size_t make_request(char *line, int good) {
+static inline size_t make_request(char *line, int good) {
     unsigned fault = good ? 3 : below(3), bad = below((unsigned)made.attributes);
     *line = '\0';
     for (int i = 0; i < made.attributes; i++) {
