@@ -80,6 +80,24 @@ static void steps(void) {
     check(sizeof got == 12 && offsetof(jogimaduve_stepped, second) == 4 && offsetof(jogimaduve_stepped, struck) == 8, "the answer of a step", __LINE__);
 }
 
+#define ACCEPTED(original, proposal, number, second) answers(jogimaduve_accept(TEXT(original), TEXT(proposal)), number, second, proposal, __LINE__)
+
+/* Which file a refusal means is told by the original alone, in no buffer. */
+static void proposals(void) {
+    ACCEPTED(GOOD "R\t1\tr3\tpermit\ta\n", GOOD, JOGIMADUVE_DONE, 0);
+    ACCEPTED(GOOD, GOOD "R\t1\tr3\tpermit\ta\n", JOGIMADUVE_OTHER_LINE, 5);
+    ACCEPTED(A P "O\tlog\tpermit\n", A P, JOGIMADUVE_OTHER_LINE, 0);
+    ACCEPTED(GOOD, A P "R\t1\tr1\tpermit\ta\n", JOGIMADUVE_OTHER_OUTCOME, 1);
+    ACCEPTED(GOOD "R\t1\tr3\tpermit\ta\n", GOOD "R\t1\tr3\tpermit\ta\n", JOGIMADUVE_NEEDLESS_RULE, 3);
+    ACCEPTED(A, A P A, JOGIMADUVE_NO_ELEMENT, 0);
+    answers(jogimaduve_trim(TEXT(A), buffer, 0), JOGIMADUVE_NO_ELEMENT, 0, "the original is meant", __LINE__);
+    ACCEPTED(GOOD, A, JOGIMADUVE_NO_ELEMENT, 0);
+    answers(jogimaduve_trim(TEXT(GOOD), buffer, 0), JOGIMADUVE_SHORT_BUFFER, sizeof GOOD - 1, "the proposal is meant", __LINE__);
+    answers(jogimaduve_accept(long_file, sizeof long_file, TEXT(A)), JOGIMADUVE_TOO_LONG, 0, "too long", __LINE__);
+    answers(jogimaduve_accept(TEXT(GOOD), long_file, sizeof long_file), JOGIMADUVE_TOO_LONG, 0, "too long", __LINE__);
+    answers(jogimaduve_accept(TEXT(GOOD), long_file, sizeof long_file - 1), JOGIMADUVE_BAD_LINE, 1, "as long as can be", __LINE__);
+}
+
 int main(void) {
     memset(long_file, 'A', sizeof long_file);
     answers(jogimaduve_trim(long_file, sizeof long_file, buffer, sizeof buffer), JOGIMADUVE_TOO_LONG, 0, "too long", __LINE__);
@@ -112,6 +130,7 @@ int main(void) {
     DECIDED(A P, "a", JOGIMADUVE_NOT_APPLICABLE);
     DECIDED(A "S\t0\ttop\tonly-one-applicable\t*\nP\t1\tp\tdeny-overrides\t*\nP\t1\tq\tdeny-overrides\t*\n", "a", JOGIMADUVE_INDETERMINATE);
     steps();
+    proposals();
     longest_name();
     longest_request();
     longest_obligations();

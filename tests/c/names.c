@@ -34,6 +34,15 @@ static void steps(const char *name, int line) {
     check(got.struck == 1, name, line);
 }
 
+/* A file with one name as the original, with another as the proposal. Lines are compared to the byte: letter case counts. */
+static void proposes(const char *file, const char *name, const char *other, uint32_t number, uint32_t second, int line) {
+    char original[120], proposal[120];
+    sprintf(original, file, name);
+    sprintf(proposal, file, other);
+    jogimaduve_answer got = jogimaduve_accept((const uint8_t *)original, strlen(original), (const uint8_t *)proposal, strlen(proposal));
+    answers(got, number, second, other, line);
+}
+
 static void requests(void) {
     GIVES(CELL, "Tech\tJog", JOGIMADUVE_PERMIT);
     GIVES(CELL, "tech\tjog", JOGIMADUVE_PERMIT);
@@ -103,6 +112,9 @@ static void pair(const char *name, const char *like, const char *unlike, int let
         decides(file, pools[pool].request, letter ? 4 : 3, letter ? pools[pool].later : pools[pool].line, __LINE__);
         sprintf(file, pools[pool].two, unlike, name);
         decides(file, pools[pool].request, letter ? 0 : 3, letter ? JOGIMADUVE_NOT_APPLICABLE : pools[pool].later, __LINE__);
+        proposes(pools[pool].one, name, name, letter ? 0 : 3, letter ? 0 : pools[pool].line, __LINE__);
+        proposes(pools[pool].one, name, like, letter ? 16 : 3, pools[pool].line, __LINE__);
+        proposes(pools[pool].one, unlike, name, letter ? 16 : 3, pools[pool].line, __LINE__);
     }
     const char *value = letter ? name : unlike;
     sprintf(file, "A\tx\tw\t%s\n" TOP "R\t1\tr\tpermit\t%s\n", value, value);
@@ -113,6 +125,10 @@ static void pair(const char *name, const char *like, const char *unlike, int let
     steps(value, __LINE__);
     strikes(value, like, letter ? 0 : 15, __LINE__);
     if (letter) strikes(value, unlike, 15, __LINE__);
+    proposes("A\tx\tw\n" TOP "R\t1\t%s\tpermit\t*\n", value, value, 0, 0, __LINE__);
+    proposes("A\tx\tw\n" TOP "R\t1\t%s\tpermit\t*\n", value, like, letter ? 16 : 3, 3, __LINE__);
+    proposes("A\tx\tw\n" TOP "O\t%s\tpermit\n", value, value, 0, 0, __LINE__);
+    proposes("A\tx\tw\n" TOP "O\t%s\tpermit\n", value, like, letter ? 16 : 3, 3, __LINE__);
 }
 
 /* The first and the last letters and the bytes beside them, at the first, a middle and the last place. */
