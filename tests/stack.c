@@ -50,6 +50,23 @@ static void *step(void *unused) {
     return unused;
 }
 
+/* The file less its first rule; its length. */
+static size_t without_first(uint8_t *text) {
+    size_t first = (size_t)(strstr(file, "\nR\t") + 1 - file), next = (size_t)(strchr(file + first, '\n') + 1 - file);
+    memcpy(text, file, first);
+    memcpy(text + first, file + next, size - next);
+    return size - (next - first);
+}
+
+/* Without the last rule, where each rule that is left is looked at; with it; without both equal rules. */
+static void *accept(void *unused) {
+    const uint8_t *original = (const uint8_t *)file;
+    answers(jogimaduve_accept(original, size, original, size - last), JOGIMADUVE_DONE, 0, "accept", __LINE__);
+    answers(jogimaduve_accept(original, size, original, size), JOGIMADUVE_NEEDLESS_RULE, 25, "accept", __LINE__);
+    answers(jogimaduve_accept(original, size, buffer, without_first(buffer) - last), JOGIMADUVE_OTHER_OUTCOME, 0, "accept", __LINE__);
+    return unused;
+}
+
 static void *report(void *unused) {
     check(jogimaduve_report((const uint8_t *)file, size, buffer, sizeof buffer).number == JOGIMADUVE_DONE, "report", __LINE__);
     return unused;
@@ -114,6 +131,7 @@ int main(void) {
     within(next_rule, JOGIMADUVE_NEXT_RULE_STACK, "next rule");
     within(strike, JOGIMADUVE_STRIKE_STACK, "strike");
     within(step, JOGIMADUVE_STEP_STACK, "step");
+    within(accept, JOGIMADUVE_ACCEPT_STACK, "accept");
     within(report, JOGIMADUVE_REPORT_STACK, "report");
     largest('M', (const int[]){8, 16, 1});
     within(value_pairs, JOGIMADUVE_VALUE_PAIRS_STACK, "value pairs");
