@@ -69,12 +69,26 @@ static size_t names_of(const struct trimming *trimming, const struct policy *pol
 /* Requests with the same bits as one of them. */
 static uint64_t like(uint64_t bits, int request) { return bits >> request & 1 ? bits : ~bits; }
 
-/* The first of the requests with other names. Those that get their names from the same elements are done at once. */
-static unsigned first_other_names(const struct trimming *trimming, const struct policy *policy, struct gives root,
-                                  const uint64_t with[ELEMENTS], const uint64_t without[ELEMENTS], uint64_t requests)
+/* Requests to which other elements with obligations give the decision. */
+static uint64_t given_otherwise(const struct policy *policy, const uint64_t with[ELEMENTS],
+                                const uint64_t without[ELEMENTS])
+{
+    uint64_t other = 0;
+
+    for (unsigned i = 0; i < policy->obligations; i++) {
+        unsigned place = policy->obligation[i].place;
+        other |= with[place] ^ without[place];
+    }
+    return other;
+}
+
+/* Those that get their names from the same elements are done at once. */
+unsigned plain_first_other_names(const struct trimming *trimming, const struct policy *policy, struct gives root,
+                                 const uint64_t with[ELEMENTS], const uint64_t without[ELEMENTS], uint64_t requests)
 {
     uint8_t one[OBLIGATIONS * ELEMENTS], other[OBLIGATIONS * ELEMENTS];
 
+    requests &= given_otherwise(policy, with, without);
     while (requests != 0) {
         int request = lowest(requests);
         unsigned word = root.permit >> request & 1 ? EFFECT_PERMIT : EFFECT_DENY;
@@ -94,8 +108,7 @@ static unsigned first_other_names(const struct trimming *trimming, const struct 
 unsigned plain_first_other(const struct trimming *trimming, const struct policy *policy, unsigned number, int rule,
                            uint64_t requests)
 {
-    const uint64_t *with = trimming->obliged.given[number];
-    uint64_t applies[ELEMENTS], other = 0;
+    uint64_t applies[ELEMENTS];
     struct block block;
     struct chain chain;
 
@@ -104,11 +117,8 @@ unsigned plain_first_other(const struct trimming *trimming, const struct policy 
     block.active = trimming->active[number] & ~bit(rule);
     plain_evaluate(policy, &block, applies);
     plain_chain(policy, &block, &chain);
-    for (unsigned i = 0; i < policy->obligations; i++) {
-        unsigned place = policy->obligation[i].place;
-        other |= with[place] ^ chain.given[place];
-    }
-    return first_other_names(trimming, policy, block.gives[0], with, chain.given, requests & other);
+    return plain_first_other_names(trimming, policy, block.gives[0], trimming->obliged.given[number], chain.given,
+                                   requests);
 }
 
 bool plain_needs_obligations(struct trimming *trimming, const struct policy *policy, int rule)

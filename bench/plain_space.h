@@ -64,7 +64,15 @@ void plain_evaluate(const struct policy *policy, struct block *block, const uint
 
 void plain_start_trimming(struct trimming *trimming, const struct policy *policy);
 
-/* What every element gives on a block's requests, and then which rules are needed there. */
+/* What every element gives on a block's requests; of a policy with obligations, also whose come with the decisions. */
+void plain_decide_block(const struct trimming *trimming, const struct policy *policy, unsigned number,
+                        struct block *block, struct chain *chain);
+
+/* Which rules are needed there. */
+void plain_find_needed(struct trimming *trimming, const struct policy *policy, unsigned number, struct block *block,
+                       const struct chain *chain);
+
+/* Both, one after the other. */
 void plain_look_at(struct trimming *trimming, const struct policy *policy, unsigned number, struct block *block);
 
 /* Strikes the last needless rule while there is one, once every block was looked at. */
@@ -77,6 +85,11 @@ jogimaduve_answer plain_find_needless(struct policy *policy, const uint8_t *file
 void plain_chain(const struct policy *policy, const struct block *block, struct chain *chain);
 
 void plain_start_obliged(struct obliged *obliged, const struct policy *policy);
+
+/* The first of some requests of a block that get other names from these elements than from those; 64 if there is none. Both
+ * times they get the decision that `root` has. */
+unsigned plain_first_other_names(const struct trimming *trimming, const struct policy *policy, struct gives root,
+                                 const uint64_t with[ELEMENTS], const uint64_t without[ELEMENTS], uint64_t requests);
 
 /* The first of some requests of a block whose obligations change without a rule that changes none of their decisions; 64 if
  * there is none. */

@@ -109,19 +109,34 @@ void plain_start_trimming(struct trimming *trimming, const struct policy *policy
         plain_start_obliged(&trimming->obliged, policy);
 }
 
-void plain_look_at(struct trimming *trimming, const struct policy *policy, unsigned number, struct block *block)
+void plain_decide_block(const struct trimming *trimming, const struct policy *policy, unsigned number,
+                        struct block *block, struct chain *chain)
 {
     block->active = trimming->active[number];
     plain_evaluate(policy, block, trimming->applies[number]);
+    if (policy->obligations > 0)
+        plain_chain(policy, block, chain);
+}
+
+void plain_find_needed(struct trimming *trimming, const struct policy *policy, unsigned number, struct block *block,
+                       const struct chain *chain)
+{
     struct obliged *obliged = &trimming->obliged;
-    struct chain chain;
+
     if (policy->obligations > 0) {
-        plain_chain(policy, block, &chain);
-        memcpy(obliged->given[number], chain.given, policy->elements * sizeof *chain.given);
+        memcpy(obliged->given[number], chain->given, policy->elements * sizeof *chain->given);
         obliged->needed[number] = 0;
     }
     trimming->needed[number] = needed_rules(policy, block, trimming->applies[number], trimming->first[number],
-                                            policy->obligations > 0 ? &chain : NULL, obliged->perhaps[number]);
+                                            policy->obligations > 0 ? chain : NULL, obliged->perhaps[number]);
+}
+
+void plain_look_at(struct trimming *trimming, const struct policy *policy, unsigned number, struct block *block)
+{
+    struct chain chain;
+
+    plain_decide_block(trimming, policy, number, block, &chain);
+    plain_find_needed(trimming, policy, number, block, &chain);
 }
 
 /* The last rule that no request needs, or -1. */
