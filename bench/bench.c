@@ -12,13 +12,13 @@
 #include <string.h>
 
 /* What next shows is struck; where it shows none, striking the last rule is refused. A step is the first one of a file.
- * Pairs of values are listed for the first M, and not for a file without one. Refusing a file is the same for all seven; it
- * is measured by decide. */
-enum operation { DECIDE, TRIM, REPORT, NEXT, STRIKE, STEP, PAIRS, REFUSE, OPERATIONS };
+ * Pairs of values are listed for the first M, and not for a file without one. Refusing a file is the same for all eight; it
+ * is measured by decide. Accept is given a file's proposals: the one accepted, then those refused, by their answers. */
+enum operation { DECIDE, TRIM, REPORT, NEXT, STRIKE, STEP, PAIRS, REFUSE, ACCEPT, OPERATIONS = ACCEPT + PROPOSALS };
 
 enum { ROUNDS = 7, TEXT_BYTES = 6 << 20 };
 
-static const double round_seconds = 0.02, most_seconds = 0.4; /* of a round; of all rounds if calls are long */
+static const double most_seconds = 0.4; /* of all rounds if calls are long */
 
 struct side {
     jogimaduve_decision (*decide)(const uint8_t *, size_t, const uint8_t *, size_t, uint8_t *, size_t);
@@ -26,18 +26,22 @@ struct side {
     jogimaduve_answer (*strike)(const uint8_t *, size_t, const uint8_t *, size_t, uint8_t *, size_t);
     jogimaduve_stepped (*step)(uint8_t *, size_t);
     jogimaduve_answer (*pairs)(const uint8_t *, size_t, const uint8_t *, size_t, uint8_t *, size_t);
+    jogimaduve_answer (*accept)(const uint8_t *, size_t, const uint8_t *, size_t);
     uint8_t *buffer;
 };
 
 static uint8_t library_text[TEXT_BYTES], plain_text[TEXT_BYTES];
 static const struct side sides[2] = {
     {jogimaduve_decide, {jogimaduve_trim, jogimaduve_report, jogimaduve_next_rule}, jogimaduve_strike, jogimaduve_step,
-     jogimaduve_value_pairs, library_text},
-    {plain_decide, {plain_trim, plain_report, plain_next_rule}, plain_strike, plain_step, plain_value_pairs, plain_text},
+     jogimaduve_value_pairs, jogimaduve_accept, library_text},
+    {plain_decide, {plain_trim, plain_report, plain_next_rule}, plain_strike, plain_step, plain_value_pairs, plain_accept,
+     plain_text},
 };
 static const char *const operation_names[OPERATIONS] = {
     "decide", "trim", "report", "next", "strike", "step", "pairs", "refuse",
+    "accept", "accept18", "accept17", "accept16",
 };
+static const uint32_t proposal_answers[PROPOSALS] = {[TRIMMED] = 0, [WHOLE] = 18, [LESS] = 17, [CHANGED] = 16};
 
 static volatile uint32_t seen; /* keeps calls from being left out */
 
@@ -50,7 +54,7 @@ static jogimaduve_decision step(const struct side *side, const struct policy_fil
     return (jogimaduve_decision){answer.number, answer.second, answer.struck};
 }
 
-/* Decides one request line, steps, or fills the buffer with a text alone. */
+/* Decides one request line, steps, tests a proposal, or fills the buffer with a text alone. */
 static jogimaduve_decision call(const struct side *side, const struct policy_file *file, int operation, unsigned number)
 {
     static const uint8_t none[1];
@@ -63,7 +67,10 @@ static jogimaduve_decision call(const struct side *side, const struct policy_fil
                             file->request_length[number % file->requests], side->buffer, TEXT_BYTES);
     if (operation == STEP)
         return step(side, file);
-    if (operation == STRIKE)
+    if (operation >= ACCEPT) {
+        const struct proposal *proposal = &file->proposal[operation - ACCEPT];
+        answer = side->accept(file->bytes, file->length, proposal->bytes, proposal->length);
+    } else if (operation == STRIKE)
         answer = side->strike(file->bytes, file->length, file->rule, file->rule_length, side->buffer, TEXT_BYTES);
     else if (operation == PAIRS)
         answer = side->pairs(file->bytes, file->length, file->sets, file->sets_length, side->buffer, TEXT_BYTES);
@@ -87,8 +94,28 @@ static void take_shown(struct policy_file *file)
         file->rule_length = shown.second;
 }
 
+/* From the library's trimmed text, which is compared with the other side's before. */
+static void take_proposals(struct policy_file *file)
+{
+    jogimaduve_answer trimmed = jogimaduve_trim(file->bytes, file->length, library_text, TEXT_BYTES);
+
+    if (trimmed.number == JOGIMADUVE_DONE)
+        make_proposals(file, library_text, trimmed.second);
+}
+
+static int is_measured(const struct policy_file *file, int operation)
+{
+    if ((operation == REFUSE) != (file->requests == 0))
+        return 0;
+    if (operation >= ACCEPT)
+        return file->proposal[operation - ACCEPT].length > 0;
+    return operation != PAIRS || file->sets_length > 0;
+}
+
 static int expected(const struct policy_file *file, int operation, uint32_t number)
 {
+    if (operation >= ACCEPT)
+        return number == proposal_answers[operation - ACCEPT];
     if (operation == STRIKE)
         return number == (file->shown ? JOGIMADUVE_DONE : JOGIMADUVE_NOT_NEEDLESS);
     return (number == JOGIMADUVE_DONE) == (operation != REFUSE);
@@ -125,6 +152,9 @@ static double seconds_of(const struct side *side, const struct policy_file *file
     return end - start;
 }
 
+/* Of a round; shorter for proposals that are refused, so that all of it takes little longer. */
+static double round_seconds(int operation) { return operation > ACCEPT ? 0.005 : 0.02; }
+
 /* Calls that take about a round; always as many decisions as there are request lines, or a multiple. */
 static unsigned calls_in_round(const struct side *side, const struct policy_file *file, int operation)
 {
@@ -132,8 +162,8 @@ static unsigned calls_in_round(const struct side *side, const struct policy_file
 
     for (;;) {
         double seconds = seconds_of(side, file, operation, calls);
-        if (seconds >= round_seconds / 4)
-            return calls * (1 + (unsigned)(round_seconds / seconds)) / least * least;
+        if (seconds >= round_seconds(operation) / 4)
+            return calls * (1 + (unsigned)(round_seconds(operation) / seconds)) / least * least;
         calls *= 4;
     }
 }
@@ -163,7 +193,7 @@ static double compare(const struct policy_file *file, int operation)
 
     check_same(file, operation);
     measure(file, operation, best);
-    printf("%-20s %6lu  %-7s %14.2f %14.2f %9.2f\n", file->name, (unsigned long)file->length,
+    printf("%-20s %6lu  %-8s %13.2f %14.2f %9.2f\n", file->name, (unsigned long)file->length,
            operation_names[operation], 1e6 * best[0], 1e6 * best[1], best[0] / best[1]);
     fflush(stdout);
     return best[0] / best[1];
@@ -174,11 +204,12 @@ int main(void)
     static struct policy_file file;
     double largest[OPERATIONS] = {0};
 
-    printf("%-20s %6s  %-7s %14s %14s %9s\n", "file", "bytes", "", "library, us", "plain C, us", "ratio");
+    printf("%-20s %6s  %-8s %13s %14s %9s\n", "file", "bytes", "", "library, us", "plain C, us", "ratio");
     for (unsigned number = 0; make_file(&file, number); number++) {
         take_shown(&file);
+        take_proposals(&file);
         for (int operation = 0; operation < OPERATIONS; operation++) {
-            if ((operation == REFUSE) != (file.requests == 0) || (operation == PAIRS && file.sets_length == 0))
+            if (!is_measured(&file, operation))
                 continue;
             double ratio = compare(&file, operation);
             if (ratio > largest[operation])
