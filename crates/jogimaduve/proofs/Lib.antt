@@ -10,5 +10,6 @@ mod TellsPairs
 mod RuleByRule
 mod Calls
 mod HeldState
+mod Accepting
 mod Holding
 mod Pairing

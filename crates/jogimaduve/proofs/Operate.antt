@@ -12,7 +12,7 @@ use Rattle.meaning.specs.Trimming.{trimmed}
 use Rattle.meaning.specs.Report.{report}
 use Rattle.meaning.specs.ValuePairs.{pairsNamed}
 use Rattle.meaning.specs.RuleByRule.{nextName, strikeNamed}
-use Rattle.meaning.specs.Operations.{decideAnswer, decideLent, trimAnswer, trimLent, reportAnswer, reportLent, valuePairsAnswer, valuePairsLent, nextRuleAnswer, nextRuleLent, strikeAnswer, strikeLent, stepAnswer, stepLent}
+use Rattle.meaning.specs.Operations.{decideAnswer, decideLent, trimAnswer, trimLent, reportAnswer, reportLent, valuePairsAnswer, valuePairsLent, nextRuleAnswer, nextRuleLent, strikeAnswer, strikeLent, stepAnswer, stepLent, acceptAnswer}
 use Rattle.meaning.specs.Claims.Operations.{Writes}
 use Rattle.laws.proofs.Operations.{operations}
 
@@ -51,7 +51,12 @@ pub record StepOperation : Type 0 where
   pub answer-is : (t : Bytes) → answer t ≡ stepAnswer t
   pub after-is : (t : Bytes) → after t ≡ stepLent t
 
--- All seven
+-- A proposal beside its original: it lends nothing
+pub record AcceptOperation : Type 0 where
+  pub answer : (original proposal : Bytes) → Answer
+  pub answer-is : (f g : Bytes) → answer f g ≡ acceptAnswer f g
+
+-- All eight
 pub record Operate : Type 0 where
   pub decide : (file request buffer : Bytes) → Decided
   pub decide-after : (file request buffer : Bytes) → Bytes
@@ -63,6 +68,7 @@ pub record Operate : Type 0 where
   pub next-rule : NextRule
   pub strike : (rule : Bytes) → Strike rule
   pub step : StepOperation
+  pub accept : AcceptOperation
 
 -- what is defined meets them
 pub as-defined : Operate
@@ -77,6 +83,7 @@ as-defined = record {
   next-rule = record { answer = nextRuleAnswer; after = nextRuleLent; answer-is = λ f b. refl; after-is = λ f b. refl };
   strike = λ rule. record { answer = λ f b. strikeAnswer f rule b; after = λ f b. strikeLent f rule b; answer-is = λ f b. refl; after-is = λ f b. refl };
   step = record { answer = stepAnswer; after = stepLent; answer-is = λ t. refl; after-is = λ t. refl };
+  accept = record { answer = acceptAnswer; answer-is = λ f g. refl };
 }
 
 -- what they write

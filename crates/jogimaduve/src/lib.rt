@@ -3,7 +3,7 @@ use meaning::Answer;
 use meaning::Decided;
 use meaning::Stepped;
 ghost use mathlib.Core.Path.{_≡_};
-ghost use Rattle.meaning.specs.Operations.{decideAnswer, decideLent, trimAnswer, trimLent, nextRuleAnswer, nextRuleLent, strikeAnswer, strikeLent, stepAnswer, stepLent, reportAnswer, reportLent, valuePairsAnswer, valuePairsLent};
+ghost use Rattle.meaning.specs.Operations.{decideAnswer, decideLent, trimAnswer, trimLent, nextRuleAnswer, nextRuleLent, strikeAnswer, strikeLent, stepAnswer, stepLent, acceptAnswer, reportAnswer, reportLent, valuePairsAnswer, valuePairsLent};
 
 // The answer of a request that is not decided.
 fn refused(answer: Answer) -> Decided
@@ -114,6 +114,21 @@ pub extern "C" fn jogimaduve_step(text: &mut [u8]) -> Stepped
         };
     }
     held_state::step(text, &table, &places, reader::policy_shape(reading))
+}
+
+// Whether a proposal for the trimmed policy of a policy file, the original, is sound.
+#[no_mangle]
+pub extern "C" fn jogimaduve_accept(original: &[u8], proposal: &[u8]) -> Answer
+    ensures { λ r. ⌜ r ≡ acceptAnswer (now (original .entry)) (now (proposal .entry)) ⌝ }
+{
+    let mut table = [0u16; 512];
+    let mut places = [0usize; 384];
+    let reading = reader::read(original, &mut table, &mut places);
+    if reading.number != 0 {
+        return reader::refusal(reading);
+    }
+    let shape = reader::policy_shape(reading);
+    accepting::accept(original, &table, &places, shape, proposal)
 }
 
 // The report of a policy file, in a lent buffer.
