@@ -4,19 +4,20 @@ use mathlib.Core.Logic.{_↔_}
 use Prim.Native.Nat.{ℕ, suc, _<_, zero-le}
 use native.Mathlib.Omega.{arith}
 use mathlib.Core.Bool.{true, false, _&&_}
-use mathlib.Core.List.{List, [], _∷_, _++_}
+use mathlib.Core.List.{List, [], _∷_, _++_, map}
 use mathlib.Core.Option.{Option, none, some, Option·map}
 use lib.ListN.{length}
-use Rattle.meaning.specs.Text.{Bytes, bytes, any, keep, front, firstFrom, same}
+use Rattle.meaning.specs.Text.{Bytes, bytes, any, keep, front, firstFrom, same, join, tab}
 use Rattle.meaning.specs.Model.{Policy, Result, refused, given}
 use Rattle.meaning.specs.Reading.{readLines, read}
 use Rattle.meaning.specs.Trimming.{lines, fieldOf, ruleLine, firstChanged, needless, trimmed}
 use Rattle.meaning.specs.Writing.{headerTests}
 use Rattle.meaning.specs.Accepting.{fileLines, firstOther, firstNeedless, unlessFound, judged}
+use Rattle.meaning.specs.Claims.PolicyFile.{WellFormed}
 use Rattle.meaning.specs.Claims.Writing.{attributeLine}
-use Rattle.meaning.specs.Claims.Trimming.{Alike, Needless, FirstChange, Trims, stays}
+use Rattle.meaning.specs.Claims.Trimming.{Alike, Needless, FirstChange, stays}
 use Rattle.meaning.specs.Claims.Accepting.{LeavesOut, up-to, kept, left-out, Sound, Unsound, other-line, line-left-over, other-outcome, needless-rule}
-use Rattle.laws.proofs.Bools.{Test, passed, failed, test, contradiction, and-true, never}
+use Rattle.laws.proofs.Bools.{Test, passed, failed, test, contradiction, and-true}
 use Rattle.laws.proofs.Text.{same-true}
 use Rattle.laws.proofs.Search.{none-some, some-some, first-some, first-none, first-is, first-absent}
 use Rattle.laws.proofs.Reading.{refused-given, given-given, front-snoc, accepted}
@@ -24,11 +25,16 @@ use Rattle.laws.proofs.FirstBad.{refused-refused}
 use Rattle.laws.proofs.Rewritten.{only, header-attributes}
 use Rattle.laws.proofs.Trimming as trimming-laws
 use Rattle.laws.proofs.Trimming.{rule-needless, rule-within, not-needless, alike-of, change-of, alike-none, change-is, trimmed-steps, steps-alike, steps-end}
+use Rattle.laws.proofs.FileLines.{file-lines}
 use Rattle.laws.proofs.OwnLines.{steps-own}
 use Rattle.laws.proofs.OtherLines.{Found, other, over, leaves-out, none-other, found-so, so-found}
 
+-- The lines that are compared
+pub proposal-lines : (f : Bytes) (p : Policy) (w : WellFormed f p) → fileLines f ≡ map (join tab) (w .rows)
+proposal-lines f p w = ap front (file-lines f p w .are) ∙ front-snoc (map (join tab) (w .rows)) []
+
 -- The attribute lines stay, and with them the attributes
-rule-no-attribute : (l : Bytes) → ruleLine l ≡ true → attributeLine l ≡ false
+pub rule-no-attribute : (l : Bytes) → ruleLine l ≡ true → attributeLine l ≡ false
 rule-no-attribute l r = rw (same-true (fieldOf 0 l) (bytes "R") r)
 
 attributes-stay : {os ls rest : List Bytes} → LeavesOut os ls rest → rest ≡ [] → keep attributeLine ls ≡ keep attributeLine os

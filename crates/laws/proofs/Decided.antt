@@ -15,6 +15,7 @@ use Rattle.meaning.specs.Segments.{depthAt, childrenOf, decisionAt}
 use Rattle.meaning.specs.Claims.Deciding.{replyAt, Standardly}
 use Rattle.laws.proofs.Types.{Element, Word, not-applicable}
 use Rattle.laws.proofs.Bools.{never}
+use Rattle.laws.proofs.Lists.{map-map}
 use Rattle.laws.proofs.Search.{some-some}
 use Rattle.laws.proofs.Standard.{combined-standard}
 use Rattle.laws.proofs.Children.{replyOf, child-only, accepted-steps, children-asked}
@@ -41,10 +42,6 @@ map-some (x ∷ xs) (y ∷ ys) h = let a : some x ≡ some y = cc in let b : map
 pub map-each : {A B : Type 0} (f g : A → B) (xs : List A) → ((x : A) → List·Memᴰ x xs → f x ≡ g x) → map f xs ≡ map g xs
 map-each f g [] h = refl
 map-each f g (x ∷ xs) h = ap₂ (λ y ys. y ∷ ys) (h x (List·Memᴰ·head refl)) (map-each f g xs (λ y m. h y (List·Memᴰ·tail m)))
-
-map-map : {A B C : Type 0} (f : B → C) (g : A → B) (xs : List A) → map f (map g xs) ≡ map (λ x. f (g x)) xs
-map-map f g [] = refl
-map-map f g (x ∷ xs) = ap (λ ys. f (g x) ∷ ys) (map-map f g xs)
 
 pub replies : (f : Bytes) (p : Policy) → read f ≡ given p → (n i : ℕ) → i < length (p .elements)
     → childReplies (hits p n) (suc (depthAt (p .elements) i)) (drop (suc i) (p .elements)) ≡ map (replyAt p n) (childrenOf (p .elements) i)

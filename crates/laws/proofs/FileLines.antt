@@ -84,6 +84,7 @@ line-left before after l =
 
 pub file-lines : (f : Bytes) (p : Policy) (w : WellFormed f p) → Lines f (w .rows)
 file-lines f p w = record {
+  are = pieces;
   rule-lines = λ k. (
     λ e. sym (at k 0) ∙ same-text (fieldOf 0 (getD (lines f) k [])) (bytes "R") .holds e,
     λ e. same-text (fieldOf 0 (getD (lines f) k [])) (bytes "R") .tests (at k 0 ∙ e),

@@ -13,6 +13,7 @@ use Rattle.meaning.specs.Accepting.{firstOther}
 use Rattle.meaning.specs.Claims.Accepting.{LeavesOut, up-to, kept, left-out, Match, OtherLine, LeftOver}
 use Rattle.laws.proofs.Bools.{Test, passed, failed, test, contradiction, and-true, never}
 use Rattle.laws.proofs.Text.{same-true, same-refl}
+use Rattle.laws.proofs.Search.{some-some}
 
 -- a rule line of the proposal may be left out too
 drop-rule : {os ls rest : List Bytes} (l : Bytes) → ruleLine l ≡ true → LeavesOut os (l ∷ ls) rest → LeavesOut os ls rest
@@ -25,15 +26,18 @@ taken e (kept l' os ls rest y) = y
 taken e (left-out o' os ls' rest r y) = drop-rule _ (rw (← e) r) y
 
 -- one that isn't is a rule's, and is left out
-pub skipped : {o l : Bytes} {os ls rest : List Bytes} → same o l ≡ false → LeavesOut (o ∷ os) (l ∷ ls) rest → (ruleLine o ≡ true) × LeavesOut os (l ∷ ls) rest
+skipped : {o l : Bytes} {os ls rest : List Bytes} → same o l ≡ false → LeavesOut (o ∷ os) (l ∷ ls) rest → (ruleLine o ≡ true) × LeavesOut os (l ∷ ls) rest
 skipped e (kept l' os ls rest y) = contradiction (same-refl l') e
 skipped e (left-out o' os ls' rest r y) = (r, y)
 
 -- Behind the original's end nothing matches
-nothing-left : {os ms ls rest : List Bytes} {l : Bytes} → LeavesOut os ms rest → os ≡ [] → ms ≡ l ∷ ls → ⊥
-nothing-left (up-to rest) e d = never cc
-nothing-left (kept l' os ls rest x) e d = never cc
-nothing-left (left-out o os ls rest r x) e d = never cc
+pub at-the-end : {os ls rest : List Bytes} → LeavesOut os ls rest → os ≡ [] → ls ≡ []
+at-the-end (up-to rest) e = refl
+at-the-end (kept l os ls rest x) e = never cc
+at-the-end (left-out o os ls rest r x) e = never cc
+
+nothing-left : {ls rest : List Bytes} {l : Bytes} → LeavesOut [] (l ∷ ls) rest → ⊥
+nothing-left x = let none-there = at-the-end x refl in never cc
 
 -- where the proposal has ended, what is left over are rule lines, if the rest is
 rules-left : (os : List Bytes) → all ruleLine os ≡ true → LeavesOut os [] []
@@ -45,7 +49,7 @@ rules-same (up-to rest) = refl
 rules-same (left-out o os ls rest r x) = rw r (rules-same x)
 
 -- Of lines that match the first ones do
-pub first-match : {os ms rest : List Bytes} → LeavesOut os ms rest → (xs ys : List Bytes) → ms ≡ xs ++ ys → Match os xs
+first-match : {os ms rest : List Bytes} → LeavesOut os ms rest → (xs ys : List Bytes) → ms ≡ xs ++ ys → Match os xs
 first-match (up-to rest) [] ys e = (rest, up-to rest)
 first-match (up-to rest) (x ∷ xs) ys e = never cc
 first-match (kept l os ls rest y) [] ys e = (l ∷ os, up-to (l ∷ os))
@@ -119,7 +123,7 @@ told k os [] = go (test (all ruleLine os))
     go : Test (all ruleLine os) → Told k os [] (firstOther k os [])
     go (passed e) = rw e (no-other (rules-left os e))
     go (failed e) = rw e (one-over (record { matching = (os, up-to os); left-over = λ rest x. sym (rules-same x) ∙ e }))
-told k [] (l ∷ ls) = first-other k [] ls l (λ m. nothing-left (m .1) refl refl)
+told k [] (l ∷ ls) = first-other k [] ls l (λ m. nothing-left (m .1))
 told k (o ∷ os) (l ∷ ls) = go (test (same o l)) (test (ruleLine o)) (told (suc k) os ls) (told k os (l ∷ ls))
   where
     go : Test (same o l) → Test (ruleLine o) → Told (suc k) os ls (firstOther (suc k) os ls) → Told k os (l ∷ ls) (firstOther k os (l ∷ ls)) → Told k (o ∷ os) (l ∷ ls) (firstOther k (o ∷ os) (l ∷ ls))
@@ -152,21 +156,18 @@ pub data Found (os ls : List Bytes) : ℕ → Type 0 where
   other : (n : ℕ) → OtherLine os ls n → Found os ls n
   over : LeftOver os ls → Found os ls 0
 
-some-is : {n m : ℕ} → some n ≡ some m → n ≡ m
-some-is e = cc
-
 pub found-so : (os ls : List Bytes) (n : ℕ) → firstOther 1 os ls ≡ some n → Found os ls n
 found-so os ls n h = go (told 1 os ls) h
   where
     go : {x : Option ℕ} → Told 1 os ls x → x ≡ some n → Found os ls n
     go (no-other y) e = never cc
-    go (one-other m y) e = let at : suc m ≡ n = omega (arith, some-is e) in subst (Found os ls) at (other (suc m) y)
+    go (one-other m y) e = let at : suc m ≡ n = omega (arith, some-some e) in subst (Found os ls) at (other (suc m) y)
     go (one-over y) e = let at : 0 ≡ n = cc in subst (Found os ls) at (over y)
 
 -- and each of these is found
 other-at : (k : ℕ) (os before after : List Bytes) (l : Bytes) → Match os before → (Match os (before ++ (l ∷ [])) → ⊥) → firstOther k os (before ++ (l ∷ after)) ≡ some (k + length before)
 other-at k [] [] after l m none-so = ap some (sym (add-zero k))
-other-at k [] (x ∷ before) after l m none-so = absurd (nothing-left (m .1) refl refl)
+other-at k [] (x ∷ before) after l m none-so = absurd (nothing-left (m .1))
 other-at k (o ∷ os) [] after l m none-so = go (test (same o l)) (test (ruleLine o)) (other-at k os [] after l)
   where
     go : Test (same o l) → Test (ruleLine o) → (Match os [] → (Match os (l ∷ []) → ⊥) → firstOther k os (l ∷ after) ≡ some (k + 0)) → firstOther k (o ∷ os) (l ∷ after) ≡ some (k + 0)

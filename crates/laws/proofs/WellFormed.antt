@@ -18,6 +18,7 @@ use Rattle.meaning.specs.Claims.Texts.{All, Each, DistinctNames}
 use Rattle.meaning.specs.Claims.PolicyFile.{GoodAttribute, attributeFields, attributeNames, Placed, NewName, GoodLines, WellFormed}
 use Rattle.laws.proofs.Types.{Element, Obligation, rule}
 use Rattle.laws.proofs.Bools.{contradiction, and-true, Test, passed, failed, test}
+use Rattle.laws.proofs.Lists.{map-map}
 use Rattle.laws.proofs.Text.{Frees, cut-join, join-free, frees-append}
 use Rattle.laws.proofs.Reading.{Passes, Numbered, line-numbered, PassesLine, read-step⁻, accepted, short-text}
 use Rattle.laws.proofs.Fields.{fields-free, name-field}
@@ -153,10 +154,6 @@ all-taken attrs (e ∷ es) before n m more c h p =
 all-before : {A : Type 0} (P : A → Type 0) (xs ys : List A) → All P (xs ++ ys) → All P xs
 all-before P [] ys a = tt
 all-before P (x ∷ xs) ys a = (a .0, all-before P xs ys (a .1))
-
-map-map : {A B C : Type 0} (f : B → C) (g : A → B) (xs : List A) → map f (map g xs) ≡ map (λ x. f (g x)) xs
-map-map f g [] = refl
-map-map f g (x ∷ xs) = ap (λ ys. f (g x) ∷ ys) (map-map f g xs)
 
 attributes-free : (bs : List Attribute) → All GoodAttribute bs → Frees newline (map attributeText bs)
 attributes-free [] g = tt

@@ -3,9 +3,9 @@ use mathlib.Core.Path.{_≡_}
 use mathlib.Core.Logic.{_≢_, _↔_}
 use Prim.Native.Nat.{ℕ, _≤_, _<_}
 use mathlib.Core.Bool.{not}
-use mathlib.Core.List.{List, [], List·Memᴰ}
+use mathlib.Core.List.{List, [], map, List·Memᴰ}
 use lib.ListN.{length}
-use Rattle.meaning.specs.Text.{Bytes, keep, join, newline}
+use Rattle.meaning.specs.Text.{Bytes, keep, join, newline, tab}
 use Rattle.meaning.specs.Model.{Word, Decision, Attribute, Element, Policy, space, Result, refused, given}
 use Rattle.meaning.specs.Reading.{read}
 use Rattle.meaning.specs.Deciding.{Reply, combined, Outcome, decisionOn, decideFile}
@@ -15,7 +15,7 @@ use Rattle.meaning.specs.Report.{report}
 use Rattle.meaning.specs.ValuePairs.{pairsNamed}
 use Rattle.meaning.specs.RuleByRule.{nextName, strikeNamed}
 use Rattle.meaning.specs.HeldState.{stepOn}
-use Rattle.meaning.specs.Accepting.{judged}
+use Rattle.meaning.specs.Accepting.{fileLines, judged}
 use Rattle.meaning.specs.Writing.{writeFile}
 use Rattle.meaning.specs.Claims.Texts.{All, Texts}
 use Rattle.meaning.specs.Claims.PolicyFile.{GoodAttribute, Spelled, WellFormed, Reads}
@@ -93,8 +93,9 @@ pub record Promises : Type 0 where
   pub no-needless-rule : (f : Bytes) (p : Policy) → read f ≡ given p → (name : Bytes) (n m : ℕ) → strikeNamed f name ≡ refused n m ↔ ((NeedlessRule f name → ⊥) × (n ≡ 15) × (m ≡ 0))
   -- a held state: what a step leaves
   pub steps-once : (f : Bytes) (p : Policy) → read f ≡ given p → StepsOnce f (stepOn f)
-  -- a proposal beside its original: it is accepted exactly if it is sound, and refused exactly as the request says; the trimmed text is
+  -- a proposal beside its original, line by line: it is accepted exactly if it is sound, and refused exactly as the request says; the trimmed text is
   -- accepted
+  pub proposal-lines : (f : Bytes) (p : Policy) (w : WellFormed f p) → fileLines f ≡ map (join tab) (w .rows)
   pub accepting : (f : Bytes) (p : Policy) (g : Bytes) (q : Policy) → read f ≡ given p → read g ≡ given q → (t : Bytes) → judged f p g q ≡ given t ↔ (Sound f p g q × (t ≡ g))
   pub not-accepting : (f : Bytes) (p : Policy) (g : Bytes) (q : Policy) → read f ≡ given p → read g ≡ given q → (n m : ℕ) → judged f p g q ≡ refused n m ↔ Unsound f p g q n m
   pub own-trimmed : (f : Bytes) (p : Policy) → read f ≡ given p → (q : Policy) × (read (trimmed f .text) ≡ given q) × Sound f p (trimmed f .text) q

@@ -5,7 +5,7 @@ use Prim.Native.Nat.{ℕ, _<_}
 use mathlib.Core.Bool.{Bool, true, not, _&&_}
 use mathlib.Core.List.{List, [], _∷_, _++_, map}
 use lib.ListN.{length, getD}
-use Rattle.meaning.specs.Text.{Bytes, bytes, any, keep, gathered, same, line}
+use Rattle.meaning.specs.Text.{Bytes, bytes, any, keep, gathered, same, join, tab, line}
 use Rattle.meaning.specs.Model.{rule, kindText, Element, nameOf, Policy, space, given}
 use Rattle.meaning.specs.Reading.{read}
 use Rattle.meaning.specs.Deciding.{outcome, decideFile}
@@ -14,9 +14,10 @@ use Rattle.meaning.specs.Segments.{Conflict}
 use Rattle.meaning.specs.Claims.Segments.{Segmented, ConflictsListed}
 use Rattle.meaning.specs.Claims.ReportLines.{segmentRow, conflictRow, struckRow, keptRow, fieldLines}
 
--- The lines of a policy file by their fields: a rule's begins with `R`, its name is its third field; to strike a line is to
+-- The lines of a policy file by their fields, and nothing behind the last: a rule's begins with `R`, its name is its third field; to strike a line is to
 -- leave out its bytes with its newline, and no others
 pub record Lines (f : Bytes) (rows : List (List Bytes)) : Type 0 where
+  pub are : lines f ≡ map (join tab) rows ++ ([] ∷ [])
   pub rule-lines : (k : ℕ) → isRuleLine f k ≡ true ↔ (getD (getD rows k []) 0 [] ≡ bytes "R")
   pub names : (k : ℕ) → nameAt f k ≡ getD (getD rows k []) 2 []
   pub struck : (before after : List (List Bytes)) (l : List Bytes) → rows ≡ before ++ (l ∷ after) → strike (length before) f ≡ gathered line (before ++ after)
