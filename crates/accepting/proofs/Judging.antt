@@ -1,9 +1,9 @@
 -- A proposal that flags stand for: what is found by them is what the meaning tells.
 use mathlib.Core.Path.{_≡_, refl, sym, ap, ap₂, _∙_, subst}
-use Prim.Native.Nat.{ℕ, zero, suc, _+_, _-_, _≤_, _<_, zero-le}
+use Prim.Native.Nat.{ℕ, suc, _+_, _-_, _≤_, _<_, zero-le}
 use native.Mathlib.Numerals.{add-one}
 use native.Mathlib.Omega.{arith}
-use mathlib.Core.Bool.{Bool, true, false, not, cond}
+use mathlib.Core.Bool.{Bool, true, false, not}
 use mathlib.Core.List.{List}
 use mathlib.Core.Option.{Option, none, some, Option·map}
 use lib.ListN.{length, getD}
@@ -15,7 +15,7 @@ use Rattle.meaning.specs.Deciding.{sameOutcome, outcome}
 use Rattle.meaning.specs.Trimming.{lines, firstChanged, needless}
 use Rattle.meaning.specs.Accepting.{fileLines, firstOther, firstNeedless, unlessFound, judged, acceptFile}
 use Rattle.meaning.specs.Operations.{answered, acceptAnswer}
-use Rattle.laws.proofs.Search.{none-some, some-some, first-some, first-none}
+use Rattle.laws.proofs.Search.{first-some, first-none}
 use Rattle.laws.proofs.Outcomes.{same-outcome}
 use Rattle.laws.proofs.OtherLines.{none-other}
 use Rattle.table.specs.declared.Shape.{Shape}
@@ -25,7 +25,7 @@ use Rattle.outcomes.specs.Decided.{none-struck, decidedAt}
 use Rattle.outcomes.specs.PolicyTable.{PolicyTable, OutcomesLaid}
 use Rattle.outcomes.proofs.Searching.{first-alike}
 use Rattle.obligations.specs.Given.{outcomeLeft}
-use Rattle.differences.specs.Apart.{apart}
+use Rattle.differences.specs.Apart.{apart, Untouched}
 use Rattle.trials.specs.Decided as table-level
 use Rattle.trimmed_text.specs.Flags.{leftPolicy, textLeft, needlessAt}
 use Rattle.trimmed_text.specs.Held.{PolicyHeld}
@@ -131,7 +131,7 @@ module _ (f table places : List ℕ) (s : Shape) (held : PolicyHeld f table plac
   unfolding apart
   changed-is =
       let each : (m : ℕ) → differs f places table s flags m ≡ not (sameOutcome (outcome p m) (outcome q m)) =
-      λ m. ap₂ (λ a b. not (sameOutcome a b)) (gets none-struck refl m ∙ ap (λ x. outcome x m) whole-policy) (gets flags (left .first) m) in
+      λ m. ap₂ (λ a b. not (sameOutcome a b)) (gets none-struck refl m ∙ ap (λ x. outcome x m) whole-policy) (gets flags (left .ready .stays) m) in
       sym (λ j. firstFrom (λ m. each m j) 0 (held .space-is j))
 
   needless-is-first : firstFrom (needless g) 0 (length (lines g)) ≡ Option·map (lineAt p flags) (rules f places table s flags)
@@ -141,7 +141,7 @@ module _ (f table places : List ℕ) (s : Shape) (held : PolicyHeld f table plac
       ∙ first-flag f p h flags (left .stands-so)
       ∙ ap (Option·map (lineAt p flags))
       (ap (firstFrom (needlessAt p flags) 0) size
-      ∙ sym (first-alike (table-level.needlessAt f places table (s .n) (hitOf s) (s .space) flags) (needlessAt p flags) 0 (s .n) (λ i l u. needless-is f p h table places (s .n) (held .elements) size (hitOf s) (s .space) (held .hits-are) (held .space-is) flags (left .first) i (omega arith))))
+      ∙ sym (first-alike (table-level.needlessAt f places table (s .n) (hitOf s) (s .space) flags) (needlessAt p flags) 0 (s .n) (λ i l u. needless-is f p h table places (s .n) (held .elements) size (hitOf s) (s .space) (held .hits-are) (held .space-is) flags (left .ready .stays) i (omega arith))))
 
   pub judged-so : judgedAt f places table s flags ≡ acceptAnswer f g
   unfolding judgedAt judged acceptFile
@@ -160,22 +160,9 @@ module _ (f table places : List ℕ) (s : Shape) (held : PolicyHeld f table plac
   left-so : RulesLeft f table places s held flags
   left-so = subst (RulesLeft f table places s held) (sym are) (flags-left f table places s held g)
 
-  pub ready-left : PolicyTable table flags s
-  ready-left =
-      let ready = held .ready in
-      record {
-        rows = ready .rows;
-        flags = omega (arith, left-so .room, ready .few);
-        some = ready .some;
-        few = ready .few;
-        root = ready .root;
-        stays = left-so .first;
-        leaves = ready .leaves;
-        rules = left-so .rules;
-        counted = ready .counted;
-        positive = ready .positive;
-        small = ready .small;
-      }
+  -- what judging asks of them
+  pub ready-left : PolicyTable table flags s × Untouched f places table none-struck flags s
+  ready-left = (left-so .ready, left-so .untouched)
 
   pub judged-whole : leaving f places table (s .n) g none-struck .whole ≡ true → judgedAt f places table s flags ≡ acceptAnswer f g
   judged-whole whole = judged-so f table places s held g flags left-so (whole-left f table places s held g whole ∙ ap (textLeft f (held .policy)) (sym are))

@@ -1,12 +1,11 @@
 -- A proposal that flags do not stand for: its refusal, or its first other line.
 use mathlib.Core.Path.{_≡_, refl, sym, ap, _∙_}
 use Prim.Native.Nat.{ℕ}
-use mathlib.Core.List.{List, [], _∷_, _++_}
+use mathlib.Core.List.{List}
 use mathlib.Core.Option.{Option, none, some}
 use Rattle.meaning.specs.Text.{Bytes}
-use Rattle.meaning.specs.Model.{Policy, refused, given}
+use Rattle.meaning.specs.Model.{Policy, given}
 use Rattle.meaning.specs.Reading.{read}
-use Rattle.meaning.specs.Trimming.{lines}
 use Rattle.meaning.specs.Accepting.{fileLines, firstOther, judged, acceptFile}
 use Rattle.meaning.specs.Operations.{acceptAnswer}
 use Rattle.laws.proofs.Reading.{accepted}

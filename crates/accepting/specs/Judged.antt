@@ -2,15 +2,15 @@
 use mathlib.Core.Path.{_≡_}
 use Prim.Native.Nat.{ℕ, zero, suc, _+_}
 use mathlib.Core.Bool.{cond}
-use mathlib.Core.List.{List, [], _∷_, _++_}
+use mathlib.Core.List.{List, []}
 use mathlib.Core.Option.{Option, none, some}
 use Rattle.meaning.specs.Text.{Bytes, firstFrom}
 use Rattle.meaning.specs.Model.{Policy, given}
 use Rattle.meaning.specs.Reading.{read}
-use Rattle.meaning.specs.Trimming.{lines}
 use Rattle.meaning.specs.Accepting.{fileLines}
 use Rattle.meaning.specs.declared.Answer.{Answer}
 use Rattle.meaning.specs.Claims.Accepting.{LeavesOut}
+use Rattle.other_lines.specs.Ended.{Ended}
 use Rattle.table.specs.declared.Shape.{Shape}
 use Rattle.table.specs.Shape.{hitOf}
 use Rattle.outcomes.specs.Decided.{none-struck}
@@ -41,4 +41,4 @@ judgedAt f places t s struck =
 pub record LeavesOthersOut (f g : Bytes) : Type 0 where
   pub policy : Policy
   pub is-read : read f ≡ given policy
-  pub others : lines g ≡ fileLines g ++ ([] ∷ []) → LeavesOut (fileLines f) (fileLines g) [] → ⊥
+  pub others : Ended g → LeavesOut (fileLines f) (fileLines g) [] → ⊥

@@ -10,6 +10,7 @@ ghost use Rattle.table.specs.Tree.{placeOr};
 ghost use Rattle.table.specs.Shape.{hitOf};
 ghost use Rattle.outcomes.specs.Decided.{none-struck};
 ghost use Rattle.outcomes.specs.PolicyTable.{PolicyTable};
+ghost use Rattle.differences.specs.Apart.{Untouched};
 ghost use Rattle.trials.specs.Decided.{needlessAt};
 ghost use Rattle.trials.specs.Steady.{Steady};
 ghost use Rattle.trials.specs.Trial.{Laid};
@@ -74,7 +75,7 @@ fn first_needless(
 
 // What a proposal gets that is the file's lines without those of the rules struck. The decisions of the file are laid down once; where the proposal gives the same, they are its own.
 fn judge(file: &[u8], table: &[u16], places: &[usize], shape: Shape, struck: &mut [u8]) -> Answer
-    requires { ⌜ Steady (now file) (now places) (now table) shape × PolicyTable (now table) none-struck shape × PolicyTable (now table) (now struck) shape ⌝ }
+    requires { ⌜ Steady (now file) (now places) (now table) shape × PolicyTable (now table) none-struck shape × PolicyTable (now table) (now struck) shape × Untouched (now file) (now places) (now table) none-struck (now struck) shape ⌝ }
     ensures { λ r. ⌜ (r ≡ judgedAt (now (file .entry)) (now (places .entry)) (now (table .entry)) shape (now (struck .entry))) × (now (struck .exit) ≡ now (struck .entry)) ⌝ }
 {
     let n = shape.n;

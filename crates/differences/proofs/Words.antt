@@ -1,4 +1,4 @@
--- Words of marks that differ, one element after the other.
+-- Words of marks that differ, and of requests that match elements struck, one element after the other.
 use Prim.Native.Nat.{ℕ, _+_, _*_}
 use mathlib.Core.Path.{_≡_, refl, sym, ap, _∙_}
 use mathlib.Core.Bool.{Bool, true, false}
@@ -12,6 +12,7 @@ use Rattle.laws.proofs.Bools.{or-false}
 use Rattle.outcomes.proofs.Searching.{up-to}
 use Rattle.layout.specs.Places.{obligationEnd}
 use Rattle.obligations.specs.Given.{marksIn}
+use Rattle.differences.specs.Apart.{Touched}
 use Rattle.differences.specs.Marks.{Marked}
 
 xor-same : (a b : Bool) → xor a b ≡ false → a ≡ b
@@ -35,3 +36,17 @@ module _ (places one other : List ℕ) (word i : ℕ) (so-far : Marked places i 
       let b = getD other i 0 in
       let (before, here) = or-false (bit word v) (bit (bitXor a b) v) (sym (bit-or word (bitXor a b) v) ∙ off) in
       up-to (Agrees v) i (λ k below. so-far v k before below) (λ some. xor-same (bit a v) (bit b v) (sym (bit-xor a b v) ∙ here)) j l
+
+module _ (struck hits : List ℕ) (block word i : ℕ) (so-far : Touched struck hits i block word) where
+  -- element j does not have the bit if it is struck
+  abbrev Off : (v j : ℕ) → Type 0
+  Off v j = (getD struck j 0 ≡ 0 → ⊥) → bit (getD hits (64 * j + block) 0) v ≡ false
+
+  pub touched-skip : getD struck i 0 ≡ 0 → Touched struck hits (i + 1) block word
+  touched-skip live v j off l = up-to (Off v) i (λ k below. so-far v k off below) (λ gone. absurd (gone live)) j l
+
+  pub touched-next : Touched struck hits (i + 1) block (bitOr word (getD hits (64 * i + block) 0))
+  touched-next v j off l =
+      let here = getD hits (64 * i + block) 0 in
+      let (before, own) = or-false (bit word v) (bit here v) (sym (bit-or word here v) ∙ off) in
+      up-to (Off v) i (λ k below. so-far v k before below) (λ gone. own) j l

@@ -11,7 +11,7 @@ ghost use Rattle.table.specs.Shape.{hitOf};
 ghost use Rattle.outcomes.specs.Decided.{differsAt};
 ghost use Rattle.outcomes.specs.Changes.{InBlock};
 ghost use Rattle.obligations.specs.Given.{anyObliged, Giving};
-ghost use Rattle.differences.specs.Apart.{apart, Compared, Suspects};
+ghost use Rattle.differences.specs.Apart.{apart, Compared, Suspects, Untouched, Touched};
 ghost use Rattle.differences.specs.Marks.{Marked, LikeMarks, othersGiven, Among};
 
 // The requests on which an element that has obligations is marked in one of the two and not in the other.
@@ -166,7 +166,25 @@ pub fn difference_in(
     )
 }
 
-// The first request of all that gets another decision under `struck` than under `before`, or other obligations, or the number of requests; `outcomes` has the decisions under `before`.
+// The requests of the block that match an element struck.
+fn touched(struck: &[u8], hits: &[u64], n: usize, block: usize) -> u64
+    requires { ⌜ (n ≤ length (now struck)) × (n ≤ 64) × (64 * n ≤ length (now hits)) × (block < 64) ⌝ }
+    ensures { λ r. ⌜ Touched (now (struck .entry)) (now (hits .entry)) n block r ⌝ }
+{
+    let mut word = 0;
+    let mut i = 0;
+    while i < n {
+        if struck[i] == 0 {
+            i += 1;
+            continue;
+        }
+        word = word | hits[64 * i + block];
+        i += 1;
+    }
+    word
+}
+
+// The first request of all that gets another decision under `struck` than under `before`, or other obligations, or the number of requests; `outcomes` has the decisions under `before`. Only requests that match an element struck can.
 pub fn first_difference(
     file: &[u8],
     places: &[usize],
@@ -177,13 +195,18 @@ pub fn first_difference(
     shape: Shape,
     outcomes: &[u64],
 ) -> usize
-    requires { ⌜ Compared (now file) (now places) (now table) (now before) (now struck) (now hits) (now outcomes) shape ⌝ }
+    requires { ⌜ Compared (now file) (now places) (now table) (now before) (now struck) (now hits) (now outcomes) shape × Untouched (now file) (now places) (now table) (now before) (now struck) shape ⌝ }
     ensures { λ r. ⌜ r ≡ placeOr (shape .space) (firstFrom (apart (now (file .entry)) (now (places .entry)) (now (table .entry)) (shape .n) (hitOf shape) (now (before .entry)) (now (struck .entry))) 0 (shape .space)) ⌝ }
 {
     let space = shape.space;
     let obliged = obligations::any_obligations(places, shape.n);
     let mut block = 0;
     while 64 * block < space {
+        let on = touched(struck, hits, shape.n, block);
+        if on == 0 {
+            block += 1;
+            continue;
+        }
         let first = difference_in(
             file,
             places,
@@ -195,7 +218,7 @@ pub fn first_difference(
             outcomes,
             obliged,
             block,
-            18446744073709551615,
+            on,
         );
         if first < space {
             return first;

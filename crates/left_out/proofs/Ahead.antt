@@ -1,14 +1,14 @@
 -- Lines that a proposal still has to match: some of them taken at once, or passed over.
-use mathlib.Core.Path.{_≡_, refl, sym, ap, _∙_, subst}
-use Prim.Native.Nat.{ℕ, suc, _+_}
+use mathlib.Core.Path.{_≡_, refl, sym, ap, _∙_}
+use Prim.Native.Nat.{_+_}
 use native.Mathlib.Omega.{arith}
-use mathlib.Core.Bool.{true, false}
-use mathlib.Core.List.{List, [], _∷_, _++_, map, append-assoc}
+use mathlib.Core.Bool.{false}
+use mathlib.Core.List.{List, [], _∷_, _++_, append-assoc}
 use lib.ListN.{length, length-append}
-use Rattle.meaning.specs.Text.{Bytes, all, cut, join, newline}
+use Rattle.meaning.specs.Text.{Bytes, cut, join, newline}
 use Rattle.meaning.specs.Trimming.{ruleLine}
 use Rattle.laws.proofs.Bools.{contradiction, never}
-use Rattle.laws.proofs.Text.{Free, Frees, cut-append, join-cut}
+use Rattle.laws.proofs.Text.{Frees, cut-append, join-cut}
 use Rattle.laws.proofs.Lines.{unlines}
 use Rattle.meaning.specs.Claims.Accepting.{LeavesOut, up-to, kept, left-out}
 use Rattle.laws.proofs.OtherLines.{taken}
@@ -41,12 +41,6 @@ plain-lines (y ∷ xs) os ls rest plain x e =
     let (ms, here, later) = plain-one x e (plain .0) in
     let (ns, there) = plain-lines xs os ms rest (plain .1) later e in
     (ns, here ∙ ap (λ zs. y ∷ zs) there)
-
--- nothing is left of a proposal whose original has ended
-pub at-the-end : {os ls rest : List Bytes} → LeavesOut os ls rest → os ≡ [] → ls ≡ []
-at-the-end (up-to rest) e = refl
-at-the-end (kept l os ls rest x) e = never cc
-at-the-end (left-out o os ls rest r x) e = never cc
 
 -- A text of lines that begins with the text of some begins with these
 pub record Begun (xs ls : List Bytes) (r : Bytes) : Type 0 where

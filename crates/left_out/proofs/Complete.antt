@@ -1,27 +1,26 @@
 -- A proposal whose lines are the file's with only rule lines left out is matched to its end.
 use mathlib.Core.Path.{_≡_, refl, sym, ap, ap₂, _∙_, subst}
 use Prim.Native.Nat.{ℕ, zero, suc, _+_, _-_, _≤_, _<_}
-use native.Mathlib.Nat.{add-zero, zero-add, sub-zero}
-use native.Mathlib.Numerals.{add-one}
+use native.Mathlib.Nat.{add-zero, zero-add}
 use native.Mathlib.Omega.{arith}
-use mathlib.Core.Bool.{Bool, true, false}
+use mathlib.Core.Bool.{true, false}
 use mathlib.Core.List.{List, [], _∷_, _++_, map}
 use lib.Dec.{ltb}
 use lib.ListN.{length, getD, take, drop, set, take-append-drop, length-drop, length-append, length-map, drop-of-length-le}
 use lib.Seq.{drop-drop, take-append-seam, length-take-le, take-at, drop-at}
 use borrow.Author.Tests.{eq-eqb}
 use Rattle.meaning.specs.Text.{Bytes, keep, same, newline}
-use Rattle.meaning.specs.Model.{obligationsOf, Policy, given}
-use Rattle.meaning.specs.Reading.{read}
+use Rattle.meaning.specs.Model.{obligationsOf, Policy}
 use Rattle.meaning.specs.Trimming.{lines, ruleLine}
 use Rattle.meaning.specs.Claims.Trimming.{isRule}
 use Rattle.meaning.specs.Claims.Writing.{attributeLine}
 use Rattle.laws.proofs.Types.{Element}
-use Rattle.laws.proofs.Bools.{Test, passed, failed, test, contradiction}
+use Rattle.laws.proofs.Bools.{contradiction}
 use Rattle.laws.proofs.Text.{Frees, cut-frees, same-true, same-refl}
 use Rattle.laws.proofs.Lines.{unlines, unlines-append, text-unlines, frees-front}
 use Rattle.laws.proofs.Places.{linesIn}
 use Rattle.laws.proofs.Bounds.{bounded}
+use Rattle.laws.proofs.OtherLines.{at-the-end}
 use Rattle.layout.specs.Places.{part, startOf, obligationCount, linesTo}
 use Rattle.table.specs.declared.Shape.{Shape}
 use Rattle.table.specs.Rows.{wordNumber}
@@ -39,10 +38,10 @@ use Rattle.meaning.specs.Accepting.{fileLines}
 use Rattle.meaning.specs.Claims.Accepting.{LeavesOut}
 use Rattle.left_out.proofs.Text.{Way, stands, is-struck, is-other, way}
 use Rattle.left_out.proofs.RuleMarks.{ownMarks, marks, attributes-marked, elements-marked}
-use Rattle.left_out.proofs.Ahead.{taken-all, passed-over, Plain, plain-lines, at-the-end, begun}
+use Rattle.left_out.proofs.Ahead.{taken-all, passed-over, Plain, plain-lines, begun}
 
 -- lines by their marks
-pub plain-marked : (xs : List Bytes) {A : Type 0} (ys : List A) → map ruleLine xs ≡ map (λ y. false) ys → Plain xs
+plain-marked : (xs : List Bytes) {A : Type 0} (ys : List A) → map ruleLine xs ≡ map (λ y. false) ys → Plain xs
 plain-marked [] ys e = tt
 plain-marked (x ∷ xs) [] e = absurd (omega (arith, ap length e))
 plain-marked (x ∷ xs) (y ∷ ys) e = (cc, plain-marked xs ys cc)
@@ -65,21 +64,21 @@ map-take F (suc k) (x ∷ xs) = ap (λ ys. F x ∷ ys) (map-take F k xs)
 module _ (f : Bytes) (places t : List ℕ) (n : ℕ) (g : Bytes) (at : ℕ) (inside : at ≤ length g) (ls : List Bytes) (text : drop at g ≡ unlines ls) (free : Frees newline ls)
     (start end : ℕ) (xs : List Bytes) (own : part f start end ≡ unlines xs) (size : end - start ≡ length (unlines xs)) (plain : Frees newline xs) where
   -- they begin with those of an element
-  pub begins-so : (ms : List Bytes) → ls ≡ xs ++ ms → begins f places t n g at start end ≡ true
+  begins-so : (ms : List Bytes) → ls ≡ xs ++ ms → begins f places t n g at start end ≡ true
   begins-so ms e =
       let count : at + (end - start) - at ≡ length (unlines xs) = omega arith in
       let there : part g at (at + (end - start)) ≡ unlines xs =
       ap₂ take count (text ∙ ap unlines e ∙ unlines-append xs ms) ∙ take-append-seam (unlines xs) (unlines ms) in
       ap₂ same there own ∙ same-refl (unlines xs)
 
-  pub record Next : Type 0 where
-    pub others : List Bytes
-    pub are : ls ≡ xs ++ others
-    pub text-behind : drop (at + (end - start)) g ≡ unlines others
-    pub free-behind : Frees newline others
-    pub inside-behind : at + (end - start) ≤ length g
+  record Next : Type 0 where
+    others : List Bytes
+    are : ls ≡ xs ++ others
+    text-behind : drop (at + (end - start)) g ≡ unlines others
+    free-behind : Frees newline others
+    inside-behind : at + (end - start) ≤ length g
 
-  pub so-begins : begins f places t n g at start end ≡ true → Next
+  so-begins : begins f places t n g at start end ≡ true → Next
   so-begins e =
       let k = at + (end - start) - at in
       let count : k ≡ length (unlines xs) = omega arith in

@@ -1,33 +1,38 @@
 -- Flags of rules that a proposal leaves out: what they leave is accepted, and leaves out rule lines alone.
 use mathlib.Core.Path.{_≡_, refl, sym, ap, _∙_, subst}
-use mathlib.Core.Logic.{_≢_}
 use Prim.Native.Nat.{ℕ, zero, suc, _+_, _-_, _≤_, _<_}
 use native.Mathlib.Omega.{arith}
-use mathlib.Core.Bool.{true, false, _&&_}
+use mathlib.Core.Bool.{true, false, not}
 use mathlib.Core.List.{List, [], _∷_, _++_}
 use lib.Dec.{eqb, ltb}
-use lib.ListN.{length, getD, set, length-set}
-use lib.Seq.{getD-set-same, getD-set-other}
-use borrow.Author.Tests.{eqb-true, eqb-false, eq-eqb, ltb-true}
+use lib.ListN.{length, getD, set}
+use lib.Seq.{getD-set-other}
+use borrow.Author.Tests.{eqb-true, eqb-false, eq-eqb}
 use Rattle.meaning.specs.Text.{Bytes, front, without}
 use Rattle.meaning.specs.Model.{Policy, given}
 use Rattle.meaning.specs.Reading.{read}
-use Rattle.meaning.specs.Trimming.{lines, ruleLine, isRuleLine, strike}
+use Rattle.meaning.specs.Deciding.{sameOutcome}
+use Rattle.meaning.specs.Trimming.{ruleLine, isRuleLine, strike}
 use Rattle.laws.proofs.Bools.{Test, passed, failed, test, contradiction}
 use Rattle.laws.proofs.Reading.{accepted, front-snoc}
+use Rattle.laws.proofs.Outcomes.{outcome-same}
 use Rattle.laws.proofs.Striking.{strike-without}
 use Rattle.table.specs.declared.Shape.{Shape}
-use Rattle.table.specs.Rows.{wordNumber}
-use Rattle.table.specs.Tree.{RulesStruck}
+use Rattle.table.specs.Rows.{wordNumber, elementAt}
+use Rattle.table.specs.Shape.{hitOf}
 use Rattle.outcomes.specs.Decided.{none-struck}
 use Rattle.outcomes.specs.PolicyTable.{PolicyTable}
-use Rattle.trimmed_text.specs.Flags.{isLeft, leftPolicy, textLeft, ruleIn, keptAt}
+use Rattle.obligations.specs.Given.{outcomeLeft}
+use Rattle.differences.specs.Apart.{apart, Untouched}
+use Rattle.trials.specs.Steady.{Aside}
+use Rattle.trials.proofs.Trying.{set-back, aside}
+use Rattle.trimmed_text.specs.Flags.{leftPolicy, textLeft, keptAt}
 use Rattle.trimmed_text.specs.Held.{PolicyHeld}
 use Rattle.trimmed_text.proofs.ByPlace.{effect-is}
 use Rattle.trimmed_text.proofs.Steps.{Stands, lineAt, text-whole, stands-whole, kept-line, strike-flag, stands-next}
 use Rattle.trimmed_text.proofs.Placed.{text-copied}
 use Rattle.trimmed_text.proofs.Whole.{none-clear}
-use Rattle.trimmed_text.proofs.Held.{sizes}
+use Rattle.trimmed_text.proofs.Held.{sizes, steady-held}
 use Rattle.left_out.specs.Leaving.{leavingFrom, leaving, begins}
 use Rattle.layout.specs.Places.{startOf}
 use Rattle.meaning.specs.Accepting.{fileLines}
@@ -70,37 +75,53 @@ module _ (f table places : List ℕ) (s : Shape) (held : PolicyHeld f table plac
   pub record RulesLeft (struck : List ℕ) : Type 0 where
     pub stands-so : Stands f p struck
     pub leaves : LeavesOut (fileLines f) (fileLines (textLeft f p struck)) []
-    pub rules : RulesStruck table struck (s .n)
-    pub first : getD struck 0 0 ≡ 0
-    pub room : length struck ≡ 64
+    pub ready : PolicyTable table struck s
+    pub untouched : Untouched f places table none-struck struck s
 
   none-left : RulesLeft none-struck
+  unfolding apart
   none-left = record {
     stands-so = stands-whole f p h none-struck none-clear (omega (arith, sizes f table places s held, held .ready .few));
     leaves = subst (λ t. LeavesOut (fileLines f) (fileLines t) []) (sym (text-whole f p h none-struck none-clear)) (all-kept (fileLines f));
-    rules = held .ready .rules;
-    first = refl;
-    room = refl;
+    ready = held .ready;
+    untouched = λ m l none. ap not (outcome-same (outcomeLeft (hitOf s m) f table places none-struck (s .n)));
   }
 
-  one-more : (struck : List ℕ) (i : ℕ) → i < s .n → getD struck i 0 ≡ 0 → ltb (wordNumber table i) 2 ≡ true → RulesLeft struck → RulesLeft (set struck i 1)
-  one-more struck i l clear effect left =
-      let x = left .stands-so in
-      let rule : ruleIn (p .elements) i ≡ true = sym (effect-is f p h table places (s .n) (held .elements) i l) ∙ effect in
-      let kept-so : keptAt p struck i ≡ true = rw (eq-eqb (getD struck i 0) 0 clear, rule) in
-      let k = lineAt p struck i in
-      let low = ltb-true (wordNumber table i) 2 effect in
-      record {
-        stands-so = stands-next f p h struck x i kept-so;
-        leaves = subst (λ t. LeavesOut (fileLines f) (fileLines t) []) (strike-flag f p h struck x i kept-so) (strike-leaves (fileLines f) (textLeft f p struck) (leftPolicy p struck) (x .accepts) k (kept-line f p h struck x i kept-so) (left .leaves));
-        rules = λ j b set-so. at j b set-so (test (eqb j i)) low;
-        first = getD-set-other struck i 0 1 0 (λ e. omega (arith, ap (wordNumber table) e, held .ready .root)) ∙ left .first;
-        room = length-set struck i 1 ∙ left .room;
-      }
-    where
-      at : (j : ℕ) → j < s .n → (getD (set struck i 1) j 0 ≡ 0 → ⊥) → Test (eqb j i) → wordNumber table i < 2 → wordNumber table j < 2
-      at j b set-so (passed e) low = rw (eqb-true j i e) low
-      at j b set-so (failed e) low = left .rules j b (λ z. set-so (getD-set-other struck i j 1 0 (eqb-false j i e) ∙ z))
+  -- one rule more
+  module _ (struck : List ℕ) (i : ℕ) (l : i < s .n) (clear : getD struck i 0 ≡ 0) (effect : ltb (wordNumber table i) 2 ≡ true) (left : RulesLeft struck) where
+    out : Aside table (set struck i 1) s i
+    out = aside table struck i (rw (eq-eqb (getD struck i 0) 0 clear, effect)) s (left .ready) l
+
+    kept-so : keptAt p struck i ≡ true
+    kept-so = rw (eq-eqb (getD struck i 0) 0 clear, sym (effect-is f p h table places (s .n) (held .elements) i l) ∙ effect)
+
+    -- those struck before it are struck still
+    still-struck : (j : ℕ) → getD (set struck i 1) j 0 ≡ 0 → getD struck j 0 ≡ 0
+    still-struck j e = go (test (eqb j i))
+      where
+        go : Test (eqb j i) → getD struck j 0 ≡ 0
+        go (passed x) = rw (eqb-true j i x) clear
+        go (failed x) = sym (getD-set-other struck i j 1 0 (eqb-false j i x)) ∙ e
+
+    -- a request that matches none of them gets the same with it and without it
+    same-more : Untouched f places table none-struck (set struck i 1) s
+    unfolding apart
+    same-more m b none =
+        let off : hitOf s m (elementAt table i) ≡ false = none i l (λ e. omega (arith, e, out .flag)) in
+        let back = set-back struck i 0 clear in
+        let same : outcomeLeft (hitOf s m) f table places struck (s .n) ≡ outcomeLeft (hitOf s m) f table places (set struck i 1) (s .n) =
+        ap (λ flags. outcomeLeft (hitOf s m) f table places flags (s .n)) (sym back) ∙ steady-held f table places s held .unmatched (set struck i 1) i out m b off in
+        ap (λ o. not (sameOutcome (outcomeLeft (hitOf s m) f table places none-struck (s .n)) o)) (sym same) ∙ left .untouched m b (λ j c gone. none j c (λ e. gone (still-struck j e)))
+
+    one-more : RulesLeft (set struck i 1)
+    one-more =
+        let x = left .stands-so in
+        record {
+          stands-so = stands-next f p h struck x i kept-so;
+          leaves = subst (λ t. LeavesOut (fileLines f) (fileLines t) []) (strike-flag f p h struck x i kept-so) (strike-leaves (fileLines f) (textLeft f p struck) (leftPolicy p struck) (x .accepts) (lineAt p struck i) (kept-line f p h struck x i kept-so) (left .leaves));
+          ready = out .ready;
+          untouched = same-more;
+        }
 
   module _ (g : Bytes) where
     more : (m i at : ℕ) (struck : List ℕ) → i + m ≤ s .n → ClearFrom i struck → RulesLeft struck → RulesLeft (leavingFrom f places table (s .n) g m i at struck .flags)

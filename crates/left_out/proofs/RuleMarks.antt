@@ -1,24 +1,25 @@
 -- Which lines of an accepted file are rule lines: an element's own if it is a rule, no other.
 use mathlib.Core.Path.{_≡_, refl, sym, ap, ap₂, _∙_}
-use Prim.Native.Nat.{ℕ, _+_}
+use Prim.Native.Nat.{_+_}
 use native.Mathlib.Omega.{arith}
-use mathlib.Core.Bool.{Bool, true, false}
+use mathlib.Core.Bool.{Bool, false}
 use mathlib.Core.List.{List, [], _∷_, _++_, map, map-append}
 use lib.ListN.{length, take, drop, length-append, length-map}
 use lib.Seq.{take-at, drop-at}
-use Rattle.meaning.specs.Text.{Bytes, bytes, keep, gathered, cut, tab}
+use Rattle.meaning.specs.Text.{Bytes, keep, gathered, cut, tab}
 use Rattle.meaning.specs.Model.{Attribute, obligationsOf, Policy, given}
 use Rattle.meaning.specs.Reading.{read}
-use Rattle.meaning.specs.Trimming.{fieldOf, ruleLine}
+use Rattle.meaning.specs.Trimming.{ruleLine}
 use Rattle.meaning.specs.Writing.{obligationFields}
 use Rattle.meaning.specs.Claims.Trimming.{isRule}
 use Rattle.meaning.specs.Claims.Writing.{attributeLine}
 use Rattle.laws.proofs.Types.{Element}
 use Rattle.laws.proofs.Bools.{Test, passed, failed, test, contradiction}
-use Rattle.laws.proofs.Text.{same-true}
+use Rattle.laws.proofs.Lists.{map-map}
 use Rattle.laws.proofs.Places.{linesIn}
 use Rattle.laws.proofs.ElementLines.{file-count}
 use Rattle.laws.proofs.RuleLines.{ofRule}
+use Rattle.laws.proofs.Accepting.{rule-no-attribute}
 use Rattle.laws.proofs.Rewritten.{file-fields, lineFields}
 use Rattle.meaning.specs.Accepting.{fileLines}
 
@@ -28,10 +29,6 @@ ownMarks e = isRule e ∷ map (λ o. false) (obligationsOf e)
 
 abbrev pub marks : List Element → List Bool
 marks es = gathered ownMarks es
-
-map-map : {A B C : Type 0} (F : B → C) (G : A → B) (xs : List A) → map F (map G xs) ≡ map (λ x. F (G x)) xs
-map-map F G [] = refl
-map-map F G (x ∷ xs) = ap (λ l. F (G x) ∷ l) (map-map F G xs)
 
 marks-are : (attrs : List Attribute) (es : List Element) → map ofRule (gathered (lineFields attrs) es) ≡ marks es
 marks-are attrs [] = refl
@@ -47,7 +44,7 @@ header-marks [] = refl
 header-marks (l ∷ ls) = go (test (attributeLine l)) (test (ruleLine l)) (header-marks ls)
   where
     go : Test (attributeLine l) → Test (ruleLine l) → map ruleLine (keep attributeLine ls) ≡ map (λ l. false) (keep attributeLine ls) → map ruleLine (keep attributeLine (l ∷ ls)) ≡ map (λ l. false) (keep attributeLine (l ∷ ls))
-    go (passed e) (passed r) later = contradiction e (rw (same-true (fieldOf 0 l) (bytes "R") r))
+    go (passed e) (passed r) later = contradiction e (rule-no-attribute l r)
     go (passed e) (failed r) later = rw (e, r, later)
     go (failed e) r later = rw e later
 

@@ -1,6 +1,5 @@
 -- `accept`: the flags of the rules left out stand for the proposal, or it leaves out more. Assumes nothing.
-use mathlib.Core.Path.{_≡_, refl, sym, _∙_}
-use native.Mathlib.Omega.{arith}
+use mathlib.Core.Path.{sym, _∙_}
 use borrow.Author.Needs.{needs}
 use Rattle.laws.proofs.Bools.{contradiction}
 use Rattle.outcomes.specs.Decided.{none-struck}
@@ -22,7 +21,8 @@ judge-requires : tie.Need-judge-requires
 judge-requires c κs =
     let start = c .before .before .before .before .before .before .before .before .before in
     let a = start .args in
-    (steady-held (a .file .now) (a .table .now) (a .places .now) (a .shape) (start .pre), start .pre .ready, ready-left (a .file .now) (a .table .now) (a .places .now) (a .shape) (start .pre) (a .proposal .now) _ (c .before .before .before .leave-out .ensures .1))
+    let left = ready-left (a .file .now) (a .table .now) (a .places .now) (a .shape) (start .pre) (a .proposal .now) _ (c .before .before .before .leave-out .ensures .1) in
+    (steady-held (a .file .now) (a .table .now) (a .places .now) (a .shape) (start .pre), start .pre .ready, left .0, left .1)
 
 refuse-requires : tie.Need-refuse-requires
 refuse-requires c κs =
