@@ -107,14 +107,9 @@ static void most_bytes(void) {
     judges((const uint8_t *)left, length + 1, (const uint8_t *)left, length + 1, 1, 0, "a byte more", __LINE__);
 }
 
-/* As in header.c: two names of 16 bytes on each of 55 elements come with one permit. */
+/* Each chain has twelve of them, which come by its rule alone. */
 static void most_obligations(void) {
-    static const char two[] = "O\t0123456789abcdef\tpermit\nO\tfedcba9876543210\tpermit\n";
-    size = (size_t)sprintf(file, "A\tx\ta\nS\t0\ttop\tdeny-overrides\t*\n%s", two);
-    for (int chain = 0; chain < 9; chain++) {
-        for (int depth = 1; depth < 6; depth++) size += (size_t)sprintf(file + size, "S\t%d\ts%d-%d\tdeny-overrides\t*\n%s", depth, chain, depth, two);
-        size += (size_t)sprintf(file + size, "P\t6\tp%d\tdeny-overrides\t*\n%sR\t7\tr%d\tpermit\t*\n", chain, two, chain);
-    }
+    size = most_obliged(file);
     less(is_none, 0, 0, "the most obligations", __LINE__);
     for (single = 0; single < 9; single += 4) less(is_single, 17, 0, "twelve obligations less", __LINE__);
 }

@@ -1,5 +1,6 @@
 /* The header's names: each refusal and decision has the paper's number, shown by an input that gets it. */
 #include "check.h"
+#include "large.h"
 
 #define A "A\tx\ta\tb\n"
 #define P "P\t0\ttop\tfirst-applicable\t*\n"
@@ -32,18 +33,11 @@ static void longest_request(void) {
     answers(bare_decision((const uint8_t *)file, size, (const uint8_t *)request, length + 1), JOGIMADUVE_BAD_REQUEST, 6, "a byte more", __LINE__);
 }
 
-/* The most obligations: nine chains of five sets and a policy below the first set, two names of 16 bytes on each of these 55
- * elements, a rule below each policy. More elements that give one decision there cannot be: each needs a rule below it, and
- * no rule is below more than seven. */
+/* The most obligations that can come with a decision, and a byte less room than they need. */
 static void longest_obligations(void) {
     static char file[JOGIMADUVE_LONGEST_FILE];
     static uint8_t text[JOGIMADUVE_LONGEST_OBLIGATIONS];
-    static const char two[] = "O\t0123456789abcdef\tpermit\nO\tfedcba9876543210\tpermit\n";
-    size_t size = (size_t)sprintf(file, "A\tx\ta\nS\t0\ttop\tdeny-overrides\t*\n%s", two);
-    for (int chain = 0; chain < 9; chain++) {
-        for (int depth = 1; depth < 6; depth++) size += (size_t)sprintf(file + size, "S\t%d\ts%d-%d\tdeny-overrides\t*\n%s", depth, chain, depth, two);
-        size += (size_t)sprintf(file + size, "P\t6\tp%d\tdeny-overrides\t*\n%sR\t7\tr%d\tpermit\t*\n", chain, two, chain);
-    }
+    size_t size = most_obliged(file);
     jogimaduve_decision got = jogimaduve_decide((const uint8_t *)file, size, TEXT("a"), text, sizeof text);
     check(got.number == JOGIMADUVE_DONE && got.second == JOGIMADUVE_PERMIT && got.length == JOGIMADUVE_LONGEST_OBLIGATIONS, "the most obligations", __LINE__);
     check(memcmp(text, "0123456789abcdef\nfedcba9876543210\n", 34) == 0 && memcmp(text, text + 34, sizeof text - 34) == 0, "the most obligations", __LINE__);

@@ -1,4 +1,4 @@
-/* Large policy files: many rules, many bytes. */
+/* Large policy files: many rules, many bytes, many obligations. */
 #ifndef LARGE_H
 #define LARGE_H
 
@@ -9,7 +9,7 @@
 
 /* 62 rules over 256 requests: each of the later half the equal of an earlier one; or the first within the second, and no other
  * that does no work. */
-static size_t many(char *file, int only_first) {
+static inline size_t many(char *file, int only_first) {
     size_t size = 0;
     for (char name = 'x'; name <= 'y'; name++) {
         size += (size_t)sprintf(file + size, "A\t%c", name);
@@ -26,7 +26,7 @@ static size_t many(char *file, int only_first) {
 }
 
 /* A file of 16,384 bytes. Between its first rule and its last are 55 that do no work, with names as long as it takes. */
-static size_t longest(char *file) {
+static inline size_t longest(char *file) {
     static const char last[] = "R\t1\tmay-not\tdeny\t*\t*\t*\n", longer[] = "-of-long-file";
     char most[15 * sizeof ",value-of-16-0000"];
     size_t size = 0;
@@ -45,6 +45,19 @@ static size_t longest(char *file) {
         rest -= more;
     }
     return size + (size_t)sprintf(file + size, "%s", last);
+}
+
+/* The most obligations: nine chains of five sets and a policy below the first set, two names of 16 bytes on each of these 55
+ * elements, a rule below each policy. All of them come with one permit. More elements that give one decision there cannot be:
+ * each needs a rule below it, and no rule is below more than seven. */
+static inline size_t most_obliged(char *file) {
+    static const char two[] = "O\t0123456789abcdef\tpermit\nO\tfedcba9876543210\tpermit\n";
+    size_t size = (size_t)sprintf(file, "A\tx\ta\nS\t0\ttop\tdeny-overrides\t*\n%s", two);
+    for (int chain = 0; chain < 9; chain++) {
+        for (int depth = 1; depth < 6; depth++) size += (size_t)sprintf(file + size, "S\t%d\ts%d-%d\tdeny-overrides\t*\n%s", depth, chain, depth, two);
+        size += (size_t)sprintf(file + size, "P\t6\tp%d\tdeny-overrides\t*\n%sR\t7\tr%d\tpermit\t*\n", chain, two, chain);
+    }
+    return size;
 }
 
 #endif
