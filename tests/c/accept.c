@@ -1,8 +1,8 @@
 /* jogimaduve_accept, line by line: what may be left out of the original and what not, and that lines are compared to the byte.
  * Then the refusals of reading, whose order is the original's, the proposal's, the lines'; and files that overlap. */
 #include "judge.h"
+#include "small.h"
 
-#define AB "A\tx\ta\tb\n"
 #define SET "S\t0\ttop\tpermit-overrides\t*\n"
 #define LOG "O\tlog\tpermit\n"
 #define P "P\t1\tp\tfirst-applicable\t*\n"
@@ -15,17 +15,6 @@
 #define UP AB SET LOG P STOP
 /* a gets permit with log, b deny with stop and slow: ten lines, and every rule does work */
 #define FULL UP R1 R2 Q SLOW R3
-#define TOP AB "P\t0\ttop\tfirst-applicable\t*\n"
-#define ONE "R\t1\tOne\tpermit\ta\n"
-#define TWIN "R\t1\ttwin\tpermit\ta\n"
-#define ABC "A\tx\ta\tb\tc\nP\t0\ttop\tfirst-applicable\t*\n"
-#define N1 "R\t1\tr1\tpermit\ta\n"
-#define N2 "R\t1\tr2\tdeny\ta,b\n"
-#define N3 "R\t1\tr3\tpermit\ta,c\n"
-
-#define JUDGES(original, proposal, number, second) \
-    judges(TEXT(original), TEXT(proposal), number, second, #proposal " of " #original, __LINE__)
-#define ACCEPTS(original, proposal) JUDGES(original, proposal, 0, 0)
 
 /* Each line of the original left out, or all behind it, and some together. */
 static void left_out(void) {
@@ -205,10 +194,7 @@ static void refusals(void) {
     }
 }
 
-#define HEAD "A\trole\ttech\tguest\nA\tact\tjog\tteach\nP\t0\tcell\tfirst-applicable\t*\t*\n"
-#define RULES "R\t1\tr1\tpermit\ttech\t*\nR\t1\tr2\tdeny\tguest\tteach\nR\t1\tr3\tdeny\t*\tteach\nR\t1\tr4\tpermit\ttech\tjog\n"
-
-/* What a file of so many lines is beside one of so many, both from the top. */
+/* What a file of so many lines is beside one of so many, both from the top of HEAD and its four rules. */
 static jogimaduve_answer expected(int original, int proposal) {
     static const jogimaduve_answer answer[5] = {{17, 0}, {17, 3}, {0, 0}, {18, 5}, {18, 5}};
     if (proposal > original) return (jogimaduve_answer){16, (uint32_t)original + 1};
@@ -226,7 +212,7 @@ static jogimaduve_answer ends_at(const char *file, size_t length) {
 
 /* Both from one place on, each with every length: they overlap, or are the same bytes. */
 static void lengths(void) {
-    static const char file[] = HEAD RULES;
+    static const char file[] = HEAD H1 H2 H3 H4;
     for (size_t size = 0; size < sizeof file; size++) {
         jogimaduve_answer original = ends_at(file, size);
         for (size_t length = 0; length < sizeof file; length++) {

@@ -1,22 +1,8 @@
 /* jogimaduve_accept, request by request and rule by rule: the first request that gets another decision or other obligations,
  * and the topmost rule that does no work in the proposal, whatever it does in the original. */
 #include "judge.h"
+#include "small.h"
 
-#define AB "A\tx\ta\tb\n"
-#define TOP AB "P\t0\ttop\tfirst-applicable\t*\n"
-#define ONE "R\t1\tOne\tpermit\ta\n"
-#define TWIN "R\t1\ttwin\tpermit\ta\n"
-#define HEAD                                                                                  \
-    "A\trole\ttech\tguest\nA\tact\tjog\tteach\nP\t0\tcell\tfirst-applicable\t*\t*\n"
-#define H1 "R\t1\tr1\tpermit\ttech\t*\n"
-#define H2 "R\t1\tr2\tdeny\tguest\tteach\n"
-#define H3 "R\t1\tr3\tdeny\t*\tteach\n"
-#define H4 "R\t1\tr4\tpermit\ttech\tjog\n"
-#define NINE "A\tx\ta\tb\tc\nP\t0\ttop\tfirst-applicable\t*\n"
-#define N1 "R\t1\tr1\tpermit\ta\n"
-#define N2 "R\t1\tr2\tdeny\ta,b\n"
-#define N3 "R\t1\tr3\tpermit\ta,c\n"
-#define N4 "R\t1\tr4\tdeny\tb\n"
 /* r2 does work while r1 is there */
 #define AGAIN_TOP AB "S\t0\ttop\tfirst-applicable\t*\nP\t1\tp0\tdeny-overrides\tb\n"
 #define AGAIN_1 "R\t2\tr1\tpermit\t*\n"
@@ -39,9 +25,6 @@
 #define REST "R\t1\trest\tpermit\t*\t*\t*\n"
 #define BADGE "M\tRole\tTech\tguest\tLead\nA\tact\tJog\tteach\nP\t0\tCell\tfirst-applicable\t*\t*\n"
 
-#define JUDGES(original, proposal, number, second) \
-    judges(TEXT(original), TEXT(proposal), number, second, #proposal " of " #original, __LINE__)
-#define ACCEPTS(original, proposal) JUDGES(original, proposal, 0, 0)
 #define DIFFERS(original, proposal, request) JUDGES(original, proposal, 17, request)
 #define NEEDLESS(original, proposal, line) JUDGES(original, proposal, 18, line)
 
@@ -145,8 +128,8 @@ static void needless(void) {
     NEEDLESS(TOP ONE TWIN, TOP ONE TWIN, 3);
     NEEDLESS(TOP ONE TWIN "R\t1\tmore\tpermit\ta\n", TOP ONE TWIN, 3);
     NEEDLESS(TOP ONE TWIN "R\t1\tmore\tpermit\ta\n", TOP TWIN "R\t1\tmore\tpermit\ta\n", 3);
-    NEEDLESS(NINE N1 N2 N3 N4, NINE N1 N2 N3 N4, 4);
-    NEEDLESS(NINE N1 N2 N3 N4, NINE N1 N3 N4, 3);
+    NEEDLESS(ABC N1 N2 N3 N4, ABC N1 N2 N3 N4, 4);
+    NEEDLESS(ABC N1 N2 N3 N4, ABC N1 N3 N4, 3);
     /* while r1 is there, r1 alone; then r2, which stands lower in the original */
     NEEDLESS(AGAIN_TOP AGAIN_1 AGAIN_2 AGAIN_REST, AGAIN_TOP AGAIN_1 AGAIN_2 AGAIN_REST, 4);
     NEEDLESS(AGAIN_TOP AGAIN_1 AGAIN_2 AGAIN_REST, AGAIN_TOP AGAIN_2 AGAIN_REST, 4);
@@ -158,17 +141,17 @@ static void needless(void) {
     NEEDLESS(FIRST(LOG("permit"), PERMIT("a"), THEN(LOG("permit"), "permit")), FIRST(LOG("permit"), PERMIT("a"), THEN(LOG("permit"), "permit")), 5);
     /* a badge with both roles needs r1 */
     ACCEPTS("M\tx\ta\tb\tc\nP\t0\ttop\tfirst-applicable\t*\n" N1 N4 N3, "M\tx\ta\tb\tc\nP\t0\ttop\tfirst-applicable\t*\n" N1 N4 N3);
-    NEEDLESS(NINE N1 N4 N3, NINE N1 N4 N3, 3);
+    NEEDLESS(ABC N1 N4 N3, ABC N1 N4 N3, 3);
     /* what trimming leaves, and other texts that are as sound */
     ACCEPTS(HEAD H1 H2 H3 H4, HEAD H1 H2);
     ACCEPTS(HEAD H1 H2 H3 H4, HEAD H1 H3);
     ACCEPTS(TOP ONE TWIN, TOP TWIN);
-    ACCEPTS(NINE N1 N2 N3 N4, NINE N1 N2 N3);
-    ACCEPTS(NINE N1 N2 N3 N4, NINE N3 N4);
+    ACCEPTS(ABC N1 N2 N3 N4, ABC N1 N2 N3);
+    ACCEPTS(ABC N1 N2 N3 N4, ABC N3 N4);
     /* a request that differs is told before a rule that does no work */
     DIFFERS(HEAD H1 H2 H3 H4, HEAD H1 H4, 3);
     DIFFERS(HEAD H1 H2 H3 H4, HEAD H2 H3, 0);
-    DIFFERS(NINE N1 N2 N3 N4, NINE N1 N2 N4, 2);
+    DIFFERS(ABC N1 N2 N3 N4, ABC N1 N2 N4, 2);
     DIFFERS(TOP ONE TWIN "R\t1\tend\tdeny\tb\n", TOP ONE TWIN, 1);
 }
 

@@ -44,4 +44,8 @@ static inline void judges(const uint8_t *original, size_t size, const uint8_t *p
     judges_beside(original, size, proposal, length, wanted, what, line);
 }
 
+#define JUDGES(original, proposal, number, second) \
+    judges(TEXT(original), TEXT(proposal), number, second, #proposal " of " #original, __LINE__)
+#define ACCEPTS(original, proposal) JUDGES(original, proposal, 0, 0)
+
 #endif
