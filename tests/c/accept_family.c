@@ -1,10 +1,9 @@
 /* jogimaduve_accept on whole families: small policies, of whose rule lines each choice is a proposal, for the policy itself and
  * for each original that is one or two rules less. What it must answer is worked out from the decisions and obligations that
  * jogimaduve_decide gives of every choice. */
-#include "check.h"
-#include "space.h"
+#include "outcome.h"
 
-enum { RULES = 7, CHOICES = 1 << RULES, REQUESTS = 20, LINES = 24, ROOM = 120, MOST = 700 };
+enum { RULES = 7, CHOICES = 1 << RULES, REQUESTS = 20, LINES = 24, MOST = 700 };
 
 static const char *const policies[] = {
     /* one policy, rules that are within others, repeated, behind others */
@@ -39,18 +38,18 @@ static struct choice {
     uint8_t text[MOST];
     size_t size;
     uint32_t line[RULES];
-    struct outcome { uint32_t decision, length; uint8_t obligations[ROOM]; } outcome[REQUESTS];
+    struct outcome outcome[REQUESTS];
     uint32_t needless; /* the line of its topmost rule without which it is alike, or 0 */
 } choices[CHOICES];
 static int requests;
 
 static void split(const char *policy) {
-    lines = rules = attributes = 0;
+    lines = rules = 0;
+    declare_all(policy);
     for (; *policy != '\0'; policy += line_length[lines++]) {
         line_at[lines] = policy;
         line_length[lines] = strcspn(policy, "\n") + 1;
         rules += *policy == 'R';
-        if (*policy == 'A' || *policy == 'M') declare(policy);
     }
 }
 
@@ -70,24 +69,16 @@ static void choose(unsigned rule_set) {
 }
 
 static void decide_all(struct choice *choice) {
-    long held[ATTRIBUTES];
-    char request[REQUEST_MOST];
-    memset(choice->outcome, 0, sizeof choice->outcome);
-    for (requests = 0; requests < REQUESTS && held_by(requests, held); requests++) {
-        struct outcome *outcome = &choice->outcome[requests];
-        put_request(held, request);
-        jogimaduve_decision got = jogimaduve_decide(choice->text, choice->size, (const uint8_t *)request, strlen(request), outcome->obligations, ROOM);
-        check(got.number == 0, request, __LINE__);
-        outcome->decision = got.second;
-        outcome->length = got.length;
-    }
-    check(!held_by(requests, held), "all requests", __LINE__);
+    struct outcome beyond;
+    requests = 0;
+    while (requests < REQUESTS && outcome_of(choice->text, choice->size, requests, &choice->outcome[requests])) requests++;
+    check(!outcome_of(choice->text, choice->size, requests, &beyond), "all requests", __LINE__);
 }
 
 /* The first request that gets another outcome, or -1. */
 static int first_other(unsigned one, unsigned other) {
     for (int i = 0; i < requests; i++) {
-        if (memcmp(&choices[one].outcome[i], &choices[other].outcome[i], sizeof(struct outcome)) != 0) return i;
+        if (!same_outcome(&choices[one].outcome[i], &choices[other].outcome[i])) return i;
     }
     return -1;
 }
@@ -168,9 +159,10 @@ static void against_all(unsigned original) {
 
 static void against_itself(unsigned original) {
     const struct choice *one = &choices[original];
-    struct choice before = *one;
+    uint8_t before[MOST];
+    memcpy(before, one->text, sizeof before);
     answers(jogimaduve_accept(one->text, one->size, one->text, one->size), one->needless > 0 ? 18 : 0, one->needless, "itself", __LINE__);
-    check(memcmp(&before, one, sizeof before) == 0, "itself", __LINE__);
+    check(memcmp(before, one->text, sizeof before) == 0, "itself", __LINE__);
 }
 
 static void family(const char *policy) {

@@ -150,8 +150,7 @@ static int every_pair(const char *file, int line) {
     static char text[PAIRS_MOST];
     int lines = 0;
     policy = file;
-    attributes = 0;
-    for (const char *at = file; *at == 'A' || *at == 'M'; at = strchr(at, '\n') + 1) declare(at);
+    declare_all(file);
     for (int i = 0; i < attributes; i++) {
         if (!sets[i]) continue;
         size_t length = pair_lines(i, decided, text);

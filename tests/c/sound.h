@@ -2,8 +2,7 @@
 #ifndef SOUND_H
 #define SOUND_H
 
-#include "check.h"
-#include "space.h"
+#include "outcome.h"
 
 static size_t line_end(const uint8_t *text, size_t at) {
     while (text[at++] != '\n') {}
@@ -34,28 +33,12 @@ static jogimaduve_answer compare_lines(const uint8_t *original, size_t size, con
     return (jogimaduve_answer){at < size ? 16 : 0, 0};
 }
 
-struct outcome { uint32_t decision, length; uint8_t obligations[JOGIMADUVE_LONGEST_OBLIGATIONS]; };
-
-static struct outcome outcome_of(const uint8_t *file, size_t size, const char *request) {
-    struct outcome outcome;
-    memset(&outcome, 0, sizeof outcome);
-    jogimaduve_decision got = jogimaduve_decide(file, size, (const uint8_t *)request, strlen(request), outcome.obligations, sizeof outcome.obligations);
-    if (got.number != 0) check(0, request, __LINE__);
-    outcome.decision = got.second;
-    outcome.length = got.length;
-    return outcome;
-}
-
 /* Every request, in the order of their numbers. */
 static jogimaduve_answer compare_outcomes(const uint8_t *original, size_t size, const uint8_t *proposal, size_t length) {
-    long held[ATTRIBUTES];
-    char request[REQUEST_MOST];
-    attributes = 0;
-    for (size_t at = 0; original[at] == 'A' || original[at] == 'M'; at = line_end(original, at)) declare((const char *)original + at);
-    for (long number = 0; held_by(number, held); number++) {
-        put_request(held, request);
-        struct outcome one = outcome_of(original, size, request), other = outcome_of(proposal, length, request);
-        if (memcmp(&one, &other, sizeof one) != 0) return (jogimaduve_answer){17, (uint32_t)number};
+    static struct outcome one, other;
+    declare_all((const char *)original);
+    for (long number = 0; outcome_of(original, size, number, &one) && outcome_of(proposal, length, number, &other); number++) {
+        if (!same_outcome(&one, &other)) return (jogimaduve_answer){17, (uint32_t)number};
     }
     return (jogimaduve_answer){0, 0};
 }

@@ -34,6 +34,12 @@ static void declare(const char *line) {
     attributes++;
 }
 
+/* All attributes of a file, which has a line behind theirs. */
+static inline void declare_all(const char *file) {
+    attributes = 0;
+    for (const char *at = file; *at == 'A' || *at == 'M'; at = strchr(at, '\n') + 1) declare(at);
+}
+
 /* What an attribute counts in the space. */
 static long count_of(int attribute) {
     return sets[attribute] ? (1L << values[attribute]) - 1 : values[attribute];
