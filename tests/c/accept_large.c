@@ -1,4 +1,4 @@
-/* jogimaduve_accept on the largest files: the most bytes, rules, requests and obligations; then in two threads at once. */
+/* jogimaduve_accept on the largest files: the most bytes, rules, requests, obligations and lines; then in two threads at once. */
 #include <pthread.h>
 
 #include "judge.h"
@@ -114,6 +114,83 @@ static void most_obligations(void) {
     for (single = 0; single < 9; single += 4) less(is_single, 17, 0, "twelve obligations less", __LINE__);
 }
 
+#define TWO "O\tlog\tpermit\nO\tslow\tdeny\n"
+#define POLICY "\tfirst-applicable\ta\t*\t*\t*\t*\t*\n" TWO
+
+/* Puts behind the file a rule that permits one request. Those from 32 on have b for the first attribute. */
+static void put_rule(int rule, int request) {
+    size += (size_t)sprintf(file + size, "R\t2\tr%d\tpermit", rule);
+    for (int bit = 32; bit > 0; bit /= 2) size += (size_t)sprintf(file + size, "\t%c", request & bit ? 'b' : 'a');
+    size += (size_t)sprintf(file + size, "\n");
+}
+
+/* Six attributes, a set, so many policies for a; two obligations on each of these, and a rule below the first policies. */
+static void put_policies(int policies, int rules) {
+    size = 0;
+    for (char name = 'u'; name <= 'z'; name++) size += (size_t)sprintf(file + size, "A\t%c\ta\tb\n", name);
+    size += (size_t)sprintf(file + size, "S\t0\ttop\tdeny-overrides\t*\t*\t*\t*\t*\t*\n" TWO);
+    for (int policy = 0; policy < policies; policy++) {
+        size += (size_t)sprintf(file + size, "P\t1\tp%d" POLICY, policy);
+        if (policy < rules) put_rule(policy, policy);
+    }
+}
+
+/* Less these rules, and a letter in other case: that with which this end of the file begins. */
+static void other_case(int chosen(int rule), const char *end, uint32_t line) {
+    size_t length = leave_out(chosen, left);
+    left[length - strlen(end)] ^= 32;
+    judges((const uint8_t *)file, size, (const uint8_t *)left, length, 16, line, end, __LINE__);
+}
+
+/* 64 elements with two obligations each: 198 lines. */
+static void most_lines(void) {
+    put_policies(63, 0);
+    less(is_none, 0, 0, "198 lines", __LINE__);
+    other_case(is_none, "slow\tdeny\n", 198);
+    other_case(is_none, "log\tpermit\nO\tslow\tdeny\n", 197);
+    other_case(is_none, "p62" POLICY, 196);
+    size_t shorter = size - strlen("O\tslow\tdeny\n"), shortest = size - strlen("P\t1\tp62" POLICY);
+    const uint8_t *whole = (const uint8_t *)file;
+    judges(whole, size, whole, shorter, 16, 0, "197 lines", __LINE__);
+    judges(whole, size, whole, shortest, 16, 0, "195 lines", __LINE__);
+    judges(whole, shorter, whole, size, 16, 198, "198 lines", __LINE__);
+    judges(whole, shortest, whole, size, 16, 196, "198 lines", __LINE__);
+}
+
+/* No rule can stand on a later line than 196. Here it does no work, then it does. */
+static void latest_rule(void) {
+    single = 0;
+    put_policies(62, 0);
+    size_t shorter = size;
+    put_rule(0, 63);
+    less(is_none, 18, 196, "a rule on line 196", __LINE__);
+    less(is_single, 0, 0, "a rule on line 196", __LINE__);
+    other_case(is_none, "r0\tpermit\tb\tb\tb\tb\tb\tb\n", 196);
+    judges((const uint8_t *)file, shorter, (const uint8_t *)file, size, 16, 196, "a rule on line 196", __LINE__);
+    put_policies(62, 0);
+    put_rule(0, 31);
+    less(is_none, 0, 0, "a rule on line 196", __LINE__);
+    less(is_single, 17, 31, "a rule on line 196", __LINE__);
+}
+
+static int is_before_single(int rule) { return rule < single; }
+
+/* 31 rules that do work, and one behind them: for b, where its policy is not asked; then the equal of the last of them. */
+static void late_rules(void) {
+    put_policies(31, 31);
+    put_rule(31, 32);
+    single = 31;
+    less(is_none, 18, 134, "the last of 32 rules", __LINE__);
+    less(is_single, 0, 0, "the last of 32 rules", __LINE__);
+    other_case(is_none, "r31\tpermit\tb\ta\ta\ta\ta\ta\n", 134);
+    other_case(is_before_single, "r31\tpermit\tb\ta\ta\ta\ta\ta\n", 103);
+    put_policies(31, 31);
+    put_rule(31, 30);
+    less(is_none, 18, 133, "twins at the end", __LINE__);
+    for (single = 31; single >= 30; single--) less(is_single, 0, 0, "twins at the end", __LINE__);
+    for (; single >= 28; single--) less(is_single, 17, (uint32_t)single, "a rule that does work", __LINE__);
+}
+
 #define FIRST "A\tx\ta\tb\nS\t0\ttop\tfirst-applicable\t*\nP\t1\tp\tfirst-applicable\t*\nO\tlog\tpermit\n"
 #define R "R\t2\tr\tpermit\ta\n"
 #define REST "P\t1\tq\tfirst-applicable\t*\nO\tLog\tpermit\nR\t2\ts\tpermit\tb\n"
@@ -165,6 +242,9 @@ int main(void) {
     most_rules();
     most_bytes();
     most_obligations();
+    most_lines();
+    latest_rule();
+    late_rules();
     threads();
     return checks_done();
 }
