@@ -58,12 +58,15 @@ static size_t without_first(uint8_t *text) {
     return size - (next - first);
 }
 
-/* Without the last rule, where each rule that is left is looked at; with it; without both equal rules. */
+/* Without the last rule, where each rule that is left is looked at; with it; without both equal rules; with a last
+ * line that the original lacks; with a last line that is cut. */
 static void *accept(void *unused) {
     const uint8_t *original = (const uint8_t *)file;
     answers(jogimaduve_accept(original, size, original, size - last), JOGIMADUVE_DONE, 0, "accept", __LINE__);
     answers(jogimaduve_accept(original, size, original, size), JOGIMADUVE_NEEDLESS_RULE, 25, "accept", __LINE__);
     answers(jogimaduve_accept(original, size, buffer, without_first(buffer) - last), JOGIMADUVE_OTHER_OUTCOME, 0, "accept", __LINE__);
+    answers(jogimaduve_accept(original, size - last, original, size), JOGIMADUVE_OTHER_LINE, 81, "accept", __LINE__);
+    answers(jogimaduve_accept(original, size, original, size - 1), JOGIMADUVE_BAD_LINE, 81, "accept", __LINE__);
     return unused;
 }
 
