@@ -4,15 +4,12 @@ use mathlib.Core.Path.{_≡_, refl, sym, ap, _∙_, subst}
 use mathlib.Core.Logic.{_≢_, _↔_}
 use Prim.Native.Nat.{ℕ}
 use native.Mathlib.Omega.{arith}
-use mathlib.Core.List.{[]}
 use lib.ListN.{length}
-use Rattle.meaning.specs.declared.Answer.{Answer}
 use Rattle.meaning.specs.Text.{Bytes}
 use Rattle.meaning.specs.Model.{Policy, Result, refused, given, _then_}
 use Rattle.meaning.specs.Reading.{read}
-use Rattle.meaning.specs.Trimming.{Trimmed, trimmed}
+use Rattle.meaning.specs.Trimming.{trimmed}
 use Rattle.meaning.specs.Accepting.{judged}
-use Rattle.meaning.specs.Operations.{acceptAnswer}
 use Rattle.meaning.specs.Claims.PolicyFile.{WellFormed}
 use Rattle.meaning.specs.Claims.Refusals.{Refuses}
 use Rattle.meaning.specs.Claims.Trimming.{none-left}

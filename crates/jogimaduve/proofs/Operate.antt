@@ -51,7 +51,7 @@ pub record StepOperation : Type 0 where
   pub answer-is : (t : Bytes) → answer t ≡ stepAnswer t
   pub after-is : (t : Bytes) → after t ≡ stepLent t
 
--- A proposal beside its original: it lends nothing
+-- A proposal beside its original: no memory is lent
 pub record AcceptOperation : Type 0 where
   pub answer : (original proposal : Bytes) → Answer
   pub answer-is : (f g : Bytes) → answer f g ≡ acceptAnswer f g
