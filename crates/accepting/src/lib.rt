@@ -1,4 +1,6 @@
 // Whether a proposal is accepted beside a file that was read.
+#![tactic(auto)]
+
 ghost use Rattle.std.specs.Prelude.{◌≡◌, suc, ◌+◌, ◌*◌, ◌≤◌, ◌<◌, length};
 ghost use Rattle.meaning.specs.Text.{first_from};
 ghost use Rattle.meaning.specs.Operations.{accept_answer};

@@ -1,4 +1,6 @@
 // The lines of a policy file: what any line is by its first field, and the step over an attribute line.
+#![tactic(auto)]
+
 ghost use Rattle.std.specs.Prelude.{◌≡◌};
 ghost use Rattle.meaning.specs.Text.{cut, tab};
 ghost use Rattle.meaning.specs.Model.{most_values};

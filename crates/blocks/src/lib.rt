@@ -1,4 +1,6 @@
 // Replies on 64 requests at once: a word has a bit for each request of a block.
+#![tactic(auto)]
+
 ghost use Rattle.std.specs.Prelude.{◌≡◌, ℕ, ◌+◌, ◌<◌, Bool, not, ◌&&◌, [], ◌∷◌};
 ghost use Rattle.meaning.specs.declared.Element.{Element};
 ghost use Rattle.meaning.specs.declared.Word.TheVariants.{DenyOverrides, PermitOverrides, FirstApplicable, OnlyOneApplicable};

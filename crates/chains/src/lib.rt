@@ -1,4 +1,6 @@
 // Which elements, with every element above them, were asked and gave the policy's decision, on 64 requests at once.
+#![tactic(auto)]
+
 ghost use Rattle.std.specs.Prelude.{◌≡◌, ℕ, ◌≤◌, length};
 ghost use Rattle.meaning.specs.Deciding.{bit};
 ghost use Rattle.table.specs.Rows.{word_at};

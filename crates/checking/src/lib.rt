@@ -1,4 +1,6 @@
 // The tests of each element of a list by value and of its obligations, as the writer makes them before it writes.
+#![tactic(auto)]
+
 mod obligations;
 mod parts;
 

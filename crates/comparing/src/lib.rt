@@ -1,4 +1,6 @@
 // Texts compared byte for byte, long ones eight bytes at a time: the compiler makes one load of a word.
+#![tactic(auto)]
+
 ghost use Rattle.std.specs.Prelude.{◌≡◌, ◌+◌, ◌*◌, ◌≤◌, ◌<◌, length};
 ghost use Rattle.meaning.specs.Text.{same};
 ghost use Rattle.comparing.specs.Words.{word_at, BytesAt};

@@ -1,4 +1,6 @@
 // Conflicts: the first request that shows each, by the rows of a parent and two of its children.
+#![tactic(auto)]
+
 ghost use Rattle.std.specs.Prelude.{◌≡◌, ℕ, ◌*◌, ◌/◌, ◌%◌, ◌≤◌, ◌<◌, get_or};
 ghost use Rattle.meaning.specs.Text.{first_from};
 ghost use Rattle.table.specs.Tree.{place_or};

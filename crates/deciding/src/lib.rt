@@ -1,4 +1,6 @@
 // What one request gets: its decision, and the obligations that come with it in a lent buffer.
+#![tactic(auto)]
+
 ghost use Rattle.std.specs.Prelude.{◌≡◌, ℕ, ◌*◌, ◌≤◌, ◌<◌, cond, eqb, length, get_or, replicate};
 ghost use Rattle.meaning.specs.Deciding.{decision_number, matches, bit};
 ghost use Rattle.requests.specs.Values.{values_of, severals_of};

@@ -1,4 +1,6 @@
 // Decisions: what the elements of a policy, lent as a table of numbers, give on a request.
+#![tactic(auto)]
+
 ghost use Rattle.std.specs.Prelude.{◌≡◌, ◌+◌, ◌≤◌, ◌<◌, get_or};
 ghost use Rattle.meaning.specs.Deciding.{decision_number, matches, combined, first_decision};
 ghost use Rattle.requests.specs.Values.{values_of, severals_of};

@@ -1,4 +1,6 @@
 // Which requests get something else under other flags, over a policy's file and a lent table of its elements: the first that gets another decision, or other obligations.
+#![tactic(auto)]
+
 ghost use Rattle.std.specs.Prelude.{◌≡◌, true, ℕ, ◌+◌, ◌*◌, ◌≤◌, ◌<◌, length};
 ghost use Rattle.meaning.specs.Text.{first_from};
 ghost use Rattle.meaning.specs.Deciding.{bit};

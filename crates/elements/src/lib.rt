@@ -1,4 +1,6 @@
 // A list of elements by value, as many as a file may have and one more, which is refused; and a full mask.
+#![tactic(auto)]
+
 ghost use Rattle.std.specs.Prelude.{◌≡◌, ◌-◌, ◌^◌, ◌≤◌, ◌<◌};
 ghost use Rattle.meaning.specs.Model.{unused};
 ghost use Rattle.elements.specs.Listed.{no_elements, with_element, held_in};

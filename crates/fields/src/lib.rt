@@ -1,6 +1,8 @@
 // Fields taken from a line from left to right: a reader holds the line's slice and a place.
 // The borrow checker covers no function over such a struct, so `start`, `current`, `advance` and `field` are proved by hand. They are thin:
 // the work is in `field_at` and `place_after`, covered functions on a slice and a number, over the cursor `text::end_of`.
+#![tactic(auto)]
+
 ghost use Rattle.std.specs.Prelude.{◌≡◌, [], get_or};
 ghost use Rattle.meaning.specs.Text.{cut, tab};
 ghost use Rattle.fields.specs.Places.{field_at, place_after};

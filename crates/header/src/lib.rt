@@ -1,4 +1,6 @@
 // The attribute lines that the writer takes: where the attributes stand in them, or the refusal.
+#![tactic(auto)]
+
 ghost use Rattle.std.specs.Prelude.{◌≡◌, ◌≤◌, length};
 ghost use Rattle.meaning.specs.declared.Kind.{Kind};
 ghost use Rattle.meaning.specs.Text.{cut, tab};

@@ -1,4 +1,6 @@
 // Trimming as a held state, for the policy that was read from a text: a step strikes the next rule in place.
+#![tactic(auto)]
+
 ghost use Rattle.std.specs.Prelude.{◌≡◌, ◌≤◌, length};
 ghost use Rattle.meaning.specs.Operations.{step_answer, step_lent};
 ghost use Rattle.trimmed_text.specs.Held.{PolicyHeld};

@@ -1,4 +1,6 @@
 // The attributes of two files that are to be joined: which differ, and where each file has those of the joined file.
+#![tactic(auto)]
+
 ghost use Rattle.std.specs.Prelude.{◌≡◌, ◌+◌, ◌≤◌, ◌<◌, set};
 ghost use Rattle.meaning.specs.Text.{any};
 ghost use Rattle.meaning.specs.Joining.{both, differs, first_differing};

@@ -1,4 +1,6 @@
 // The text of two files that are joined. Each function stores from `at` on and gives the place behind; what does not fit is counted alone.
+#![tactic(auto)]
+
 mod attributes;
 mod lines;
 

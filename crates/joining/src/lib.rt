@@ -1,4 +1,6 @@
 // Two files joined into a lent buffer.
+#![tactic(auto)]
+
 ghost use Rattle.std.specs.Prelude.{◌≡◌, ◌≤◌, length};
 ghost use Rattle.meaning.specs.Operations.{join_answer, join_lent};
 ghost use Rattle.joining.specs.Held.{FileHeld, Accepted};

@@ -67,7 +67,7 @@ module _ (g : Bytes) (q : Policy) (i : read g ≡ given q) where
   needless_none needed = ap (Option.map suc) (first_absent (needless g) 0 (length (lines g)) (λ k l u. go k (test (needless g k))))
     where
       go : (k : ℕ) → Test (needless g k) → needless g k ≡ false
-      go k (passed e) = absurd (needed k (trimming-laws.needless-rule g q i k e))
+      go k (passed e) = absurd (needed k (trimming-laws.needless_rule g q i k e))
       go k (failed e) = e
 
   -- topmost
@@ -87,7 +87,7 @@ module _ (g : Bytes) (q : Policy) (i : read g ≡ given q) where
           record {
             place = k;
             line = some_some (sym e ∙ ap (Option.map suc) z);
-            is_needless = trimming-laws.needless-rule g q i k x.holds;
+            is_needless = trimming-laws.needless_rule g q i k x.holds;
             no_earlier = λ j l. not_needless g j (x.no_earlier j zero-le l);
           }
 
@@ -101,7 +101,7 @@ module _ (g : Bytes) (q : Policy) (i : read g ≡ given q) where
       }))
     where
       go : (j : ℕ) → j < k → Test (needless g j) → needless g j ≡ false
-      go j u (passed e) = absurd (earlier j u (trimming-laws.needless-rule g q i j e))
+      go j u (passed e) = absurd (earlier j u (trimming-laws.needless_rule g q i j e))
       go j u (failed e) = e
 
 module _ (f : Bytes) (p : Policy) (g : Bytes) (q : Policy) (h : read f ≡ given p) (i : read g ≡ given q) where

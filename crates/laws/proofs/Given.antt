@@ -61,7 +61,7 @@ module _ (d : Decision) where
       ∙ ap (gathered (λ o. obligation_name o ++ bytes "\n")) (sym (keep_gathered (marked_of bs es)))
 
 -- Places in a rising list
-mem_at : {xs : List ℕ} {x : ℕ} → Memᴰ x xs → (c : ℕ) × (c < length xs) × (get_or xs c 0 ≡ x)
+mem_at : {x : ℕ} {xs : List ℕ} → Memᴰ x xs → (c : ℕ) × (c < length xs) × (get_or xs c 0 ≡ x)
 mem_at (Memᴰ.head e) = (0, omega arith, sym e)
 mem_at (Memᴰ.tail m) = let (c, l, e) = mem_at m in (suc c, omega arith, e)
 

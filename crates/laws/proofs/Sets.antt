@@ -191,6 +191,6 @@ module _ (m v : ℕ) where
 
 pub sets_numbered : SetsNumbered
 sets_numbered = record {
-  number_of_lem = number_of_lem;
-  set_of_lem = set_of_lem;
+  number_of = number_of_lem;
+  set_of = set_of_lem;
 }

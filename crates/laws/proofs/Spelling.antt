@@ -50,6 +50,7 @@ name_reflects (b ∷ n) = record { holds = there; tests = back }
 
 -- Pieces
 free_apart : (b : ℕ) (p : Bytes) → Free b p → Memᴰ b p → ⊥
+free_apart b [] f x'' = elim x'' [ ]
 free_apart b (x ∷ p) f (Memᴰ.head e) = eqb-false x b f.0 (sym e)
 free_apart b (x ∷ p) f (Memᴰ.tail m) = free_apart b p f.1 m
 

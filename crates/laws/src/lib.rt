@@ -1,1 +1,2 @@
 // Theorems about the definitions of the crate `meaning`, in proofs/. There is no code.
+#![tactic(auto)]

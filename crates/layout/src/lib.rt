@@ -1,4 +1,6 @@
 // How a file's attributes and elements lie: places in the file, the table of the elements, and what placing the next needs.
+#![tactic(auto)]
+
 ghost use Rattle.std.specs.Prelude.{◌≡◌, List, [], ◌∷◌, map, ◌+◌, ◌*◌, ◌≤◌, ◌<◌, length};
 ghost use Rattle.std.proofs.lemmas.List.Edits.{sets};
 ghost use Rattle.meaning.specs.declared.Element.{Element};

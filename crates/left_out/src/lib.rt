@@ -1,4 +1,6 @@
 // Which rules a proposal leaves out of a file that was read, by a flag for each element: one that is not 0 strikes its element.
+#![tactic(auto)]
+
 ghost use Rattle.std.specs.Prelude.{◌≡◌, ◌+◌, ◌-◌, ◌≤◌, length};
 ghost use Rattle.meaning.specs.Text.{same};
 ghost use Rattle.table.specs.Rows.{Rows};

@@ -1,4 +1,6 @@
 // On which requests a rule moves the decision of the element over it, 64 requests at once.
+#![tactic(auto)]
+
 ghost use Rattle.std.specs.Prelude.{◌≡◌, ℕ, ◌+◌, ◌<◌, Bool, not};
 ghost use Rattle.meaning.specs.declared.Element.{Element};
 ghost use Rattle.meaning.specs.Deciding.{bit, is};

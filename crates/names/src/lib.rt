@@ -1,4 +1,6 @@
 // Names: what is one, which are equal, and where one stands among the fields of a line.
+#![tactic(auto)]
+
 ghost use Rattle.std.specs.Prelude.{◌≡◌, ℕ, ◌≤◌, ◌<◌, eqb, length};
 ghost use Rattle.meaning.specs.Text.{all, folded, same_name, cut, tab, name_byte, is_name};
 ghost use Rattle.meaning.specs.Deciding.{value_of};

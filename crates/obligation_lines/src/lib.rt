@@ -1,4 +1,6 @@
 // An obligation's line: its tests, and its name's place laid down behind the nearest element's other obligations.
+#![tactic(auto)]
+
 ghost use Rattle.std.specs.Prelude.{◌≤◌};
 ghost use Rattle.meaning.specs.Text.{cut, tab};
 ghost use Rattle.layout.specs.Places.{part};

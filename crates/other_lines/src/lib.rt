@@ -1,4 +1,6 @@
 // The lines of a proposal beside those of its original: the first that isn't the next original line.
+#![tactic(auto)]
+
 ghost use Rattle.std.specs.Prelude.{◌≡◌, ◌≤◌, length};
 ghost use Rattle.meaning.specs.Trimming.{rule_line, file_lines};
 ghost use Rattle.meaning.specs.Accepting.{first_other};

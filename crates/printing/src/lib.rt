@@ -1,4 +1,6 @@
 // Text laid into a lent buffer. What does not fit is not stored, and the place moves on all the same: with an empty buffer the same code counts.
+#![tactic(auto)]
+
 ghost use Rattle.std.specs.Prelude.{◌≡◌, ◌+◌, ◌/◌, ◌≤◌, ◌<◌, ◌^◌, min, [], ◌∷◌, ◌++◌, length};
 ghost use Rattle.meaning.specs.Text.{decimal};
 ghost use Rattle.meaning.specs.Model.{decision_text};

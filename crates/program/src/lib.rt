@@ -1,4 +1,6 @@
 // What the program prints of a policy file: its report, or the line `E`.
+#![tactic(auto)]
+
 ghost use Rattle.std.specs.Prelude.{◌≡◌, ◌++◌, ◌≤◌, length, drop};
 ghost use Rattle.meaning.specs.Report.{program};
 

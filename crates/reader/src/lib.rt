@@ -1,4 +1,6 @@
 // Reading a policy file in one pass: where its attributes and elements stand, the table of its elements, or the refusal.
+#![tactic(auto)]
+
 ghost use Rattle.std.specs.Prelude.{◌≡◌, ◌≤◌, length};
 ghost use Rattle.meaning.specs.Text.{cut, tab};
 ghost use Rattle.table.specs.Rows.{Rows};

@@ -1,4 +1,6 @@
 // Whether a name stands twice among the fields of a line.
+#![tactic(auto)]
+
 mod many;
 mod marks;
 

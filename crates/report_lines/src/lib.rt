@@ -1,4 +1,6 @@
 // The report's lines, from what was found of a policy. Each function stores from `at` on and gives the place behind; with an empty buffer it counts.
+#![tactic(auto)]
+
 mod conflict_lines;
 mod fields;
 mod rule_lines;

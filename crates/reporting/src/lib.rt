@@ -1,4 +1,6 @@
 // The report of a policy that was read: everything is found once, then the same code counts the text and writes it.
+#![tactic(auto)]
+
 ghost use Rattle.std.specs.Prelude.{◌≡◌, ◌≤◌, length};
 ghost use Rattle.meaning.specs.Operations.{report_answer, report_lent};
 ghost use Rattle.table.specs.Shape.{hit_of};

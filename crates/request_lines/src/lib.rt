@@ -1,4 +1,6 @@
 // A request line, read against the attributes of a file.
+#![tactic(auto)]
+
 ghost use Rattle.std.specs.Prelude.{◌≡◌, cond, ◌≤◌, length};
 ghost use Rattle.meaning.specs.Text.{cut, tab};
 ghost use Rattle.meaning.specs.Deciding.{value_of, set_of, values_of, request_line};

@@ -1,4 +1,6 @@
 // Requests by value: one number for each attribute. The numbering of requests, and the test of a target.
+#![tactic(auto)]
+
 ghost use Rattle.std.specs.Prelude.{◌≡◌, ◌+◌, ◌≤◌, ◌<◌, length, take, drop};
 ghost use Rattle.meaning.specs.Model.{product};
 ghost use Rattle.meaning.specs.Deciding.{number_of, request_of, next_request, bit, in_field, within};

@@ -1,4 +1,6 @@
 // Rows of 64 words for each element, a bit for each request: which requests it applies to, permits, denies; and each element's parent.
+#![tactic(auto)]
+
 ghost use Rattle.std.specs.Prelude.{◌≡◌, ◌++◌, map, ℕ, ◌+◌, ◌*◌, ◌≤◌, ◌<◌, length, get_or, drop};
 ghost use Rattle.std.specs.Int.Bits.{bit_and};
 ghost use Rattle.meaning.specs.Text.{counting};

@@ -1,4 +1,6 @@
 // Trimming rule by rule, for the policy that was read from a file: the next rule shown, and a rule struck by its name.
+#![tactic(auto)]
+
 ghost use Rattle.std.specs.Prelude.{◌≡◌, ◌≤◌};
 ghost use Rattle.meaning.specs.Operations.{next_rule_answer, next_rule_lent, strike_answer, strike_lent};
 ghost use Rattle.layout.specs.Places.{Naming};

@@ -1,4 +1,6 @@
 // Segments: rows turned round give each request the word of its elements; equal words are one segment.
+#![tactic(auto)]
+
 ghost use Rattle.std.specs.Prelude.{◌≡◌, ◌++◌, map, ◌+◌, ◌*◌, ◌^◌, ◌≤◌, ◌<◌, length, drop};
 ghost use Rattle.meaning.specs.Text.{counting, first_from};
 ghost use Rattle.table.specs.Tree.{place_or};

@@ -1,4 +1,6 @@
 // The step to the next request as a C function of its own: to be held to plain C, timed, and looked at as machine code.
+#![tactic(auto)]
+
 ghost use Rattle.std.specs.Prelude.{◌≡◌, take};
 ghost use Rattle.meaning.specs.Deciding.{next_request};
 ghost use Rattle.requests.specs.Values.{values_of, revalued, Fitting};

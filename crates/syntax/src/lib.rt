@@ -1,4 +1,6 @@
 // What the single fields of a line stand for.
+#![tactic(auto)]
+
 ghost use Rattle.std.specs.Prelude.{◌≡◌, [], ◌∷◌, map, ◌^◌, ◌≤◌, length};
 ghost use Rattle.meaning.specs.Text.{same, cut, tab, comma};
 ghost use Rattle.meaning.specs.Reading.{depth_of, word_of, mask_of, target_of, or_empty};

@@ -1,4 +1,6 @@
 // The elements of a policy, lent as a table of numbers, and a flag for each: one that is not 0 strikes its element. How a row of the table lies is known here alone.
+#![tactic(auto)]
+
 ghost use Rattle.std.specs.Prelude.{◌≡◌, ◌+◌, ◌≤◌, ◌<◌, length};
 ghost use Rattle.meaning.specs.Deciding.{matches};
 ghost use Rattle.requests.specs.Values.{values_of, severals_of};

@@ -1,4 +1,6 @@
 // Bytes of a text: where pieces, lines and fields end, and how many there are.
+#![tactic(auto)]
+
 mod runs;
 
 ghost use Rattle.std.specs.Prelude.{◌≡◌, cond, [], ◌+◌, ◌≤◌, ◌<◌, length, drop, get_or};

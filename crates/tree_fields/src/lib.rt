@@ -1,4 +1,6 @@
 // The fields of a tree line: where those before the targets end, found once, and the masks of its targets.
+#![tactic(auto)]
+
 ghost use Rattle.std.specs.Prelude.{◌≡◌, [], ◌+◌, ◌≤◌, length, drop, get_or};
 ghost use Rattle.meaning.specs.Text.{cut, tab};
 ghost use Rattle.tree_fields.specs.Headed.{ends_of, Headed};

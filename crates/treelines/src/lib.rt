@@ -1,4 +1,6 @@
 // Attribute lines and elements as a file in canonical form. Each function stores from `at` on and gives the place behind; with an empty buffer it counts.
+#![tactic(auto)]
+
 mod fields;
 mod obligations;
 mod targets;

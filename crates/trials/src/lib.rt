@@ -1,4 +1,6 @@
 // Whether a rule does work: what requests get with it and without it, over a policy's file, a lent table of its elements and a flag for each. One that is not 0 strikes its element.
+#![tactic(auto)]
+
 mod trial;
 
 ghost use Rattle.std.specs.Prelude.{◌≡◌, true, false, ◌++◌, map, ◌≤◌, ◌<◌, length, drop};

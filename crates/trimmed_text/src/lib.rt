@@ -1,4 +1,6 @@
 // The text of the lines left, by the places of the elements and their flags; specs/ and proofs/ say what trimming on flags is.
+#![tactic(auto)]
+
 ghost use Rattle.std.specs.Prelude.{◌≡◌, ◌*◌, ◌≤◌, ◌<◌, length};
 ghost use Rattle.printing.specs.Wrote.{Wrote};
 ghost use Rattle.trimmed_text.specs.Copied.{lines_end, copied, Copies, Piece};

@@ -1,4 +1,6 @@
 // Which rules trimming strikes, over a policy's file, a lent table of its elements and a flag for each: one that is not 0 strikes its element.
+#![tactic(auto)]
+
 ghost use Rattle.std.specs.Prelude.{◌≡◌, ◌+◌, ◌*◌, ◌≤◌, ◌<◌, length};
 ghost use Rattle.table.specs.Tree.{place_or};
 ghost use Rattle.table.specs.Shape.{hit_of};

@@ -1,4 +1,6 @@
 // The pairs of values of an attribute that get another decision than one of the two alone, as lines. With an empty buffer the same code counts.
+#![tactic(auto)]
+
 ghost use Rattle.std.specs.Prelude.{◌≡◌, ◌+◌, ◌*◌, ◌-◌, ◌≤◌, ◌<◌, not, ◌&&◌, eqb, take, drop};
 ghost use Rattle.meaning.specs.Model.{product};
 ghost use Rattle.meaning.specs.Deciding.{members};

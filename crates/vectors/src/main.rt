@@ -1,4 +1,6 @@
 // Prints what the program prints of each file that the arguments name, behind the file's name. An accepted file is read into elements and written again, and each of its requests is stepped to; a line says so if other bytes or decisions come out. Of the file `lists` it prints what the writer answers for each of its lists.
+#![tactic(auto)]
+
 mod encoded;
 mod lending;
 mod stepping;

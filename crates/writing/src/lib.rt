@@ -1,4 +1,6 @@
 // Writes a policy file: attribute lines as bytes, and a list of elements by value.
+#![tactic(auto)]
+
 ghost use Rattle.std.specs.Prelude.{◌≡◌, ◌++◌, length};
 ghost use Rattle.meaning.specs.Text.{gathered};
 ghost use Rattle.meaning.specs.Model.{◌then◌};

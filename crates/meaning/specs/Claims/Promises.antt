@@ -77,7 +77,7 @@ pub record Promises : Type 0 where
   pub conflicting : (f : Bytes) (p : Policy) → read f ≡ given p → ConflictsListed (conflicts p) p
   -- so the request of a conflict stands on a `G` line too
   pub conflict_opens : (f : Bytes) (p : Policy) → read f ≡ given p → (c : Conflict) → Conflicting p c → Opens p c.request
-  pub file_lines : (f : Bytes) (p : Policy) (w : WellFormed f p) → Lines f w.rows
+  pub file_lines_are : (f : Bytes) (p : Policy) (w : WellFormed f p) → Lines f w.rows
   pub trimming : Meets trimmed report
   -- the report has no free field
   pub reporting : (f : Bytes) (p : Policy) → read f ≡ given p → (r : Bytes) → ReportOf f p r ↔ (r ≡ report f p)
