@@ -12,7 +12,7 @@ use layout::{Attributes, Tree};
 use syntax::LineKind;
 
 // Where the reader stands: the next line's start and number, what was read, and the space so far.
-#[derive(Drop)]
+#[derive(Clone, Copy)]
 pub struct State {
     pub at: usize,
     pub line: usize,
@@ -22,14 +22,14 @@ pub struct State {
 }
 
 // The number that refuses a line, or 0 and the state behind it.
-#[derive(Drop)]
+#[derive(Clone, Copy)]
 pub struct Step {
     pub refusal: usize,
     pub state: State,
 }
 
 // What a line is by its first field, and how many fields it has; other where test 2 refuses it whatever stands before.
-#[derive(Drop)]
+#[derive(Clone, Copy)]
 pub struct LineShape {
     pub kind: LineKind,
     pub fields: usize,

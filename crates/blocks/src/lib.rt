@@ -10,14 +10,14 @@ ghost use Rattle.decisions.specs.Replies.{next_of, step_of, replies_from, reply_
 ghost use Rattle.blocks.specs.Bits.{decision_bit, reply_bit, Answers, Block, Lowest};
 
 // Which requests are permitted and which denied: both is indeterminate, none not-applicable.
-#[derive(Drop)]
+#[derive(Clone, Copy)]
 pub struct Effects {
     pub permits: u64,
     pub denies: u64,
 }
 
 // Which requests match an element's own target, and what it gives on them.
-#[derive(Drop)]
+#[derive(Clone, Copy)]
 pub struct Replies {
     pub matched: u64,
     pub given: Effects,

@@ -18,7 +18,7 @@ use layout::Tree;
 use meaning::Element;
 
 // The first refusal of an element or an obligation: its number and the line that would hold it; number 0 is none.
-#[derive(Drop)]
+#[derive(Clone, Copy)]
 pub struct Checked {
     pub number: usize,
     pub line: usize,

@@ -13,7 +13,7 @@ use meaning::Decision::{Deny, Indeterminate, NotApplicable, Permit};
 use requests::Request;
 
 // Whether an element's own target matches, and its decision.
-#[derive(Drop)]
+#[derive(Clone, Copy)]
 pub struct Reply {
     pub matched: bool,
     pub decision: Decision,

@@ -8,7 +8,7 @@ ghost use Rattle.elements.specs.Listed.{no_elements, with_element, held_in};
 use meaning::{Element, Kind, Obligation, Word};
 
 // The first `len` elements; the places behind them don't matter.
-#[derive(Drop)]
+#[derive(Clone, Copy)]
 pub struct Elements {
     pub all: [Element; 65],
     pub len: usize,

@@ -8,7 +8,7 @@ ghost use Rattle.meaning.specs.Text.{cut, tab};
 ghost use Rattle.fields.specs.Places.{field_at, place_after};
 
 // `at` is where a field starts, or past the end of the line where no field is left.
-#[derive(Drop)]
+#[derive(Clone, Copy)]
 pub struct Fields<'a> {
     pub line: &'a [u8],
     pub at: usize,

@@ -17,7 +17,7 @@ use layout::Attributes;
 use syntax::LineKind;
 
 // What attribute lines hold, or the refusal's number and line and no attribute; number 0 is none.
-#[derive(Drop)]
+#[derive(Clone, Copy)]
 pub struct Header {
     pub number: usize,
     pub second: usize,

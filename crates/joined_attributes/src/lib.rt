@@ -11,7 +11,7 @@ ghost use Rattle.joined_attributes.specs.Placing.{listed, places_in};
 use layout::Attributes;
 
 // For each attribute of the joined file its place among those of one file, or their count where that file lacks it; zeros behind the last.
-#[derive(Drop)]
+#[derive(Clone, Copy)]
 pub struct Placing {
     pub places: [usize; 12],
     pub len: usize,

@@ -18,7 +18,7 @@ use table::Row;
 
 // Whether each attribute may have several values in a request, and where it stands: the start of its name, of its first value, the
 // end of its line; and its value count.
-#[derive(Drop)]
+#[derive(Clone, Copy)]
 pub struct Attributes {
     pub several: [bool; 6],
     pub names: [usize; 6],
@@ -29,7 +29,7 @@ pub struct Attributes {
 }
 
 // The elements so far: how many, the last one's depth, and for each depth the number of the nearest kind, 0 for none.
-#[derive(Drop)]
+#[derive(Clone, Copy)]
 pub struct Tree {
     pub len: usize,
     pub depth: usize,

@@ -16,7 +16,7 @@ use elements::Elements;
 use meaning::{Answer, Element};
 
 // A file's elements by value, and the answer for a list of so many places; no elements where it is a refusal.
-#[derive(Drop)]
+#[derive(Clone, Copy)]
 pub struct Listing {
     pub answer: Answer,
     pub elements: Elements,

@@ -11,7 +11,7 @@ ghost use Rattle.moves.specs.Moved.{effect_reply, moved_at, Child, Sided, Own};
 use blocks::{Effects, Replies};
 
 // What the children passed give with the rule, which is taken first by those before it, and without it.
-#[derive(Drop)]
+#[derive(Clone, Copy)]
 struct Sides {
     with: Replies,
     without: Replies,

@@ -131,7 +131,7 @@ pub fn all_names(fields: &[u8]) -> bool
     }
 }
 
-#[derive(Drop)]
+#[derive(Clone, Copy)]
 pub enum Found {
     At(usize),
     Nothing,

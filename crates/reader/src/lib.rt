@@ -17,7 +17,7 @@ use table::Shape;
 use text::Counted;
 
 // A file as it was read: a refusal's two numbers and nothing read, or 0, 0 and what was read.
-#[derive(Drop)]
+#[derive(Clone, Copy)]
 pub struct Reading {
     pub number: usize,
     pub second: usize,

@@ -6,7 +6,7 @@ ghost use Rattle.repeats.specs.Marks.{marked, with_mark, first_at, others_at, Ke
 use crate::{has, marks};
 
 // Where a field starts, and its hash.
-#[derive(Drop)]
+#[derive(Clone, Copy)]
 struct Hashed {
     start: usize,
     hash: usize,

@@ -8,7 +8,7 @@ use crate::fields;
 use table::Shape;
 
 // A conflict of two children of a parent, and the request that shows it.
-#[derive(Drop)]
+#[derive(Clone, Copy)]
 struct Conflict {
     parent: usize,
     earlier: usize,

@@ -7,7 +7,7 @@ ghost use Rattle.report_lines.specs.Lines.{segment_row};
 use crate::fields;
 
 // A segment: its first request, how many it has, the number of their decision, and the word of the elements that apply to them.
-#[derive(Drop)]
+#[derive(Clone, Copy)]
 pub(crate) struct Segment {
     pub first: usize,
     pub size: u16,

@@ -13,7 +13,7 @@ use names::Found;
 use requests::Request;
 
 // The request, or the place of the field that refuses the line: 0 for a wrong count of fields.
-#[derive(Drop)]
+#[derive(Clone, Copy)]
 pub struct Asked {
     pub good: bool,
     pub place: usize,

@@ -9,7 +9,7 @@ ghost use Rattle.requests.specs.Values.{values_of, severals_of, request_with, re
 // The numbers of `len` attributes, each that of a value or, where `several` says so, that of a set of values; the places
 // behind them don't matter. It lies as in C, for `stepping`.
 #[repr(C)]
-#[derive(Drop)]
+#[derive(Clone, Copy)]
 pub struct Request {
     pub several: [bool; 6],
     pub values: [usize; 6],

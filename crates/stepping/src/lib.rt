@@ -9,7 +9,7 @@ use requests::Request;
 
 // How many numbers each attribute has.
 #[repr(C)]
-#[derive(Drop)]
+#[derive(Clone, Copy)]
 pub struct Counts {
     pub counts: [usize; 6],
 }

@@ -9,7 +9,7 @@ ghost use Rattle.syntax.specs.Fields.{spelt, line_kind, number_of_word};
 use meaning::Kind;
 
 // A line by its first field; an attribute line with whether its attribute takes several values in a request.
-#[derive(Drop)]
+#[derive(Clone, Copy)]
 pub enum LineKind {
     Attribute(bool),
     Tree(Kind),

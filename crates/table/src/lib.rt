@@ -11,7 +11,7 @@ use requests::Request;
 
 // A policy's shape: `n` elements; at which of `len` attributes a request has sets of values, how many choices each has, and
 // their product, the number of requests.
-#[derive(Drop)]
+#[derive(Clone, Copy)]
 pub struct Shape {
     pub n: usize,
     pub several: [bool; 6],
@@ -21,7 +21,7 @@ pub struct Shape {
 }
 
 // An element's row: its word's number, its depth and its masks.
-#[derive(Drop)]
+#[derive(Clone, Copy)]
 pub struct Row {
     pub word: u16,
     pub depth: u16,

@@ -72,7 +72,7 @@ pub fn count_fields(line: &[u8]) -> usize
 }
 
 // Where a line ends, and how many fields it has.
-#[derive(Drop)]
+#[derive(Clone, Copy)]
 pub struct Counted {
     pub end: usize,
     pub fields: usize,

@@ -10,7 +10,7 @@ ghost use Rattle.tree_fields.specs.Masks.{masks_in};
 use layout::Attributes;
 
 // Where the letter, the depth, the name and the word end.
-#[derive(Drop)]
+#[derive(Clone, Copy)]
 pub struct FieldEnds {
     pub letter: usize,
     pub depth: usize,
@@ -19,7 +19,7 @@ pub struct FieldEnds {
 }
 
 // The masks of a tree line where all its targets are good, else zeros.
-#[derive(Drop)]
+#[derive(Clone, Copy)]
 pub struct Masks {
     pub good: bool,
     pub masks: [u16; 6],

@@ -17,7 +17,7 @@ ghost use Rattle.trials.specs.Trial.{Grouped, Laid, Trial, Tries};
 use table::Shape;
 
 // Whether a rule is needless, and a request to try first the next time.
-#[derive(Drop)]
+#[derive(Clone, Copy)]
 pub struct Tried {
     pub needless: bool,
     pub shown: usize,

@@ -6,7 +6,7 @@ ghost use Rattle.elements.specs.Listed.{blank};
 use meaning::{Answer, Element};
 
 // The first `len` elements are the list. The writer looks at 65, so there may be one more.
-#[derive(Drop)]
+#[derive(Clone, Copy)]
 pub(crate) struct Lent {
     pub(crate) all: [Element; 66],
     pub(crate) len: usize,
