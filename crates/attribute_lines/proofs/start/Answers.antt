@@ -1,0 +1,6 @@
+-- `start` meets its contract: it has no attribute.
+use borrow.Author.Rules.{rules}
+use Rattle.attribute_lines.proofs.start.Goals as goal
+
+pub returns : goal.returns
+returns c = rw c.no_attributes-attributes.ensures

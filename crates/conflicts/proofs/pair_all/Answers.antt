@@ -1,0 +1,35 @@
+use mathlib.Core.Path.{◌≡◌, refl}
+use Prim.Native.Nat.{ℕ, ◌-◌, ◌≤◌, ◌<◌}
+use native.Mathlib.Omega.{arith}
+use lib.ListN.{length}
+use borrow.Author.Rules.{rules}
+use Rattle.conflicts.specs.Pairs.{shown_by, PairsOf, OthersStay}
+use Rattle.conflicts.proofs.PairSteps.{pairs_more, others_more}
+use Rattle.conflicts.proofs.pair_all.Goals as goal
+
+pub loop-j-init : goal.loop-j-init
+loop-j-init c = (search rules, λ i l. absurd (omega arith), refl, λ i h. refl)
+
+pub pair_later-requires : goal.pair_later-requires
+pair_later-requires c =
+    let pre = c.requires in
+    let l = c.loop-j in
+    (record { few = pre.few; parents_room = pre.parents_room; rows = pre.rows; pairs_room = omega (arith, pre.pairs_room, l.invariant.2) }, omega arith)
+
+pub loop-j-preserved : goal.loop-j-preserved
+loop-j-preserved c =
+    let args = c.args in
+    let l = c.loop-j in
+    let few = c.requires.few in
+    let call = c.pair_later in
+    let new = call.new.1.1.1.1.1.1.1.0 in (
+      omega arith,
+      pairs_more args.parents.now (shown_by args.applied.now args.permits.now args.denies.now) args.n args.space few l.j l.pairs new l.invariant.1 call.ensures.0 call.ensures.1,
+      search rules,
+      others_more args.parents.now args.n l.j args.pairs.now l.pairs new l.invariant.3 call.ensures.1,
+    )
+
+pub returns : goal.returns
+returns c =
+    let l = c.loop-j in
+    (λ j k child. l.invariant.1 j (omega (arith, child.after, child.within)) k child, l.invariant.3)

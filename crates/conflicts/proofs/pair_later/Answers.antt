@@ -1,0 +1,48 @@
+use mathlib.Core.Path.{◌≡◌, refl, sym}
+use Prim.Native.Nat.{◌+◌, ◌-◌, ◌*◌, ◌≤◌, ◌<◌}
+use native.Mathlib.Omega.{arith}
+use lib.ListN.{length}
+use borrow.Author.Rules.{rules}
+use Rattle.conflicts.specs.Pairs.{shown_by, Later}
+use Rattle.conflicts.proofs.PairSteps.{PairedTo, pairs_begun, pair_skipped, pair_laid, pairs_ended, no_pair}
+use Rattle.conflicts.proofs.pair_later.Goals as goal
+
+pub returns-then-n-parent : goal.returns-then-n-parent
+returns-then-n-parent c =
+    let args = c.args in
+    (no_pair args.parents.now (shown_by args.applied.now args.permits.now args.denies.now) args.n args.space args.pairs.now args.j args.pairs.now c.if-n-parent.true, λ i h. refl)
+
+pub loop-k-init : goal.loop-k-init
+loop-k-init c =
+    let args = c.args in
+    (search rules, search rules, pairs_begun args.parents.now (shown_by args.applied.now args.permits.now args.denies.now) args.n args.space args.pairs.now args.j, refl)
+
+pub loop-k-preserved-then-parents-k : goal.loop-k-preserved-then-parents-k
+loop-k-preserved-then-parents-k c =
+    let args = c.args in
+    let l = c.loop-k in
+    (omega arith, omega arith, pair_skipped args.parents.now (shown_by args.applied.now args.permits.now args.denies.now) args.n args.space args.pairs.now args.j l.k l.pairs l.invariant.2 c.if-parents-k.true, l.invariant.3)
+
+pub first_shown-requires : goal.first_shown-requires
+first_shown-requires c =
+    let pre = c.requires in
+    (pre.0.rows, omega (arith, pre.0.few), omega (arith, pre.0.few), omega (arith, pre.0.few))
+
+pub bounds-pairs-j : goal.bounds-pairs-j
+bounds-pairs-j c = omega (arith, c.requires.0.few, c.requires.0.pairs_room, c.loop-k.invariant.3)
+
+pub loop-k-preserved : goal.loop-k-preserved
+loop-k-preserved c =
+    let args = c.args in
+    let l = c.loop-k in
+    let pre = c.requires in
+    let room : 64 * args.j + l.k < length l.pairs = omega (arith, pre.0.few, pre.0.pairs_room, l.invariant.3) in
+    let later : Later args.parents.now args.n args.j l.k = record { after = l.invariant.0; within = omega arith; siblings = sym c.if-parents-k.false; some = c.if-n-parent.false } in
+    let laid = pair_laid args.parents.now (shown_by args.applied.now args.permits.now args.denies.now) args.n args.space args.pairs.now args.j l.k l.pairs l.invariant.2 _ _ refl pre.0.few later room c.first_shown.ensures.0 in
+    (omega arith, omega arith, laid, laid.same_length)
+
+pub returns : goal.returns
+returns c =
+    let args = c.args in
+    let l = c.loop-k in
+    (pairs_ended args.parents.now (shown_by args.applied.now args.permits.now args.denies.now) args.n args.space args.pairs.now args.j l.k l.pairs l.invariant.2 (omega (arith, c.loop-k-test)), l.invariant.2.others)

@@ -1,0 +1,14 @@
+use mathlib.Core.Path.{◌≡◌, refl, sym}
+use Prim.Native.Nat.{◌+◌, ◌-◌, ◌*◌, ◌≤◌, ◌<◌}
+use native.Mathlib.Omega.{arith}
+use lib.ListN.{length}
+use borrow.Author.Rules.{rules}
+use Rattle.conflicts.specs.Pairs.{shown_by, Later}
+use Rattle.conflicts.proofs.PairSteps.{PairedTo, pairs_begun, pair_skipped, pair_laid, pairs_ended, no_pair}
+use Rattle.conflicts.proofs.pair_later.Given as goal
+
+abbrev pub invariant-loop-k : goal.invariant-loop-k
+invariant-loop-k l = (l.j < l.k) × (l.k ≤ l.n) × PairedTo l.parents (shown_by l.applied l.permits l.denies) l.n l.space l.initial.pairs l.j l.k l.pairs × (length l.pairs ≡ length l.initial.pairs)
+
+abbrev pub decreases-loop-k : goal.decreases-loop-k
+decreases-loop-k l = l.n - l.k

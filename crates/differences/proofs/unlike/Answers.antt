@@ -1,0 +1,25 @@
+-- `unlike`: one element more, which has obligations or has none. Assumes nothing.
+use Prim.Native.Nat.{◌-◌, ◌≤◌}
+use native.Mathlib.Omega.{arith}
+use borrow.Author.Rules.{rules}
+use Rattle.differences.specs.Marks.{Marked}
+use Rattle.differences.proofs.Words.{marked_skip, marked_next}
+use Rattle.differences.proofs.unlike.Goals as goal
+
+pub loop-i-init : goal.loop-i-init
+loop-i-init c = (omega arith, λ v j off l. absurd (omega arith))
+
+pub loop-i-preserved-then-places-i-eq0 : goal.loop-i-preserved-then-places-i-eq0
+loop-i-preserved-then-places-i-eq0 c =
+    let args = c.args in
+    let turn = c.loop-i in
+    (omega arith, marked_skip args.places.now args.one.now args.other.now turn.word turn.i turn.invariant.1 c.if-places-i-eq0.true)
+
+pub loop-i-preserved : goal.loop-i-preserved
+loop-i-preserved c =
+    let args = c.args in
+    let turn = c.loop-i in
+    (omega arith, marked_next args.places.now args.one.now args.other.now turn.word turn.i turn.invariant.1)
+
+pub returns : goal.returns
+returns c = let inv = c.loop-i.invariant in λ v j off l. inv.1 v j off (omega arith)

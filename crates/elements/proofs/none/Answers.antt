@@ -1,0 +1,6 @@
+-- `none` meets its contract: both places of the blank element are unused.
+use borrow.Author.Rules.{rules}
+use Rattle.elements.proofs.none.Goals as goal
+
+pub returns : goal.returns
+returns c = rw (c.unused-first.ensures, c.unused-second.ensures)

@@ -1,0 +1,6 @@
+-- `refuse` meets its contract: it has no attribute.
+use borrow.Author.Rules.{rules}
+use Rattle.header.proofs.refuse.Goals as goal
+
+pub returns : goal.returns
+returns c = rw c.no_attributes-attributes.ensures

@@ -1,0 +1,48 @@
+-- `first_differing`: the loop keeps the answer, that of the second file's attributes from `j` on. Assumes nothing.
+use Prim.Native.Nat.{◌+◌, ◌-◌, ◌≤◌}
+use mathlib.Core.Path.{◌≡◌, sym, ap, ◌∙◌}
+use native.Mathlib.Nat.{sub-zero}
+use native.Mathlib.Numerals.{add-one}
+use native.Mathlib.Omega.{arith}
+use borrow.Author.Rules.{rules}
+use Rattle.meaning.specs.Joining.{first_differing}
+use Rattle.table.specs.Tree.{place_or}
+use Rattle.layout.specs.Places.{attribute_at, attributes_from, attributes_of}
+use Rattle.layout.proofs.Names.{attributes_end, attributes_next}
+use Rattle.joined_attributes.proofs.Differing.{found, passed_over}
+use Rattle.joined_attributes.proofs.first_differing.Goals as goal
+
+pub loop-j-init : goal.loop-j-init
+loop-j-init c = (search rules, rw sub-zero)
+
+pub differ_any-requires : goal.differ_any-requires
+differ_any-requires c =
+    (c.requires.0, omega (arith, c.requires.1.few), c.requires.1.each c.loop-j.j (omega arith))
+
+pub returns-then-differ_any : goal.returns-then-differ_any
+returns-then-differ_any c =
+    let l = c.loop-j in
+    let own = attributes_of c.args.first.now c.args.a in
+    let next = attributes_next c.args.second.now c.args.b l.j (omega arith) in (
+      found own (l.j + 1) (attribute_at c.args.second.now c.args.b l.j) (attributes_from c.args.second.now c.args.b (l.j + 1) (c.args.b.len - (l.j + 1))) (sym c.differ_any.ensures ∙ c.if-differ_any.true)
+          ∙ sym (ap (place_or 0) (l.invariant.1 ∙ ap (first_differing own (l.j + 1)) next)),
+      omega (arith, c.requires.1.few),
+    )
+
+pub loop-j-preserved : goal.loop-j-preserved
+loop-j-preserved c =
+    let l = c.loop-j in
+    let own = attributes_of c.args.first.now c.args.a in
+    let next = attributes_next c.args.second.now c.args.b l.j (omega arith) in
+    let rest = attributes_from c.args.second.now c.args.b (l.j + 1) (c.args.b.len - (l.j + 1)) in (
+      omega arith,
+      l.invariant.1 ∙ ap (first_differing own (l.j + 1)) next
+          ∙ passed_over own (l.j + 1) (attribute_at c.args.second.now c.args.b l.j) rest (sym c.differ_any.ensures ∙ c.if-differ_any.false)
+          ∙ ap (λ n. first_differing own n rest) (sym (add-one (l.j + 1))),
+    )
+
+pub returns : goal.returns
+returns c =
+    let l = c.loop-j in
+    let own = attributes_of c.args.first.now c.args.a in
+    record { value = sym (ap (place_or 0) (l.invariant.1 ∙ ap (first_differing own (l.j + 1)) (attributes_end c.args.second.now c.args.b l.j (omega arith)))); within = search rules }

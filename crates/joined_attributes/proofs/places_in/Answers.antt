@@ -1,0 +1,68 @@
+-- `places_in`: the loop keeps the list of the places so far: of the first file's attributes, and of those alone behind them.
+-- Assumes nothing.
+use Prim.Native.Nat.{◌-◌, ◌≤◌}
+use mathlib.Core.Path.{◌≡◌, sym, ap, ◌∙◌}
+use native.Mathlib.Omega.{arith}
+use borrow.Author.Rules.{rules}
+use Rattle.meaning.specs.Joining.{declared, both, place_in}
+use Rattle.layout.specs.Places.{attributes_from, attributes_of}
+use Rattle.layout.proofs.Laws.{attributes_length}
+use Rattle.joined_attributes.specs.Placing.{listed, places_in}
+use Rattle.joined_attributes.proofs.Listing.{first_listed, both_count, known_passed, alone_listed}
+use Rattle.joined_attributes.proofs.places_in.Goals as goal
+
+pub loop-j-init : goal.loop-j-init
+loop-j-init c =
+    (search rules, first_listed c.args.second.now c.args.b (attributes_of c.args.own.now c.args.c) (attributes_of c.args.first.now c.args.a) c.of_first-p.ensures)
+
+pub attribute_name-name-requires : goal.attribute_name-name-requires
+attribute_name-name-requires c =
+    (omega (arith, c.requires.1.few), c.requires.1.each c.loop-j.j (omega arith))
+
+pub loop-j-preserved-then-known_attribute : goal.loop-j-preserved-then-known_attribute
+loop-j-preserved-then-known_attribute c =
+    let l = c.loop-j in
+    let first = attributes_of c.args.first.now c.args.a in
+    let known = sym (c.known_attribute.ensures ∙ ap (declared first) c.attribute_name-name.ensures) ∙ c.if-known_attribute.true in
+    (omega arith, known_passed c.args.second.now c.args.b (attributes_of c.args.own.now c.args.c) first l.j known l.invariant.1)
+
+pub with_place-p-requires : goal.with_place-p-requires
+with_place-p-requires c =
+    let l = c.loop-j in
+    omega (
+      arith,
+      c.requires.0.few,
+      c.requires.1.few,
+      ap (λ p. p.len) l.invariant.1,
+      attributes_length c.args.first.now c.args.a,
+      both_count c.args.second.now c.args.b (attributes_of c.args.own.now c.args.c) (attributes_of c.args.first.now c.args.a) l.j,
+    )
+
+pub loop-j-preserved : goal.loop-j-preserved
+loop-j-preserved c =
+    let l = c.loop-j in
+    let name = c.attribute_name-name.ensures in
+    let first = attributes_of c.args.first.now c.args.a in
+    let own = attributes_of c.args.own.now c.args.c in
+    let alone = sym (c.known_attribute.ensures ∙ ap (declared first) name) ∙ c.if-known_attribute.false in
+    let place = c.attribute_named.ensures.value ∙ ap (place_in own) name in
+    (omega arith, c.with_place-p.ensures ∙ alone_listed c.args.second.now c.args.b own first l.j (omega (arith, c.requires.0.few, c.requires.1.few, attributes_length c.args.first.now c.args.a)) alone place l.invariant.1)
+
+pub returns : goal.returns
+returns c =
+    let l = c.loop-j in
+    let first = attributes_of c.args.first.now c.args.a in
+    let own = attributes_of c.args.own.now c.args.c in
+    let all : l.j ≡ c.args.b.len = omega arith in (
+      l.invariant.1 ∙ ap (λ n. listed (places_in own (both first (attributes_from c.args.second.now c.args.b 0 n)))) all,
+      omega (arith, c.requires.0.few, c.requires.1.few, ap (λ p. p.len) l.invariant.1, attributes_length c.args.first.now c.args.a, both_count c.args.second.now c.args.b own first l.j),
+    )
+
+pub of_first-p-requires : goal.of_first-p-requires
+of_first-p-requires c = (c.requires.0, c.requires.2)
+
+pub known_attribute-requires : goal.known_attribute-requires
+known_attribute-requires c = c.requires.0
+
+pub attribute_named-requires : goal.attribute_named-requires
+attribute_named-requires c = c.requires.2

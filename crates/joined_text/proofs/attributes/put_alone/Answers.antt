@@ -1,0 +1,51 @@
+-- `put_alone`: the loop keeps the lines of those before `j` whose names the first file lacks. Assumes nothing.
+use mathlib.Core.Path.{sym, ap, ◌∙◌}
+use Prim.Native.Nat.{◌-◌, ◌≤◌}
+use native.Mathlib.Omega.{arith}
+use borrow.Author.Rules.{rules}
+use Rattle.meaning.specs.Joining.{declared}
+use Rattle.layout.specs.Places.{attributes_of}
+use Rattle.printing.proofs.Walks.{Sofar, begun, stored, passed_over, ended_all}
+use Rattle.joined_text.proofs.Header.{same_text, alone_at, alone_known, alone_new, alone_lines}
+use Rattle.joined_text.proofs.attributes.put_alone.Goals as goal
+
+pub loop-j-init : goal.loop-j-init
+loop-j-init c =
+    (search rules, begun (alone_at c.args.second.now c.args.b (attributes_of c.args.first.now c.args.a)) 16388 0 c.args.out.now c.args.at)
+
+pub attribute_name-requires : goal.attribute_name-requires
+attribute_name-requires c =
+    let standing = c.requires.1.standing in
+    (omega (arith, standing.few), standing.each c.loop-j.j (omega arith))
+
+pub known_attribute-requires : goal.known_attribute-requires
+known_attribute-requires c = c.requires.0.standing
+
+pub loop-j-preserved-then-known_attribute : goal.loop-j-preserved-then-known_attribute
+loop-j-preserved-then-known_attribute c =
+    let l = c.loop-j in
+    let first = attributes_of c.args.first.now c.args.a in
+    let known = sym (c.known_attribute.ensures ∙ ap (declared first) c.attribute_name.ensures) ∙ c.if-known_attribute.true in
+    (omega arith, passed_over (alone_at c.args.second.now c.args.b first) 16388 0 c.args.out.now c.args.at l.j l.invariant.1 (alone_known c.args.second.now c.args.b first l.j known))
+
+pub put_attribute-end-requires : goal.put_attribute-end-requires
+put_attribute-end-requires c =
+    let pre = c.requires in
+    let l = c.loop-j in
+    (omega (arith, pre.1.standing.few), pre.1.standing.each l.j (omega arith), pre.1.short, omega (arith, pre.2, pre.1.standing.few, l.invariant.1.within))
+
+pub loop-j-preserved : goal.loop-j-preserved
+loop-j-preserved c =
+    let l = c.loop-j in
+    let first = attributes_of c.args.first.now c.args.a in
+    let alone = sym (c.known_attribute.ensures ∙ ap (declared first) c.attribute_name.ensures) ∙ c.if-known_attribute.false in
+    let put = c.put_attribute-end.ensures in
+    let line = same_text (alone_new c.args.second.now c.args.b first l.j alone) put.0 in
+    (omega arith, stored (alone_at c.args.second.now c.args.b first) 16388 0 c.args.out.now c.args.at l.j l.invariant.1 (line, put.1))
+
+pub returns : goal.returns
+returns c =
+    let l = c.loop-j in
+    let first = attributes_of c.args.first.now c.args.a in
+    let lines = ended_all (alone_at c.args.second.now c.args.b first) 16388 c.args.out.now c.args.at l.j l.invariant.1 c.args.b.len (omega (arith, l.invariant.0)) in
+    (same_text (alone_lines c.args.second.now c.args.b first) lines, omega (arith, l.invariant.1.within, c.requires.1.standing.few))

@@ -1,0 +1,23 @@
+-- `leave_out`: what is left to match tells what the whole does. Assumes nothing.
+use mathlib.Core.Path.{◌≡◌, refl, sym, ap, ◌∙◌}
+use Prim.Native.Nat.{◌-◌, ◌≤◌}
+use native.Mathlib.Nat.{sub-zero}
+use native.Mathlib.Omega.{arith}
+use lib.ListN.{length, length-set}
+use borrow.Author.Tests.{not-true, not-false}
+use borrow.Author.Rules.{rules}
+use Rattle.layout.specs.Places.{start_of}
+use Rattle.trimmed_text.proofs.Copying.{lines_lie}
+use Rattle.left_out.specs.Leaving.{leaving_from}
+use Rattle.left_out.proofs.Turns.{enough, other_start, start_matched, at_end, matched_next, struck_next, other_next}
+use Rattle.left_out.proofs.leave_out.Given as goal
+
+abbrev pub invariant-loop-i : goal.invariant-loop-i
+invariant-loop-i l =
+    (l.i ≤ l.n)
+    × (l.at ≤ length l.proposal)
+    × (length l.struck ≡ length l.initial.struck)
+    × (leaving_from l.file l.places l.table l.n l.proposal (l.n - l.i) l.i l.at l.struck ≡ leaving_from l.file l.places l.table l.n l.proposal l.n 0 (start_of l.places 0) l.initial.struck)
+
+abbrev pub decreases-loop-i : goal.decreases-loop-i
+decreases-loop-i l = l.n - l.i

@@ -1,0 +1,12 @@
+-- `same_given`: what was laid down is each text whole.
+use mathlib.Core.Path.{ap₂, ◌∙◌}
+use borrow.Author.Rules.{rules}
+use Rattle.meaning.specs.Text.{same}
+use Rattle.obligations.proofs.Texts.{laid_whole}
+use Rattle.obligations.proofs.same_given.Goals as goal
+
+pub returns : goal.returns
+returns c =
+    let (one, fits) = c.put_given-end.ensures in
+    let (two, other_fits) = c.put_given-other_end.ensures in
+    c.same.ensures ∙ ap₂ same (laid_whole one fits) (laid_whole two other_fits)

@@ -1,0 +1,44 @@
+-- `first_other`: each turn passes a line of the original, and what is left gives what the whole gives. Assumes nothing.
+use mathlib.Core.Path.{refl, sym, ◌∙◌}
+use Prim.Native.Nat.{◌-◌}
+use native.Mathlib.Omega.{arith}
+use lib.ListN.{length}
+use borrow.Author.Rules.{rules}
+use borrow.Author.Tests.{not-true, not-false}
+use Rattle.other_lines.proofs.Walking.{Kept, all_match, none_left, taken, skipped, found}
+use Rattle.other_lines.proofs.first_other.Goals as goal
+
+pub loop-from-init : goal.loop-from-init
+loop-from-init c = record { at_inside = search rules; from_inside = search rules; few = search rules; original_ended = c.requires.0; proposal_ended = c.requires.1; finds = refl }
+
+pub returns-then-at-original : goal.returns-then-at-original
+returns-then-at-original c =
+    let e = c.end_of-to in
+    let l = c.loop-from in
+    record { value = none_left l.invariant e.ensures.0 e.ensures.1.1 (search rules) c.if-at-original.true; within = search rules }
+
+pub loop-from-preserved-then-same : goal.loop-from-preserved-then-same
+loop-from-preserved-then-same c =
+    let o = c.end_of-end in
+    let p = c.end_of-to in
+    let l = c.loop-from in
+    taken l.invariant p.ensures.0 p.ensures.1.1 (search rules) o.ensures.0 o.ensures.1.1 c.if-at-original.false (sym c.same.ensures ∙ c.if-same.true)
+
+pub returns-then-not-rule_line : goal.returns-then-not-rule_line
+returns-then-not-rule_line c =
+    let o = c.end_of-end in
+    let p = c.end_of-to in
+    let l = c.loop-from in
+    let unlike = sym c.same.ensures ∙ c.if-same.false in
+    record { value = found l.invariant p.ensures.0 p.ensures.1.1 (search rules) o.ensures.0 o.ensures.1.1 c.if-at-original.false unlike (sym c.rule_line.ensures ∙ c.if-not-rule_line.true); within = search rules }
+
+pub loop-from-preserved : goal.loop-from-preserved
+loop-from-preserved c =
+    let o = c.end_of-end in
+    let p = c.end_of-to in
+    let l = c.loop-from in
+    let unlike = sym c.same.ensures ∙ c.if-same.false in
+    skipped l.invariant p.ensures.0 p.ensures.1.1 (search rules) o.ensures.0 o.ensures.1.1 c.if-at-original.false unlike (sym c.rule_line.ensures ∙ c.if-not-rule_line.false)
+
+pub returns : goal.returns
+returns c = record { value = all_match c.loop-from.invariant (omega arith); within = search rules }

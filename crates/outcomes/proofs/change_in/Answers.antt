@@ -1,0 +1,37 @@
+-- `change_in`: the words that are laid down are those of the block, or a bit tells where they are not. Assumes nothing.
+use native.Mathlib.Omega.{arith}
+use Rattle.outcomes.proofs.Blocks.{block_room, block_alike, block_other}
+use borrow.Author.Rules.{rules}
+use Rattle.outcomes.proofs.change_in.Goals as goal
+
+pub reply-reply-requires : goal.reply-reply-requires
+reply-reply-requires c =
+    let t = c.args.table.now in
+    let struck = c.args.struck.now in
+    let hits = c.args.hits.now in
+    let shape = c.args.shape in
+    block_room t struck hits shape c.requires.0 c.requires.1 _ (omega (arith, c.requires.0.small))
+
+pub bounds-outcomes-block : goal.bounds-outcomes-block
+bounds-outcomes-block c = omega (arith, c.requires.0.small)
+
+pub bounds-outcomes-block-2 : goal.bounds-outcomes-block-2
+bounds-outcomes-block-2 c = omega (arith, c.requires.0.small)
+
+pub returns-then-given-before-2 : goal.returns-then-given-before-2
+returns-then-given-before-2 c =
+    let t = c.args.table.now in
+    let struck = c.args.struck.now in
+    let hits = c.args.hits.now in
+    let shape = c.args.shape in
+    let reply = c.reply-reply in
+    block_alike t struck hits shape c.requires.0 c.requires.1 c.args.block reply.result reply.ensures c.args.outcomes.now c.if-given-before.true c.if-given-before-2.true
+
+pub returns : goal.returns
+returns c =
+    let t = c.args.table.now in
+    let struck = c.args.struck.now in
+    let hits = c.args.hits.now in
+    let shape = c.args.shape in
+    let reply = c.reply-reply in
+    block_other t struck hits shape c.requires.0 c.requires.1 c.args.block reply.result reply.ensures c.args.outcomes.now _ c.first_other.ensures

@@ -1,0 +1,44 @@
+-- `decide_all`: up to the block looked at, the words tell what each request gets. Assumes nothing.
+use Prim.Native.Nat.{◌+◌, ◌-◌, ◌*◌, ◌<◌}
+use mathlib.Core.Path.{◌≡◌, refl}
+use native.Mathlib.Omega.{arith}
+use lib.ListN.{length, length-set}
+use Rattle.outcomes.proofs.Blocks.{outcome_up_to, block_room, given_outcome}
+use Rattle.outcomes.proofs.LayingOutcomes.{OutcomesTo, outcomes_none, outcomes_next, outcomes_laid, outcomes_rest}
+use borrow.Author.Rules.{rules}
+use Rattle.outcomes.proofs.decide_all.Goals as goal
+
+pub loop-block-init : goal.loop-block-init
+loop-block-init c = (omega arith, refl, outcomes_none _ _)
+
+pub overflow_mul-block : goal.overflow_mul-block
+overflow_mul-block c = omega (arith, c.requires.0.small)
+
+pub reply-reply-requires : goal.reply-reply-requires
+reply-reply-requires c =
+    let ready = c.requires.0 in
+    block_room c.args.table.now c.args.struck.now c.args.hits.now c.args.shape ready c.requires.1 _ (omega (arith, ready.small))
+
+pub bounds-outcomes-block-in-loop-block : goal.bounds-outcomes-block-in-loop-block
+bounds-outcomes-block-in-loop-block c = simp length-set (omega (arith, c.requires.0.small))
+
+pub loop-block-preserved : goal.loop-block-preserved
+loop-block-preserved c =
+    let turn = c.loop-block in
+    let t = c.args.table.now in
+    let struck = c.args.struck.now in
+    let shape = c.args.shape in
+    let ready = c.requires.0 in
+    let given = given_outcome t struck c.args.hits.now shape ready c.requires.1 turn.block c.reply-reply.result c.reply-reply.ensures (omega arith) in (
+      omega arith,
+      rw (length-set, length-set) turn.invariant.1,
+      outcomes_next _ given (omega (arith, ready.small)) (omega arith) turn.invariant.2,
+    )
+
+pub returns : goal.returns
+returns c =
+    let turn = c.loop-block in
+    let t = c.args.table.now in
+    let struck = c.args.struck.now in
+    let shape = c.args.shape in
+    (outcomes_laid t struck shape _ turn.outcomes turn.block turn.invariant.2 (omega arith) (omega arith) (omega arith), outcomes_rest t struck shape _ turn.outcomes turn.block turn.invariant.2 (omega arith) (omega arith))

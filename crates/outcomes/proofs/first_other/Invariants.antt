@@ -1,0 +1,16 @@
+-- `first_other`: no place passed tells two decisions. Assumes nothing.
+use Prim.Native.Nat.{ℕ, ◌-◌, ◌≤◌, ◌<◌}
+use mathlib.Core.Path.{◌≡◌, refl, sym, ap, ◌∙◌}
+use native.Mathlib.Omega.{arith}
+use Rattle.meaning.specs.Deciding.{decision_number}
+use Rattle.laws.proofs.Outcomes.{same_number}
+use Rattle.blocks.specs.Bits.{decision_bit}
+use Rattle.outcomes.proofs.Searching.{up_to}
+use borrow.Author.Rules.{rules}
+use Rattle.outcomes.proofs.first_other.Given as goal
+
+abbrev pub invariant-loop-v : goal.invariant-loop-v
+invariant-loop-v l = (l.v ≤ 64) × ((u : ℕ) → u < l.v → decision_bit l.given u ≡ decision_bit l.before u)
+
+abbrev pub decreases-loop-v : goal.decreases-loop-v
+decreases-loop-v l = 64 - l.v

@@ -1,0 +1,14 @@
+use native.Mathlib.Omega.{arith}
+use borrow.Author.Rules.{rules}
+use Rattle.printing.proofs.Laws.{then}
+use Rattle.printing.proofs.put_number.Goals as goal
+
+-- src/lib.rt:64:9
+-- src/lib.rt:65:5
+-- src/lib.rt:60:1
+-- src/lib.rt:60:1
+pub returns : goal.returns
+returns c =
+    let (w, l) = c.put_decimal-behind.ensures in
+    let v = c.put.ensures in
+    (then w v, omega (arith, l, v.moved))

@@ -1,0 +1,19 @@
+-- `repeats::many::none_again` meets its contract. The loop keeps that no field passed stands twice, and that the suspects passed have marks.
+use Prim.Native.Nat.{◌≤◌}
+use mathlib.Core.Path.{◌≡◌, refl, sym, ap, ◌∙◌}
+use mathlib.Core.Bool.{false, not}
+use mathlib.Core.List.{[]}
+use native.Mathlib.Omega.{arith}
+use borrow.Author.Rules.{rules}
+use lib.ListN.{length, get_or, drop}
+use Rattle.meaning.specs.Text.{repeated, cut, tab}
+use Rattle.repeats.specs.Marks.{marked, first_at, others_at, Kept}
+use Rattle.repeats.proofs.Backward.{at_parts, end_parts, next_parts}
+use Rattle.repeats.proofs.Repeats.{again_repeated, passing, none_more}
+use Rattle.repeats.proofs.many.none_again.Given as goal
+
+abbrev pub invariant-loop-passed : goal.invariant-loop-passed
+invariant-loop-passed l = (l.end ≤ length l.fields) × (first_at l.fields l.end ≡ []) × Kept (marked l.suspects) l.passed (others_at l.fields l.end) × (repeated (others_at l.fields l.end) ≡ false)
+
+abbrev pub decreases-loop-passed : goal.decreases-loop-passed
+decreases-loop-passed l = l.end

@@ -1,0 +1,9 @@
+-- `repeats::marks::mark` meets its contract: one bit after the other.
+use mathlib.Core.Path.{ap, ◌∙◌}
+use borrow.Author.Rules.{rules}
+use Rattle.repeats.specs.Marks.{with_bit, second_bit, with_mark}
+use Rattle.repeats.proofs.marks.mark.Goals as goal
+
+pub returns : goal.returns
+unfolding with_mark
+returns c = c.set_bit-2.ensures ∙ ap (λ ws. with_bit ws (second_bit c.args.h)) c.set_bit.ensures

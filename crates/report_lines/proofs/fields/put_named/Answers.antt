@@ -1,0 +1,10 @@
+use native.Mathlib.Omega.{arith}
+use borrow.Author.Rules.{rules}
+use Rattle.printing.proofs.Laws.{then}
+use Rattle.report_lines.proofs.fields.put_named.Goals as goal
+
+pub returns : goal.returns
+returns c =
+    let (w, l) = c.put_name-n.ensures in
+    let v = c.put.ensures in
+    (then w v, omega (arith, l, v.moved))

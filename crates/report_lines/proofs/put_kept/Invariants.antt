@@ -1,0 +1,12 @@
+use Prim.Native.Nat.{◌-◌, ◌≤◌}
+use native.Mathlib.Omega.{arith}
+use Rattle.printing.proofs.Walks.{Sofar, begun, stored, ended_all}
+use Rattle.report_lines.specs.Lines.{kept_line, kept_text}
+use borrow.Author.Rules.{rules}
+use Rattle.report_lines.proofs.put_kept.Given as goal
+
+abbrev pub invariant-loop-i : goal.invariant-loop-i
+invariant-loop-i l = (l.i ≤ l.n) × Sofar (kept_line l.file l.places l.shown l.shape.space) 500 0 l.initial.out l.at l.i l.out l.end
+
+abbrev pub decreases-loop-i : goal.decreases-loop-i
+decreases-loop-i l = l.n - l.i

@@ -1,0 +1,13 @@
+use Prim.Native.Nat.{◌-◌, ◌≤◌}
+use native.Mathlib.Omega.{arith}
+use Rattle.printing.proofs.Walks.{Sofar, begun, stored, passed_over, ended_all}
+use Rattle.report_lines.specs.Lines.{segment_line, segment_text}
+use Rattle.report_lines.proofs.LineTexts.{no_segment, is_segment}
+use borrow.Author.Rules.{rules}
+use Rattle.report_lines.proofs.put_segments.Given as goal
+
+abbrev pub invariant-loop-m : goal.invariant-loop-m
+invariant-loop-m l = (l.m ≤ l.space) × Sofar (segment_line l.file l.places l.shape.n l.words l.sizes l.decided) 10000 0 l.initial.out l.at l.m l.out l.end
+
+abbrev pub decreases-loop-m : goal.decreases-loop-m
+decreases-loop-m l = l.space - l.m

@@ -1,0 +1,14 @@
+-- `find_segments`: what the functions that it calls lay down. Assumes nothing.
+use native.Mathlib.Omega.{arith}
+use Rattle.reporting.proofs.Finding.{segments_found}
+use borrow.Author.Rules.{rules}
+use Rattle.reporting.proofs.find_segments.Goals as goal
+
+pub number_all-requires : goal.number_all-requires
+number_all-requires c = let pre = c.requires in (pre.3.enough, pre.0.small, omega (arith, pre.0.small))
+
+pub returns : goal.returns
+returns c =
+    let pre = c.requires in
+    let applied = c.apply_all in
+    segments_found _ _ _ _ _ applied.new.1.1.1.0 _ _ applied.ensures.0 c.words_all.ensures c.size_all.ensures _ _ pre.3 c.number_all.ensures

@@ -1,0 +1,18 @@
+-- `request_line` meets its contract: a line of another count of fields is refused, and any other is what its fields give.
+use mathlib.Core.Path.{subst}
+use borrow.Author.Rules.{rules}
+use Rattle.request_lines.specs.Asked.{AskedAs}
+use Rattle.request_lines.proofs.FieldWalk.{wrong_count_lem, right_count}
+use Rattle.request_lines.proofs.request_line.Goals as goal
+
+pub returns-then-count_pieces-a : goal.returns-then-count_pieces-a
+returns-then-count_pieces-a c =
+    let args = c.args in
+    let wrong = wrong_count_lem args.file.now args.a args.line.now c.count_pieces.ensures c.if-count_pieces-a.true in
+    subst (AskedAs args.a c.refuse.result) wrong c.refuse.ensures
+
+pub returns : goal.returns
+returns c =
+    let args = c.args in
+    let right = right_count args.file.now args.a args.line.now c.count_pieces.ensures c.if-count_pieces-a.false in
+    subst (AskedAs args.a c.read_fields.result) right c.read_fields.ensures

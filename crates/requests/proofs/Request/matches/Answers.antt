@@ -1,0 +1,40 @@
+-- `Request::matches`: the attributes looked at so far match their fields. Assumes nothing.
+use Prim.Native.Nat.{◌-◌, ◌≤◌}
+use mathlib.Core.Path.{◌≡◌, sym, ◌∙◌}
+use mathlib.Core.Bool.{true, false}
+use native.Mathlib.Omega.{arith}
+use borrow.Author.Rules.{rules}
+use borrow.Author.Tests.{not-true, not-false}
+use lib.ListN.{length, take, drop}
+use Rattle.meaning.specs.Deciding.{within}
+use Rattle.requests.proofs.Targets.{within_from, within_more, within_all}
+use Rattle.requests.proofs.Request.matches.Goals as goal
+
+pub returns-then-not-in_field : goal.returns-then-not-in_field
+returns-then-not-in_field c =
+    let turn = c.loop-i in
+    let six : length c.args.self.values ≡ 6 = search rules in
+    let letters : length c.args.self.several ≡ 6 = search rules in
+    let out : c.in_field.result ≡ false = c.if-not-in_field.true in
+    sym (turn.invariant.1
+    ∙ within_more c.args.at c.args.self.len turn.i c.args.self.several c.args.masks.now c.args.self.values c.requires.0 c.requires.1 (omega arith) (omega arith) c.loop-i-test.true
+    ∙ rw (← c.in_field.ensures, out))
+
+pub loop-i-preserved : goal.loop-i-preserved
+loop-i-preserved c =
+    let turn = c.loop-i in
+    let six : length c.args.self.values ≡ 6 = search rules in
+    let letters : length c.args.self.several ≡ 6 = search rules in
+    let in-mask : c.in_field.result ≡ true = c.if-not-in_field.false in (
+      search rules,
+      turn.invariant.1
+          ∙ within_more c.args.at c.args.self.len turn.i c.args.self.several c.args.masks.now c.args.self.values c.requires.0 c.requires.1 (omega arith) (omega arith) c.loop-i-test.true
+          ∙ rw (← c.in_field.ensures, in-mask),
+    )
+
+pub returns : goal.returns
+returns c =
+    let turn = c.loop-i in
+    let six : length c.args.self.values ≡ 6 = search rules in
+    let letters : length c.args.self.several ≡ 6 = search rules in
+    sym (turn.invariant.1 ∙ within_all c.args.at c.args.self.len turn.i c.args.self.several c.args.masks.now c.args.self.values c.requires.0 c.requires.1 (omega arith) (omega arith) (omega arith))

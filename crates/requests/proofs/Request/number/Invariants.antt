@@ -1,0 +1,16 @@
+-- `Request::number`: the values passed weigh, with those to come, the whole number. Assumes nothing.
+use Prim.Native.Nat.{◌+◌, ◌-◌, ◌*◌, ◌≤◌, ◌<◌}
+use mathlib.Core.Path.{◌≡◌, sym, ◌∙◌}
+use native.Mathlib.Nat.{zero-mul, zero-add}
+use native.Mathlib.Omega.{arith}
+use borrow.Author.Rules.{rules}
+use lib.ListN.{length, take, get_or}
+use Rattle.meaning.specs.Deciding.{number_of}
+use Rattle.requests.proofs.Laws.{fits, weighed, weigh, weigh_small, weighed_all}
+use Rattle.requests.proofs.Request.number.Given as goal
+
+abbrev pub invariant-loop-i : goal.invariant-loop-i
+invariant-loop-i l = (l.i ≤ l.len) × (weighed l.len l.i l.total l.counts l.values ≡ number_of (take l.len l.counts) (take l.len l.values))
+
+abbrev pub decreases-loop-i : goal.decreases-loop-i
+decreases-loop-i l = l.len - l.i

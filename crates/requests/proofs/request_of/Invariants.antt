@@ -1,0 +1,18 @@
+-- `request_of`: the values from the place looked at on, with what is left of the number, weigh the number. Assumes nothing.
+use Prim.Native.Nat.{ℕ, ◌-◌, ◌%◌, ◌≤◌, ◌<◌}
+use mathlib.Core.Path.{◌≡◌, refl, ◌∙◌}
+use native.Mathlib.Nat.{mod-lt}
+use native.Mathlib.Omega.{arith}
+use borrow.Author.Rules.{rules}
+use lib.ListN.{length, take, drop, get_or, length-set, replicate}
+use lib.Seq.{drop-set-lt}
+use Rattle.requests.proofs.Laws.{Below, fits, set_below, counts_positive, positive_at, weighed, weighed_all}
+use Rattle.requests.proofs.Laid.{laid}
+use Rattle.requests.proofs.Steps.{divided, settled}
+use Rattle.requests.proofs.request_of.Given as goal
+
+abbrev pub invariant-loop-i : goal.invariant-loop-i
+invariant-loop-i l = (l.i ≤ l.len) × (length l.values ≡ 6) × (weighed l.len l.i l.rest l.counts l.values ≡ l.number) × ((k : ℕ) → l.i ≤ k → k < l.len → get_or l.values k 0 < get_or l.counts k 0) × (drop l.len l.values ≡ drop l.len (replicate 6 0))
+
+abbrev pub decreases-loop-i : goal.decreases-loop-i
+decreases-loop-i l = l.i

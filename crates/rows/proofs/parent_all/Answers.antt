@@ -1,0 +1,16 @@
+-- `parent_all`: the parents, laid down one after the other. Assumes nothing.
+use Prim.Native.Nat.{◌-◌, ◌≤◌}
+use native.Mathlib.Omega.{arith}
+use borrow.Author.Rules.{rules}
+use Rattle.table.specs.Tree.{parent_of, place_or}
+use Rattle.outcomes.proofs.Laying.{Lays, lays_none, lays_next, lays_all}
+use Rattle.rows.proofs.parent_all.Goals as goal
+
+pub loop-child-init : goal.loop-child-init
+loop-child-init c = (omega arith, lays_none _ _ _)
+
+pub loop-child-preserved : goal.loop-child-preserved
+loop-child-preserved c = (omega arith, lays_next _ _ c.loop-child-test.true c.parent.ensures c.loop-child.invariant.1)
+
+pub returns : goal.returns
+returns c = lays_all _ c.requires.1 (omega arith) c.loop-child.invariant.1

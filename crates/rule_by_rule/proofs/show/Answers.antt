@@ -1,0 +1,26 @@
+-- `show`: the name of the rule that is found, counted and then written. Assumes nothing.
+use mathlib.Core.Path.{sym}
+use native.Mathlib.Omega.{arith}
+use lib.Seq.{length-take-le}
+use borrow.Author.Rules.{rules}
+use Rattle.printing.proofs.Fitting.{written}
+use Rattle.trimmed_text.proofs.Held.{steady_held, next_within}
+use Rattle.rule_by_rule.proofs.Shown.{show_fitted}
+use Rattle.rule_by_rule.proofs.show.Goals as goal
+
+pub next_struck-next-requires : goal.next_struck-next-requires
+next_struck-next-requires c = let held = c.requires in (steady_held _ _ _ _ held, held.ready)
+
+pub put_name-needed-requires : goal.put_name-needed-requires
+put_name-needed-requires c = let held = c.requires in (held.naming, omega (arith, next_within _ _ _ _ held _ c.next_struck-next.ensures.0))
+
+pub slice_bounds-put_name-end-3 : goal.slice_bounds-put_name-end-3
+slice_bounds-put_name-end-3 c = sym (length-take-le _ _ c.lend-part.ensures.within)
+
+pub put_name-requires : goal.put_name-requires
+put_name-requires c = let held = c.requires in (held.naming, omega (arith, next_within _ _ _ _ held _ c.next_struck-next.ensures.0))
+
+pub returns : goal.returns
+returns c =
+    show_fitted _ _ _ _ c.requires _ c.next_struck-next.ensures.0
+    (written c.put_name-needed.ensures.0 c.args.out.now _ c.lend-part.ensures.value c.put_name.ensures.0 c.text_answer.ensures)

@@ -1,0 +1,46 @@
+-- `strike`: 15 where no needless rule has the name, else the text without its line, counted and then written. Assumes nothing.
+use mathlib.Core.Path.{sym, ◌∙◌}
+use native.Mathlib.Omega.{arith}
+use lib.Seq.{length-take-le}
+use borrow.Author.Rules.{rules}
+use borrow.Author.Tests.{not-true, not-false}
+use Rattle.printing.proofs.Fitting.{written}
+use Rattle.trimmed_text.proofs.Held.{steady_held, named_held, copies_held, small_part}
+use Rattle.rule_by_rule.proofs.Struck.{no_element, here, needed, strike_fitted}
+use Rattle.rule_by_rule.proofs.strike.Goals as goal
+
+pub element_named-i-requires : goal.element_named-i-requires
+element_named-i-requires c = named_held _ _ _ _ c.requires
+
+pub returns-then-i-n : goal.returns-then-i-n
+returns-then-i-n c =
+    no_element _ _ _ _ c.requires c.args.rule.now _ c.element_named-i.ensures c.if-i-n.true c.args.out.now
+
+pub is_needless-requires : goal.is_needless-requires
+is_needless-requires c =
+    (steady_held _ _ _ _ c.requires, c.requires.ready, (here _ _ _ _ c.requires c.args.rule.now _ c.element_named-i.ensures c.if-i-n.false).0)
+
+pub returns-then-not-is_needless : goal.returns-then-not-is_needless
+returns-then-not-is_needless c =
+    needed _ _ _ _ c.requires c.args.rule.now _ c.element_named-i.ensures c.if-i-n.false (sym c.is_needless.ensures.0 ∙ c.if-not-is_needless.true) c.args.out.now
+
+pub bounds-struck-i : goal.bounds-struck-i
+bounds-struck-i c =
+    omega (arith, (here _ _ _ _ c.requires c.args.rule.now _ c.element_named-i.ensures c.if-i-n.false).0, c.requires.ready.few)
+
+pub put_text-needed-requires : goal.put_text-needed-requires
+put_text-needed-requires c = copies_held _ _ _ _ c.requires _ c.is_needless.ensures.1 _ _
+
+pub slice_bounds-put_text-end-5 : goal.slice_bounds-put_text-end-5
+slice_bounds-put_text-end-5 c = sym (length-take-le _ _ c.lend-part.ensures.within)
+
+pub put_text-requires : goal.put_text-requires
+put_text-requires c = copies_held _ _ _ _ c.requires _ c.is_needless.ensures.1 _ _
+
+pub text_answer-requires : goal.text_answer-requires
+text_answer-requires c = small_part _ _ _ _ c.requires _ c.put_text-needed.ensures.1
+
+pub returns : goal.returns
+returns c =
+    strike_fitted _ _ _ _ c.requires c.args.rule.now _ c.element_named-i.ensures c.if-i-n.false (sym c.is_needless.ensures.0 ∙ c.if-not-is_needless.false) _ c.is_needless.ensures.1
+    (written c.put_text-needed.ensures.0 c.args.out.now _ c.lend-part.ensures.value c.put_text.ensures.0 c.text_answer.ensures)

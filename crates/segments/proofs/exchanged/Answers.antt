@@ -1,0 +1,15 @@
+-- `exchanged`: the first k words. Assumes nothing.
+use Prim.Native.Nat.{◌-◌, ◌≤◌}
+use native.Mathlib.Omega.{arith}
+use Rattle.segments.proofs.Turning.{Exchanges, exchanges_none, exchanges_next}
+use borrow.Author.Rules.{rules}
+use Rattle.segments.proofs.exchanged.Goals as goal
+
+pub loop-k-init : goal.loop-k-init
+loop-k-init c = (search rules, exchanges_none _ _)
+
+pub loop-k-preserved : goal.loop-k-preserved
+loop-k-preserved c = let turn = c.loop-k in (search rules, exchanges_next _ _ turn.to turn.k _ (omega arith) c.exchange.ensures (search rules) turn.invariant.1)
+
+pub returns : goal.returns
+returns c = let turn = c.loop-k in λ k l. turn.invariant.1.done k (omega arith)

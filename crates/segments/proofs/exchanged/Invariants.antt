@@ -1,0 +1,12 @@
+-- `exchanged`: the first k words. Assumes nothing.
+use Prim.Native.Nat.{◌-◌, ◌≤◌}
+use native.Mathlib.Omega.{arith}
+use Rattle.segments.proofs.Turning.{Exchanges, exchanges_none, exchanges_next}
+use borrow.Author.Rules.{rules}
+use Rattle.segments.proofs.exchanged.Given as goal
+
+abbrev pub invariant-loop-k : goal.invariant-loop-k
+invariant-loop-k l = (l.k ≤ 64) × Exchanges l.s l.words l.to l.k
+
+abbrev pub decreases-loop-k : goal.decreases-loop-k
+decreases-loop-k l = 64 - l.k

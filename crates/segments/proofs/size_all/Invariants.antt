@@ -1,0 +1,15 @@
+-- `size_all`: each request is counted at the first one of its segment. Assumes nothing.
+use Prim.Native.Nat.{◌-◌, ◌≤◌}
+use native.Mathlib.Omega.{arith}
+use borrow.Author.Rules.{rules}
+use lib.ListN.{length-set}
+use Rattle.segments.specs.Chains.{Chained}
+use Rattle.segments.proofs.Chains.{chained_none}
+use Rattle.segments.proofs.Sizing.{first_of, Sized, sized_none, counted_most, sized_next, sized_all}
+use Rattle.segments.proofs.size_all.Given as goal
+
+abbrev pub invariant-loop-m : goal.invariant-loop-m
+invariant-loop-m l = (l.m ≤ l.space) × Sized l.words l.initial.sizes l.sizes l.m × Chained l.words l.heads l.links l.m
+
+abbrev pub decreases-loop-m : goal.decreases-loop-m
+decreases-loop-m l = l.space - l.m

@@ -1,0 +1,16 @@
+-- `words_all`: the words of the requests before m, and the block of the last of them. Assumes nothing.
+use Prim.Native.Nat.{◌-◌, ◌/◌, ◌%◌, ◌≤◌}
+use mathlib.Core.Path.{◌≡◌, refl}
+use mathlib.Core.Logic.{⊎_elim}
+use native.Mathlib.Omega.{arith}
+use Rattle.outcomes.proofs.Laying.{Lays, lays_none, lays_next, lays_all}
+use Rattle.segments.specs.Across.{word_across}
+use Rattle.segments.proofs.Columns.{Across, across_turned, across_here, across_later, across_same}
+use borrow.Author.Rules.{rules}
+use Rattle.segments.proofs.words_all.Given as goal
+
+abbrev pub invariant-loop-m : goal.invariant-loop-m
+invariant-loop-m l = (l.m ≤ l.space) × ((l.m % 64 ≡ 0 → ⊥) → Across l.rows l.n l.block (l.m / 64)) × Lays (word_across l.rows l.n) l.space l.initial.words l.words l.m
+
+abbrev pub decreases-loop-m : goal.decreases-loop-m
+decreases-loop-m l = l.space - l.m

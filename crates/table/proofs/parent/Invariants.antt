@@ -1,0 +1,16 @@
+-- `parent`: the places passed are not one less deep. Assumes nothing.
+use Prim.Native.Nat.{◌+◌, ◌-◌, ◌≤◌}
+use mathlib.Core.Path.{◌≡◌, refl, sym, ap, ◌∙◌}
+use mathlib.Core.Option.{none}
+use native.Mathlib.Omega.{arith}
+use borrow.Author.Rules.{rules}
+use Rattle.table.specs.Rows.{depth_of}
+use Rattle.table.specs.Tree.{parent_of, place_or}
+use Rattle.table.proofs.Above.{nearest, nearest_here, nearest_farther}
+use Rattle.table.proofs.parent.Given as goal
+
+abbrev pub invariant-loop-j : goal.invariant-loop-j
+invariant-loop-j l = (l.j ≤ l.i) × (nearest l.table l.depth l.i ≡ nearest l.table l.depth l.j)
+
+abbrev pub decreases-loop-j : goal.decreases-loop-j
+decreases-loop-j l = l.j

@@ -1,0 +1,24 @@
+-- `text::count_pieces` meets its contract. The loop keeps the sum of what it counted and the pieces from i on: one more than all pieces.
+use Prim.Native.Nat.{◌+◌, ◌-◌, ◌≤◌}
+use mathlib.Core.Path.{◌≡◌}
+use mathlib.Core.Logic.{⊎_elim}
+use native.Mathlib.Omega.{arith}
+use borrow.Author.Rules.{rules}
+use lib.ListN.{length, drop}
+use Rattle.meaning.specs.Text.{cut}
+use Rattle.text.proofs.Counting.{pieces_end, pieces_hit, pieces_miss}
+use Rattle.text.proofs.count_pieces.Goals as goal
+
+pub loop-i-preserved : goal.loop-i-preserved
+loop-i-preserved c =
+    let args = c.args in
+    let inside = c.loop-i-test.true in
+    ⊎_elim
+    (λ w. omega (arith, pieces_hit args.sep args.s.now c.loop-i.i inside w.0.taken))
+    (λ w. omega (arith, pieces_miss args.sep args.s.now c.loop-i.i inside w.0.left))
+    c.if-b-sep.branch
+
+pub returns : goal.returns
+returns c =
+    let args = c.args in
+    omega (arith, pieces_end args.sep args.s.now c.loop-i.i c.loop-i-test.false)

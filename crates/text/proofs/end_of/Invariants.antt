@@ -1,0 +1,14 @@
+-- `text::end_of` meets its contract. The loop keeps where the piece ends: as many bytes behind i as the first piece from i on has.
+use Prim.Native.Nat.{◌+◌, ◌-◌, ◌≤◌}
+use mathlib.Core.Path.{◌≡◌}
+use native.Mathlib.Omega.{arith}
+use borrow.Author.Rules.{rules}
+use lib.ListN.{length, drop}
+use Rattle.text.proofs.Pieces.{first_length, first_hit, first_next}
+use Rattle.text.proofs.end_of.Given as goal
+
+abbrev pub invariant-loop-i : goal.invariant-loop-i
+invariant-loop-i l = (l.at ≤ l.i) × (l.i ≤ length l.s) × (l.i + first_length l.sep (drop l.i l.s) ≡ l.at + first_length l.sep (drop l.at l.s))
+
+abbrev pub decreases-loop-i : goal.decreases-loop-i
+decreases-loop-i l = length l.s - l.i

@@ -1,0 +1,19 @@
+-- `put_element` meets its contract: the law of a tree line.
+use Rattle.meaning.specs.Model.{kind_text, name_of, word_text}
+use Rattle.meaning.specs.Writing.{target_texts}
+use Rattle.layout.specs.Places.{attributes_of}
+use Rattle.treelines.proofs.ElementLines.{tree_line_lem}
+use borrow.Author.Rules.{rules}
+use Rattle.treelines.proofs.put_element.Goals as goal
+
+pub returns : goal.returns
+returns c =
+    let e = c.args.e in
+    let attributes = attributes_of c.args.header.now c.args.a in
+    tree_line_lem (kind_text e.kind) (name_of e) (word_text e.word) e.depth (target_texts attributes e.masks) c.requires.1.depth
+    c.put_kind-depth.ensures
+    c.put_number-start.ensures
+    c.put_name-algorithm.ensures
+    c.put_word-first.ensures
+    c.put_targets-end.ensures
+    c.put.ensures

@@ -1,0 +1,11 @@
+-- `put_lines` meets its contract: its own line, then those of its obligations.
+use native.Mathlib.Omega.{arith}
+use Rattle.printing.proofs.Laws.{then}
+use borrow.Author.Rules.{rules}
+use Rattle.treelines.proofs.put_lines.Goals as goal
+
+pub returns : goal.returns
+returns c =
+    let own = c.put_element-behind.ensures in
+    let others = c.put_obligations.ensures in
+    (then own.0 others.0, omega (arith, own.1, others.1))

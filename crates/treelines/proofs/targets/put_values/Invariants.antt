@@ -1,0 +1,13 @@
+-- `put_values` meets its contract. The invariant is `Walked`: the names stored and those left are all names. The measure is what is left of the values.
+use Prim.Native.Nat.{◌+◌, ◌-◌}
+use native.Mathlib.Omega.{arith}
+use borrow.Author.Rules.{rules}
+use lib.ListN.{length}
+use Rattle.treelines.proofs.Values.{Walked, walk_starts, walk_names, walk_names_last, walk_passes, walk_passes_last}
+use Rattle.treelines.proofs.targets.put_values.Given as goal
+
+abbrev pub invariant-loop-left : goal.invariant-loop-left
+invariant-loop-left l = Walked l.values l.mask l.initial.out l.at l.start l.left l.later l.out l.end
+
+abbrev pub decreases-loop-left : goal.decreases-loop-left
+decreases-loop-left l = length l.values + 1 - l.start

@@ -1,0 +1,51 @@
+-- `first_change`: no request of the blocks passed gets anything else. Assumes nothing.
+use Prim.Native.Nat.{◌+◌, ◌-◌, ◌*◌, ◌<◌}
+use native.Mathlib.Omega.{arith}
+use borrow.Author.Rules.{rules}
+use Rattle.table.specs.Shape.{hit_of}
+use Rattle.differences.proofs.Blocks.{NoneBelow, block_passed, block_searched, block_found, none_found_at_all}
+use Rattle.trials.specs.Decided.{apart_at}
+use Rattle.trials.proofs.Moving.{block_off}
+use Rattle.trials.proofs.first_change.Goals as goal
+
+pub loop-block-init : goal.loop-block-init
+loop-block-init c = (omega arith, λ m l none. absurd (omega arith))
+
+pub overflow_mul-block : goal.overflow_mul-block
+overflow_mul-block c = omega (arith, c.requires.0.aside.ready.small)
+
+pub overflow_mul-rule : goal.overflow_mul-rule
+overflow_mul-rule c = let pre = c.requires in omega (arith, pre.0.aside.ready.few, pre.0.aside.element, pre.0.aside.ready.small, pre.0.matched.room)
+
+pub overflow_add-rule : goal.overflow_add-rule
+overflow_add-rule c = let pre = c.requires in omega (arith, pre.0.aside.ready.few, pre.0.aside.element, pre.0.aside.ready.small, pre.0.matched.room)
+
+pub offset_bounds-hits-rule : goal.offset_bounds-hits-rule
+offset_bounds-hits-rule c = let pre = c.requires in omega (arith, pre.0.aside.ready.few, pre.0.aside.element, pre.0.aside.ready.small, pre.0.matched.room)
+
+pub bounds-hits-rule : goal.bounds-hits-rule
+bounds-hits-rule c = let pre = c.requires in omega (arith, pre.0.aside.ready.few, pre.0.aside.element, pre.0.aside.ready.small, pre.0.matched.room)
+
+pub loop-block-preserved-then-hits-rule-eq0 : goal.loop-block-preserved-then-hits-rule-eq0
+loop-block-preserved-then-hits-rule-eq0 c =
+    let turn = c.loop-block in
+    let off = block_off _ _ _ _ _ _ c.args.shape c.args.rule c.requires.0 turn.block c.if-hits-rule-eq0.true in
+    (omega arith, block_passed _ c.args.shape.space turn.block turn.invariant.1 off)
+
+pub change_at-first-requires : goal.change_at-first-requires
+change_at-first-requires c = let pre = c.requires in (pre.0, pre.1, pre.2, c.loop-block-test.true)
+
+pub returns-then-first-space : goal.returns-then-first-space
+returns-then-first-space c =
+    let turn = c.loop-block in
+    block_found _ c.args.shape.space turn.block turn.invariant.1 _ c.change_at-first.ensures c.if-first-space.true
+
+pub loop-block-preserved : goal.loop-block-preserved
+loop-block-preserved c =
+    let turn = c.loop-block in
+    (omega arith, block_searched _ c.args.shape.space turn.block turn.invariant.1 _ c.change_at-first.ensures (omega arith))
+
+pub returns : goal.returns
+returns c =
+    let turn = c.loop-block in
+    none_found_at_all _ c.args.shape.space turn.block turn.invariant.1 (omega arith)

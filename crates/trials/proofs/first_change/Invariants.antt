@@ -1,0 +1,16 @@
+-- `first_change`: no request of the blocks passed gets anything else. Assumes nothing.
+use Prim.Native.Nat.{◌+◌, ◌-◌, ◌*◌, ◌<◌}
+use native.Mathlib.Omega.{arith}
+use borrow.Author.Rules.{rules}
+use Rattle.table.specs.Shape.{hit_of}
+use Rattle.differences.proofs.Blocks.{NoneBelow, block_passed, block_searched, block_found, none_found_at_all}
+use Rattle.trials.specs.Decided.{apart_at}
+use Rattle.trials.proofs.Moving.{block_off}
+use Rattle.trials.proofs.first_change.Given as goal
+
+abbrev pub invariant-loop-block : goal.invariant-loop-block
+invariant-loop-block l =
+    (64 * l.block < l.space + 64) × NoneBelow (apart_at l.file l.places l.table l.shape.n (hit_of l.shape) l.struck l.rule) l.space l.block
+
+abbrev pub decreases-loop-block : goal.decreases-loop-block
+decreases-loop-block l = l.space + 64 - 64 * l.block

@@ -1,0 +1,18 @@
+-- `needed_all`: the requests shown, laid down one after the other under flags that stay. Assumes nothing.
+use Prim.Native.Nat.{◌-◌, ◌≤◌}
+use mathlib.Core.Path.{◌≡◌, refl, ap, ◌∙◌}
+use native.Mathlib.Omega.{arith}
+use borrow.Author.Rules.{rules}
+use lib.ListN.{length}
+use Rattle.table.specs.Shape.{hit_of}
+use Rattle.outcomes.proofs.Laying.{Lays, lays_none, lays_next, lays_all}
+use Rattle.trials.specs.Decided.{shown_at}
+use Rattle.trials.proofs.Trying.{asks, obligation_room}
+use Rattle.trials.proofs.needed_all.Given as goal
+
+abbrev pub invariant-loop-i : goal.invariant-loop-i
+invariant-loop-i l =
+    (l.i ≤ l.n) × (l.struck ≡ l.initial.struck) × Lays (shown_at l.file l.places l.table l.shape.n (hit_of l.shape) l.shape.space l.initial.struck) l.n l.initial.shown l.shown l.i
+
+abbrev pub decreases-loop-i : goal.decreases-loop-i
+decreases-loop-i l = l.n - l.i

@@ -1,0 +1,61 @@
+-- `next_rule`: the last needless rule below the place looked at is the last of all. Assumes nothing.
+use Prim.Native.Nat.{◌-◌, ◌≤◌}
+use mathlib.Core.Path.{◌≡◌, refl, sym, ap, ◌∙◌}
+use native.Mathlib.Omega.{arith}
+use borrow.Author.Rules.{rules}
+use lib.ListN.{length, length-set}
+use Rattle.meaning.specs.Text.{last_below}
+use Rattle.table.specs.Tree.{place_or}
+use Rattle.table.specs.Shape.{hit_of}
+use Rattle.trimming.specs.Decided.{needlessAt, next_at}
+use Rattle.trimming.specs.Known.{Known}
+use Rattle.laws.proofs.Search.{last_here, last_earlier, last_nowhere}
+use Rattle.trials.proofs.Trying.{asks, tested}
+use Rattle.trimming.proofs.Knowing.{known_needed, known_more}
+use Rattle.trimming.proofs.next_rule.Goals as goal
+
+pub loop-i-init : goal.loop-i-init
+loop-i-init c = (omega arith, refl, refl, refl, refl, c.requires.4)
+
+pub loop-i-preserved-then-known-i-ne0 : goal.loop-i-preserved-then-known-i-ne0
+loop-i-preserved-then-known-i-ne0 c =
+    let args = c.args in
+    let turn = c.loop-i in
+    let needed = known_needed args.file.now args.places.now args.table.now args.shape args.struck.now turn.hints turn.known turn.invariant.5 (turn.i - 1) (omega arith) c.if-known-i-ne0.true in
+    (omega arith, turn.invariant.1, turn.invariant.2, turn.invariant.3, turn.invariant.4 ∙ last_earlier _ turn.i (omega arith) needed, turn.invariant.5)
+
+pub needless-tried-requires : goal.needless-tried-requires
+needless-tried-requires c = let pre = c.requires in (asks c.loop-i.invariant.1 pre.0, pre.1, omega arith)
+
+pub returns-then-tried : goal.returns-then-tried
+unfolding next_at
+returns-then-tried c =
+    let args = c.args in
+    let turn = c.loop-i in
+    let tried = c.needless-tried.ensures in
+    let here = tested args.file.now args.places.now args.table.now args.shape _ turn.invariant.1 tried.0 c.if-tried.true in
+    (sym (ap (place_or args.shape.n) (turn.invariant.4 ∙ last_here _ turn.i (omega arith) here)), tried.3 ∙ turn.invariant.1, turn.invariant.5)
+
+pub overflow_cast-hints : goal.overflow_cast-hints
+overflow_cast-hints c = omega (arith, c.needless-tried.ensures.1, c.requires.0.ready.small)
+
+pub loop-i-preserved : goal.loop-i-preserved
+loop-i-preserved c =
+    let args = c.args in
+    let turn = c.loop-i in
+    let tried = c.needless-tried.ensures in
+    let needed = tested args.file.now args.places.now args.table.now args.shape _ turn.invariant.1 tried.0 c.if-tried.false in
+    let shows = rw turn.invariant.1 at (tried.2 c.if-tried.false) in (
+      omega arith,
+      tried.3 ∙ turn.invariant.1,
+      rw length-set turn.invariant.2,
+      rw length-set turn.invariant.3,
+      turn.invariant.4 ∙ last_earlier _ turn.i (omega arith) needed,
+      known_more args.file.now args.places.now args.table.now args.shape args.struck.now turn.hints turn.known turn.invariant.5 (turn.i - 1) _ (omega arith) (omega arith) (omega arith) tried.1 shows,
+    )
+
+pub returns : goal.returns
+unfolding next_at
+returns c =
+    let turn = c.loop-i in
+    (sym (ap (place_or c.args.shape.n) (turn.invariant.4 ∙ last_nowhere _ turn.i (omega arith))), turn.invariant.1, turn.invariant.5)

@@ -1,0 +1,20 @@
+-- `strike_rules`: what is to come completes what striking from the start gives. Assumes nothing.
+use Prim.Native.Nat.{◌-◌, ◌≤◌}
+use mathlib.Core.Path.{◌≡◌, refl, ap, ◌∙◌}
+use native.Mathlib.Omega.{arith}
+use borrow.Author.Rules.{rules}
+use lib.ListN.{length, length-set}
+use Rattle.table.specs.Shape.{hit_of}
+use Rattle.trials.specs.Trial.{Laid}
+use Rattle.trimming.specs.Known.{Known}
+use Rattle.trimming.proofs.Strikes.{Next, next_found, next_none, trimming_stops, laid_next, Strikes, strikes_none, strikes_next, strikes_end, strikes_all}
+use Rattle.trimming.proofs.Knowing.{known_next}
+use Rattle.trimming.proofs.strike_rules.Given as goal
+
+abbrev pub invariant-loop-count : goal.invariant-loop-count
+invariant-loop-count l =
+    (l.count ≤ l.n) × (length l.struck ≡ length l.initial.struck) × (length l.hints ≡ length l.initial.hints) × (length l.known ≡ length l.initial.known) × (length l.order ≡ length l.initial.order)
+    × Laid l.file l.places l.table l.struck l.hits l.outcomes l.shape × Strikes l.file l.places l.table l.shape l.initial.struck l.initial.order l.struck l.order l.count × Known l.file l.places l.table l.shape l.struck l.hints l.known
+
+abbrev pub decreases-loop-count : goal.decreases-loop-count
+decreases-loop-count l = l.n - l.count

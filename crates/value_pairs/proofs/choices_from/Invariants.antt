@@ -1,0 +1,15 @@
+-- `choices_from`: the product of the sizes from `i` on. Assumes nothing.
+use Prim.Native.Nat.{◌+◌, ◌-◌, ◌*◌, ◌≤◌}
+use mathlib.Core.Path.{◌≡◌, sym, ap, ◌∙◌}
+use native.Mathlib.Omega.{arith}
+use lib.ListN.{length, take, drop, get_or}
+use borrow.Author.Rules.{rules}
+use Rattle.meaning.specs.Model.{product}
+use Rattle.value_pairs.proofs.Finding.{product_drop, product_next, product_none}
+use Rattle.value_pairs.proofs.choices_from.Given as goal
+
+abbrev pub invariant-loop-i : goal.invariant-loop-i
+invariant-loop-i l = (l.from ≤ l.i) × (l.i ≤ l.len) × (l.total ≡ product (drop l.i (take l.len l.counts)))
+
+abbrev pub decreases-loop-i : goal.decreases-loop-i
+decreases-loop-i l = l.i

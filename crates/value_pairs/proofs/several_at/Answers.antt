@@ -1,0 +1,40 @@
+-- `several_at`: the search goes on with the attributes from `i` on. Assumes nothing.
+use Prim.Native.Nat.{◌-◌, ◌≤◌}
+use mathlib.Core.Path.{◌≡◌, sym, ◌∙◌}
+use native.Mathlib.Nat.{sub-zero}
+use native.Mathlib.Omega.{arith}
+use borrow.Author.Rules.{rules}
+use borrow.Author.Tests.{not-true, not-false}
+use Rattle.meaning.specs.ValuePairs.{several_at}
+use Rattle.layout.specs.Places.{attributes_from, attributes_of}
+use Rattle.value_pairs.proofs.Finding.{found, not_several, other_name, none_found}
+use Rattle.value_pairs.proofs.several_at.Goals as goal
+
+pub loop-i-init : goal.loop-i-init
+loop-i-init c = (search rules, rw sub-zero)
+
+pub bounds-several-i : goal.bounds-several-i
+bounds-several-i c = let few = c.requires.few in search rules
+
+pub loop-i-preserved-then-not-several-i : goal.loop-i-preserved-then-not-several-i
+loop-i-preserved-then-not-several-i c =
+    let l = c.loop-i in
+    (omega arith, l.invariant.1 ∙ not_several c.args.file.now c.args.a c.args.name.now l.i (omega arith) (c.if-not-several-i.true))
+
+pub has_name-requires : goal.has_name-requires
+has_name-requires c = (omega (arith, c.requires.few), c.requires.each c.loop-i.i (omega arith))
+
+pub returns-then-has_name : goal.returns-then-has_name
+returns-then-has_name c =
+    let l = c.loop-i in
+    (omega arith, l.invariant.1 ∙ found c.args.file.now c.args.a c.args.name.now l.i (omega arith) (c.if-not-several-i.false) (sym c.has_name.ensures ∙ c.if-has_name.true))
+
+pub loop-i-preserved : goal.loop-i-preserved
+loop-i-preserved c =
+    let l = c.loop-i in
+    (omega arith, l.invariant.1 ∙ other_name c.args.file.now c.args.a c.args.name.now l.i (omega arith) (c.if-not-several-i.false) (sym c.has_name.ensures ∙ c.if-has_name.false))
+
+pub returns : goal.returns
+returns c =
+    let l = c.loop-i in
+    (omega arith, l.invariant.1 ∙ none_found c.args.file.now c.args.a c.args.name.now l.i (omega arith))
