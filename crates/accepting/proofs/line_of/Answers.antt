@@ -32,7 +32,7 @@ loop-j-preserved c =
     let a = c.args in
     let turn = c.loop-j in
     let count = c.obligation_count.ensures in
-    (omega arith, omega (arith, turn.invariant.1, count.1), omega (arith, turn.invariant.2, count.0, lines_left_lem a.places.now a.struck.now a.i turn.j c.loop-j-test.true c.if-struck-j-ne0.false))
+    (omega arith, omega (arith, turn.invariant.1, count.within), omega (arith, turn.invariant.2, count.value, lines_left_lem a.places.now a.struck.now a.i turn.j c.loop-j-test.true c.if-struck-j-ne0.false))
 
 pub returns : goal.returns
 returns c =

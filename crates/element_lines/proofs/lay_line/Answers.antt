@@ -28,4 +28,4 @@ returns c =
     let word = c.word_number-word.ensures.value ∙ ap (λ w. number_of_word (word_of args.kind w)) c.word_field.ensures in
     let laid = c.put_element.ensures in
     let tree = c.with_element-tree.ensures ∙ ap (grown args.st.tree args.kind) depth in
-    (rw tree, (laid.0 ∙ same_row args.table.now args.st.tree.len word depth args.masks, laid.1 ∙ same_end args.places.now (2 * args.st.tree.len) args.st.at c.name_field-name.ensures))
+    (rw tree, (laid.table_after ∙ same_row args.table.now args.st.tree.len word depth args.masks, laid.places_after ∙ same_end args.places.now (2 * args.st.tree.len) args.st.at c.name_field-name.ensures))

@@ -65,4 +65,4 @@ returns c =
     let lowest = c.element_refusal-refusal.ensures _ (behind pre.0) in
     let good = c.if-not-m.false in
     let put = c.lay_line-state.ensures in
-    tree_told _ _ _ _ _ _ _ pre.0 pre.1 pre.2 c.if-fields-attributes.false _ lowest c.if-refusal-ne0.false c.line_masks-m.ensures _ _ _ good put.0 put.1.0 put.1.1
+    tree_told _ _ _ _ _ _ _ pre.0 pre.1 pre.2 c.if-fields-attributes.false _ lowest c.if-refusal-ne0.false c.line_masks-m.ensures _ _ _ good put.value put.table_after.0 put.table_after.1

@@ -13,4 +13,4 @@ pub returns : goal.returns
 returns c =
     let e = c.end_of-e in
     let s = c.args.line.now in
-    rw (le-ltb _ _ c.if-line-at.false) (sym (piece_first tab s _ e.result e.ensures.0 (search rules)))
+    rw (le-ltb _ _ c.if-line-at.false) (sym (piece_first tab s _ e.result e.ensures.value (search rules)))

@@ -24,7 +24,7 @@ returns-then-end-header c = all_read _ _ c.loop-st.invariant _ c.end_of-end.ensu
 pub header_line-step-requires : goal.header_line-step-requires
 header_line-step-requires c =
     let end = c.end_of-end.ensures in
-    (c.loop-st.invariant.among, record { starts = end.1.0; ends = omega arith; all_of_it = end.0 })
+    (c.loop-st.invariant.among, record { starts = end.within.0; ends = omega arith; all_of_it = end.value })
 
 pub returns-then-refusal-ne0 : goal.returns-then-refusal-ne0
 returns-then-refusal-ne0 c = refused_here _ _ c.loop-st.invariant _ c.end_of-end.ensures.value (omega arith) _ c.header_line-step.ensures.refusal c.refuse-then-refusal-ne0.ensures c.if-refusal-ne0.true

@@ -16,9 +16,9 @@ put_line-end-requires c =
     let l = c.loop-start in
     let e = c.end_of-to in
     let G = deeper_placed (places_of c.args.p) c.args.n in
-    let size = next_length G c.args.file.now c.args.from c.args.out.now c.args.at l.invariant e.ensures.0 e.ensures.1.1 (search rules) in (
-      next_fits G c.args.file.now c.args.from c.args.out.now c.args.at l.invariant e.ensures.0 e.ensures.1.1 (search rules),
-      omega (arith, size, c.requires.0.short, e.ensures.1.1),
+    let size = next_length G c.args.file.now c.args.from c.args.out.now c.args.at l.invariant e.ensures.value e.ensures.within.1 (search rules) in (
+      next_fits G c.args.file.now c.args.from c.args.out.now c.args.at l.invariant e.ensures.value e.ensures.within.1 (search rules),
+      omega (arith, size, c.requires.0.short, e.ensures.within.1),
       c.requires.1,
       omega (arith, c.requires.2, l.invariant.within, l.invariant.inside, c.requires.0.short),
     )
@@ -30,13 +30,13 @@ pub loop-start-smaller : goal.loop-start-smaller
 loop-start-smaller c =
     let l = c.loop-start in
     let e = c.end_of-to in
-    omega (arith, e.ensures.1.0, next_inside (deeper_placed (places_of c.args.p) c.args.n) c.args.file.now c.args.from c.args.out.now c.args.at l.invariant e.ensures.0 e.ensures.1.1 (search rules))
+    omega (arith, e.ensures.within.0, next_inside (deeper_placed (places_of c.args.p) c.args.n) c.args.file.now c.args.from c.args.out.now c.args.at l.invariant e.ensures.value e.ensures.within.1 (search rules))
 
 pub loop-start-preserved : goal.loop-start-preserved
 loop-start-preserved c =
     let l = c.loop-start in
     let e = c.end_of-to in
-    one_more (deeper_placed (places_of c.args.p) c.args.n) c.args.file.now c.args.from c.args.out.now c.args.at l.invariant e.ensures.0 e.ensures.1.1 (search rules) c.put_line-end.ensures
+    one_more (deeper_placed (places_of c.args.p) c.args.n) c.args.file.now c.args.from c.args.out.now c.args.at l.invariant e.ensures.value e.ensures.within.1 (search rules) c.put_line-end.ensures
 
 pub returns : goal.returns
 returns c =

@@ -19,7 +19,7 @@ returns-then-same_name c =
     let s = c.args.fields.now in
     let e = c.end_of-e in
     let name = c.args.name.now in
-    let hit = place_hit s c.loop-at.at e.result e.ensures.0 name c.loop-at.n (search rules) (sym c.same_name.ensures ∙ c.if-same_name.true) in
+    let hit = place_hit s c.loop-at.at e.result e.ensures.value name c.loop-at.n (search rules) (sym c.same_name.ensures ∙ c.if-same_name.true) in
     let found = ap found_of (sym hit ∙ c.loop-at.invariant.2) in
     record { value = found; within = found_within name (cut tab s) (At c.loop-at.n) found }
 
@@ -28,7 +28,7 @@ returns-then-e-fields c =
     let s = c.args.fields.now in
     let e = c.end_of-e in
     let name = c.args.name.now in
-    let end = place_end s c.loop-at.at e.result e.ensures.0 name c.loop-at.n c.if-e-fields.true (sym c.same_name.ensures ∙ c.if-same_name.false) in
+    let end = place_end s c.loop-at.at e.result e.ensures.value name c.loop-at.n c.if-e-fields.true (sym c.same_name.ensures ∙ c.if-same_name.false) in
     let found = ap found_of (sym end ∙ c.loop-at.invariant.2) in
     record { value = found; within = found_within name (cut tab s) Nothing found }
 
@@ -37,5 +37,5 @@ loop-at-preserved c =
     let s = c.args.fields.now in
     let e = c.end_of-e in
     let name = c.args.name.now in
-    let more = place_more s c.loop-at.at e.result e.ensures.0 name c.loop-at.n (omega arith) (sym c.same_name.ensures ∙ c.if-same_name.false) in
+    let more = place_more s c.loop-at.at e.result e.ensures.value name c.loop-at.n (omega arith) (sym c.same_name.ensures ∙ c.if-same_name.false) in
     (omega arith, omega arith, sym more ∙ c.loop-at.invariant.2)

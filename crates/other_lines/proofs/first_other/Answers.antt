@@ -15,14 +15,14 @@ pub returns-then-at-original : goal.returns-then-at-original
 returns-then-at-original c =
     let e = c.end_of-to in
     let l = c.loop-from in
-    record { value = none_left l.invariant e.ensures.0 e.ensures.1.1 (search rules) c.if-at-original.true; within = search rules }
+    record { value = none_left l.invariant e.ensures.value e.ensures.within.1 (search rules) c.if-at-original.true; within = search rules }
 
 pub loop-from-preserved-then-same : goal.loop-from-preserved-then-same
 loop-from-preserved-then-same c =
     let o = c.end_of-end in
     let p = c.end_of-to in
     let l = c.loop-from in
-    taken l.invariant p.ensures.0 p.ensures.1.1 (search rules) o.ensures.0 o.ensures.1.1 c.if-at-original.false (sym c.same.ensures ∙ c.if-same.true)
+    taken l.invariant p.ensures.value p.ensures.within.1 (search rules) o.ensures.value o.ensures.within.1 c.if-at-original.false (sym c.same.ensures ∙ c.if-same.true)
 
 pub returns-then-not-rule_line : goal.returns-then-not-rule_line
 returns-then-not-rule_line c =
@@ -30,7 +30,7 @@ returns-then-not-rule_line c =
     let p = c.end_of-to in
     let l = c.loop-from in
     let unlike = sym c.same.ensures ∙ c.if-same.false in
-    record { value = found l.invariant p.ensures.0 p.ensures.1.1 (search rules) o.ensures.0 o.ensures.1.1 c.if-at-original.false unlike (sym c.rule_line.ensures ∙ c.if-not-rule_line.true); within = search rules }
+    record { value = found l.invariant p.ensures.value p.ensures.within.1 (search rules) o.ensures.value o.ensures.within.1 c.if-at-original.false unlike (sym c.rule_line.ensures ∙ c.if-not-rule_line.true); within = search rules }
 
 pub loop-from-preserved : goal.loop-from-preserved
 loop-from-preserved c =
@@ -38,7 +38,7 @@ loop-from-preserved c =
     let p = c.end_of-to in
     let l = c.loop-from in
     let unlike = sym c.same.ensures ∙ c.if-same.false in
-    skipped l.invariant p.ensures.0 p.ensures.1.1 (search rules) o.ensures.0 o.ensures.1.1 c.if-at-original.false unlike (sym c.rule_line.ensures ∙ c.if-not-rule_line.false)
+    skipped l.invariant p.ensures.value p.ensures.within.1 (search rules) o.ensures.value o.ensures.within.1 c.if-at-original.false unlike (sym c.rule_line.ensures ∙ c.if-not-rule_line.false)
 
 pub returns : goal.returns
 returns c = record { value = all_match c.loop-from.invariant (omega arith); within = search rules }

@@ -8,4 +8,4 @@ use Rattle.other_lines.proofs.rule_line.Goals as goal
 pub returns : goal.returns
 returns c =
     let e = c.end_of-to in
-    c.same.ensures ∙ sym (ap (λ x. same x (bytes "R")) (piece_first tab _ 0 e.result e.ensures.0 (search rules)))
+    c.same.ensures ∙ sym (ap (λ x. same x (bytes "R")) (piece_first tab _ 0 e.result e.ensures.value (search rules)))

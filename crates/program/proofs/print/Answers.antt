@@ -7,12 +7,12 @@ use Rattle.program.proofs.print.Goals as goal
 pub returns-then-number-eq0 : goal.returns-then-number-eq0
 returns-then-number-eq0 c =
     let answer = c.jogimaduve_report-answer in
-    report_printed _ c.args.out.now (search rules) _ answer.result answer.ensures.0 answer.ensures.1 c.if-number-eq0.true
+    report_printed _ c.args.out.now (search rules) _ answer.result answer.ensures.value answer.ensures.out_after c.if-number-eq0.true
 
 pub returns : goal.returns
 returns c =
     let answer = c.jogimaduve_report-answer in
-    error_printed _ c.args.out.now (search rules) _ answer.result answer.ensures.0 answer.ensures.1
+    error_printed _ c.args.out.now (search rules) _ answer.result answer.ensures.value answer.ensures.out_after
     c.put_field-first.ensures
     c.put_number-next.ensures.0
     c.put_number.ensures.0

@@ -16,16 +16,16 @@ pub returns-then-e-fields : goal.returns-then-e-fields
 returns-then-e-fields c =
     let s = c.args.fields.now in
     let e = c.end_of-e in
-    ap not (sym (repeated_end s c.loop-at.at e.result e.ensures.0 c.if-e-fields.true) ∙ c.loop-at.invariant.1)
+    ap not (sym (repeated_end s c.loop-at.at e.result e.ensures.value c.if-e-fields.true) ∙ c.loop-at.invariant.1)
 
 pub returns-then-has : goal.returns-then-has
 returns-then-has c =
     let s = c.args.fields.now in
     let e = c.end_of-e in
-    ap not (sym (repeated_hit s c.loop-at.at e.result e.ensures.0 (omega arith) (sym c.has.ensures ∙ c.if-has.true)) ∙ c.loop-at.invariant.1)
+    ap not (sym (repeated_hit s c.loop-at.at e.result e.ensures.value (omega arith) (sym c.has.ensures ∙ c.if-has.true)) ∙ c.loop-at.invariant.1)
 
 pub loop-at-preserved : goal.loop-at-preserved
 loop-at-preserved c =
     let s = c.args.fields.now in
     let e = c.end_of-e in
-    (omega arith, sym (repeated_more s c.loop-at.at e.result e.ensures.0 (omega arith) (sym c.has.ensures ∙ c.if-has.false)) ∙ c.loop-at.invariant.1)
+    (omega arith, sym (repeated_more s c.loop-at.at e.result e.ensures.value (omega arith) (sym c.has.ensures ∙ c.if-has.false)) ∙ c.loop-at.invariant.1)

@@ -15,4 +15,4 @@ returns c =
     let a = c.args in
     let wrote = c.put_bytes.ensures in
     let named = c.element_name.ensures in
-    (own_name a.file.now a.places.now a.n a.i (omega (arith, c.if-i-n.false, c.requires.1)) named.0 wrote, omega (arith, wrote.moved, named.1))
+    (own_name a.file.now a.places.now a.n a.i (omega (arith, c.if-i-n.false, c.requires.1)) named.result_value wrote, omega (arith, wrote.moved, named.within))

@@ -13,9 +13,9 @@ returns-in-Set c = rw c.enum_told-in-Set-1.given.1 c.algorithm_number.ensures
 pub returns-then-n-eq5 : goal.returns-then-n-eq5
 returns-then-n-eq5 c =
     let n = c.algorithm_number-n in
-    record { value = rw (c.enum_told-in-Policy-1.given.1, policy_number c.args.w.now, ← n.ensures.0, eq-eqb n.result 5 c.if-n-eq5.true); within = search rules }
+    record { value = rw (c.enum_told-in-Policy-1.given.1, policy_number c.args.w.now, ← n.ensures.value, eq-eqb n.result 5 c.if-n-eq5.true); within = search rules }
 
 pub returns-in-Policy : goal.returns-in-Policy
 returns-in-Policy c =
     let n = c.algorithm_number-n in
-    record { value = rw (c.enum_told-in-Policy-1.given.1, policy_number c.args.w.now, ← n.ensures.0, ne_eqb n.result 5 c.if-n-eq5.false); within = search rules }
+    record { value = rw (c.enum_told-in-Policy-1.given.1, policy_number c.args.w.now, ← n.ensures.value, ne_eqb n.result 5 c.if-n-eq5.false); within = search rules }

@@ -16,8 +16,8 @@ pub loop-n-preserved : goal.loop-n-preserved
 loop-n-preserved c =
     let s = c.args.line.now in
     let e = c.end_of-at in
-    let more = another_field s c.loop-n.at e.result e.ensures.0 c.loop-n.n c.loop-n.invariant.2 (search rules) (omega arith) in
-    (omega arith, omega arith, next_field s c.loop-n.at e.result e.ensures.0 c.loop-n.n c.loop-n.invariant.2 more)
+    let more = another_field s c.loop-n.at e.result e.ensures.value c.loop-n.n c.loop-n.invariant.2 (search rules) (omega arith) in
+    (omega arith, omega arith, next_field s c.loop-n.at e.result e.ensures.value c.loop-n.n c.loop-n.invariant.2 more)
 
 pub returns : goal.returns
 returns c =

@@ -71,7 +71,7 @@ target_mask-mask-requires c =
 pub returns-then-mask-eq0 : goal.returns-then-mask-eq0
 returns-then-mask-eq0 c =
     let end = c.end_of-end.ensures in
-    walk_bad c.loop-targets.invariant end.0 end.1.1 c.target_mask-mask.ensures c.if-mask-eq0.true
+    walk_bad c.loop-targets.invariant end.value end.within.1 c.target_mask-mask.ensures c.if-mask-eq0.true
 
 pub offset_bounds-masks-i : goal.offset_bounds-masks-i
 offset_bounds-masks-i c =
@@ -91,9 +91,9 @@ overflow_add-i c =
 pub returns-then-i-a : goal.returns-then-i-a
 returns-then-i-a c =
     let end = c.end_of-end.ensures in
-    walk_ends c.loop-targets.invariant end.0 end.1.1 c.target_mask-mask.ensures c.if-mask-eq0.false c.if-i-a.true
+    walk_ends c.loop-targets.invariant end.value end.within.1 c.target_mask-mask.ensures c.if-mask-eq0.false c.if-i-a.true
 
 pub loop-targets-preserved : goal.loop-targets-preserved
 loop-targets-preserved c =
     let end = c.end_of-end.ensures in
-    walk_on c.loop-targets.invariant end.0 end.1.1 c.target_mask-mask.ensures c.if-mask-eq0.false c.if-i-a.false
+    walk_on c.loop-targets.invariant end.value end.within.1 c.target_mask-mask.ensures c.if-mask-eq0.false c.if-i-a.false

@@ -41,6 +41,6 @@ loop-passed-preserved c =
     let fs = others_at s c.loop-passed.end in (
       omega (arith, l.within),
       ap (λ ps. get_or ps 0 []) next,
-      rw (note.0, others) (kept_step c.loop-passed.passed (first_at s start) fs h l.hashed (λ k. true) inv.2),
-      rw (note.1, others) (caught_step c.loop-passed.suspects (first_at s start) fs h l.hashed c.loop-passed.passed inv.2 inv.3),
+      rw (note.passed_after, others) (kept_step c.loop-passed.passed (first_at s start) fs h l.hashed (λ k. true) inv.2),
+      rw (note.suspects_after, others) (caught_step c.loop-passed.suspects (first_at s start) fs h l.hashed c.loop-passed.passed inv.2 inv.3),
     )

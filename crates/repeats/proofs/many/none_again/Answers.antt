@@ -43,6 +43,6 @@ loop-passed-preserved c =
     let others = ap (drop 1) next in (
       omega (arith, l.within),
       ap (λ ps. get_or ps 0 []) next,
-      rw (others, at_parts s last.result.start) passed.1,
-      rw others (none_more l inv.0 (sym passed.0 ∙ c.if-passes_again.false) inv.3),
+      rw (others, at_parts s last.result.start) passed.kept,
+      rw others (none_more l inv.0 (sym passed.value ∙ c.if-passes_again.false) inv.3),
     )

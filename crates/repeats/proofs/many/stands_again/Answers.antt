@@ -10,10 +10,10 @@ pub returns-then-e-fields : goal.returns-then-e-fields
 returns-then-e-fields c =
     let a = c.args in
     let e = c.end_of-e in
-    rw (piece_last tab a.fields.now a.at e.result e.ensures.0 c.if-e-fields.true)
+    rw (piece_last tab a.fields.now a.at e.result e.ensures.value c.if-e-fields.true)
 
 pub returns : goal.returns
 returns c =
     let a = c.args in
     let e = c.end_of-e in
-    rw (piece_more tab a.fields.now a.at e.result e.ensures.0 (omega arith), ← rest_of a.fields.now (e.result + 1)) c.has.ensures
+    rw (piece_more tab a.fields.now a.at e.result e.ensures.value (omega arith), ← rest_of a.fields.now (e.result + 1)) c.has.ensures

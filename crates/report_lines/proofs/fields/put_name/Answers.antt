@@ -14,4 +14,4 @@ pub returns : goal.returns
 returns c =
     let wrote = c.put_bytes.ensures in
     let named = c.element_name.ensures in
-    (stored named.0 wrote, omega (arith, wrote.moved, named.1))
+    (stored named.result_value wrote, omega (arith, wrote.moved, named.within))
