@@ -8,15 +8,14 @@ use lib.ListN.{length, drop}
 use Rattle.meaning.specs.Text.{cut}
 use Rattle.text.proofs.Counting.{pieces_end, pieces_hit, pieces_miss}
 use Rattle.text.proofs.count_pieces.Goals as goal
+use Rattle.text.proofs.count_pieces.Goals.{then-b-sep, else-b-sep}
 
 pub loop-i-preserved : goal.loop-i-preserved
 loop-i-preserved c =
-    let args = c.args in
-    let inside = c.loop-i-test.true in
-    ⊎_elim
-    (λ w. omega (arith, pieces_hit args.sep args.s.now c.loop-i.i inside w.0.taken))
-    (λ w. omega (arith, pieces_miss args.sep args.s.now c.loop-i.i inside w.0.left))
-    c.if-b-sep.branch
+    elim c.if-b-sep.branch [
+      then-b-sep w ↦ omega (arith, pieces_hit c.args.sep c.args.s.now c.loop-i.i c.loop-i-test.true w.if-b-sep.true)
+    | else-b-sep w ↦ omega (arith, pieces_miss c.args.sep c.args.s.now c.loop-i.i c.loop-i-test.true w.if-b-sep.false)
+    ]
 
 pub returns : goal.returns
 returns c =
