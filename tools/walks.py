@@ -224,7 +224,7 @@ def convert(lts, crate, folder, fpath, problems):
             if labels:
                 restc[1] = labels[int(restc[1])]
         if restc[0] in ("well-formed", "well_formed"):
-            restc[0] = "type_inv"
+            restc[0] = "well_formed"
         return ".".join(["c"] + restc)
 
     def rewrite(b, env):
@@ -394,6 +394,9 @@ def convert(lts, crate, folder, fpath, problems):
         if g is spec or g[0] in inv or g[0] in answer_names:
             continue
         sig = g[2]
+        plain = re.match(r"((?:abbrev\s+|pub\s+)*\S+\s+:\s*)tie\.(?!invariant|decreases|Need)(\S+)[^→]*→\s*(.*)", sig, re.S)
+        if plain and g[3] and re.match(r"\S+\s+(\w+)", g[3][0]):
+            sig = f"{plain[1]}({re.match(r'[^ ]+ +([^ ]+)', g[3][0])[1]} : tie.{plain[2]}) → {plain[3]}"
         params = re.findall(r"\((\w+) : tie\.([^\s)]+)[^)]*\)", sig)
         if not params:
             texts.append((order[g[0]], g[1], sig + "\n" + "\n".join(g[3])))

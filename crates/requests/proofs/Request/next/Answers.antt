@@ -18,16 +18,11 @@ loop-i-init c =
     let six-first : length c.args.self.values ≡ 6 = search rules in
     (search rules, search rules, omega arith, c.requires.below, carried_none c.args.self.len c.args.counts c.args.self.values (omega arith) (omega arith), refl)
 
--- In a turn: the value at its place, and its count as the code has it, one above the last number
-abbrev value : tie.In-loop invariant-loop decreases-loop → ℕ
-value c = get_or c.before.loop.values (c.before.loop.i - 1) 0
-
-abbrev count : tie.In-loop invariant-loop decreases-loop → ℕ
-count c = get_or c.before.before.before.before.args.t2 (c.before.loop.i - 1) 0 - 1 + 1
-
 pub overflow_sub-last : goal.overflow_sub-last
 overflow_sub-last c =
-    let small : (count c ≡ get_or c.args.counts (c.loop-i.i - 1) 0) × (value c < count c) × (count c ≤ 4096) = let turn = c.loop-i in
+    let value : ℕ = get_or c.loop-i.values (c.loop-i.i - 1) 0 in
+    let count : ℕ = get_or c.args.counts (c.loop-i.i - 1) 0 - 1 + 1 in
+    let small : (count ≡ get_or c.args.counts (c.loop-i.i - 1) 0) × (value < count) × (count ≤ 4096) = let turn = c.loop-i in
     let len = c.args.self.len in
     let counts = c.args.counts in
     let few = c.requires.few in
@@ -40,7 +35,9 @@ overflow_sub-last c =
 
 pub overflow_cast-last : goal.overflow_cast-last
 overflow_cast-last c =
-    let small : (count c ≡ get_or c.args.counts (c.loop-i.i - 1) 0) × (value c < count c) × (count c ≤ 4096) = let turn = c.loop-i in
+    let value : ℕ = get_or c.loop-i.values (c.loop-i.i - 1) 0 in
+    let count : ℕ = get_or c.args.counts (c.loop-i.i - 1) 0 - 1 + 1 in
+    let small : (count ≡ get_or c.args.counts (c.loop-i.i - 1) 0) × (value < count) × (count ≤ 4096) = let turn = c.loop-i in
     let len = c.args.self.len in
     let counts = c.args.counts in
     let few = c.requires.few in
@@ -53,7 +50,9 @@ overflow_cast-last c =
 
 pub overflow_add-count : goal.overflow_add-count
 overflow_add-count c =
-    let small : (count c ≡ get_or c.args.counts (c.loop-i.i - 1) 0) × (value c < count c) × (count c ≤ 4096) = let turn = c.loop-i in
+    let value : ℕ = get_or c.loop-i.values (c.loop-i.i - 1) 0 in
+    let count : ℕ = get_or c.args.counts (c.loop-i.i - 1) 0 - 1 + 1 in
+    let small : (count ≡ get_or c.args.counts (c.loop-i.i - 1) 0) × (value < count) × (count ≤ 4096) = let turn = c.loop-i in
     let len = c.args.self.len in
     let counts = c.args.counts in
     let few = c.requires.few in
@@ -66,7 +65,9 @@ overflow_add-count c =
 
 pub overflow_cast-sum : goal.overflow_cast-sum
 overflow_cast-sum c =
-    let small : (count c ≡ get_or c.args.counts (c.loop-i.i - 1) 0) × (value c < count c) × (count c ≤ 4096) = let turn = c.loop-i in
+    let value : ℕ = get_or c.loop-i.values (c.loop-i.i - 1) 0 in
+    let count : ℕ = get_or c.args.counts (c.loop-i.i - 1) 0 - 1 + 1 in
+    let small : (count ≡ get_or c.args.counts (c.loop-i.i - 1) 0) × (value < count) × (count ≤ 4096) = let turn = c.loop-i in
     let len = c.args.self.len in
     let counts = c.args.counts in
     let few = c.requires.few in
@@ -79,7 +80,9 @@ overflow_cast-sum c =
 
 pub overflow_add-sum : goal.overflow_add-sum
 overflow_add-sum c =
-    let small : (count c ≡ get_or c.args.counts (c.loop-i.i - 1) 0) × (value c < count c) × (count c ≤ 4096) = let turn = c.loop-i in
+    let value : ℕ = get_or c.loop-i.values (c.loop-i.i - 1) 0 in
+    let count : ℕ = get_or c.args.counts (c.loop-i.i - 1) 0 - 1 + 1 in
+    let small : (count ≡ get_or c.args.counts (c.loop-i.i - 1) 0) × (value < count) × (count ≤ 4096) = let turn = c.loop-i in
     let len = c.args.self.len in
     let counts = c.args.counts in
     let few = c.requires.few in
@@ -92,7 +95,9 @@ overflow_add-sum c =
 
 pub overflow_cast-values : goal.overflow_cast-values
 overflow_cast-values c =
-    let small : (count c ≡ get_or c.args.counts (c.loop-i.i - 1) 0) × (value c < count c) × (count c ≤ 4096) = let turn = c.loop-i in
+    let value : ℕ = get_or c.loop-i.values (c.loop-i.i - 1) 0 in
+    let count : ℕ = get_or c.args.counts (c.loop-i.i - 1) 0 - 1 + 1 in
+    let small : (count ≡ get_or c.args.counts (c.loop-i.i - 1) 0) × (value < count) × (count ≤ 4096) = let turn = c.loop-i in
     let len = c.args.self.len in
     let counts = c.args.counts in
     let few = c.requires.few in
@@ -101,12 +106,14 @@ overflow_cast-values c =
     let below = turn.invariant.3 (turn.i - 1) (omega arith) in
     let positive = fits_positive (take len counts) (take len turn.values) (fits len counts turn.values (omega arith) (omega arith) turn.invariant.3) in
     (omega arith, omega arith, omega (arith, c.requires.small, count_le len (turn.i - 1) counts (omega arith) (omega arith) positive)) in
-    let parts : ((value c + c.loop-i.carry) % count c < count c) × ((value c + c.loop-i.carry) / count c ≤ 1) = parts_small (value c) (count c) c.loop-i.carry (small).1 c.loop-i.invariant.2 in
+    let parts : ((value + c.loop-i.carry) % count < count) × ((value + c.loop-i.carry) / count ≤ 1) = parts_small (value) (count) c.loop-i.carry (small).1 c.loop-i.invariant.2 in
     omega (arith, small, parts)
 
 pub loop-i-preserved : goal.loop-i-preserved
 loop-i-preserved c =
-    let small : (count c ≡ get_or c.args.counts (c.loop-i.i - 1) 0) × (value c < count c) × (count c ≤ 4096) = let turn = c.loop-i in
+    let value : ℕ = get_or c.loop-i.values (c.loop-i.i - 1) 0 in
+    let count : ℕ = get_or c.args.counts (c.loop-i.i - 1) 0 - 1 + 1 in
+    let small : (count ≡ get_or c.args.counts (c.loop-i.i - 1) 0) × (value < count) × (count ≤ 4096) = let turn = c.loop-i in
     let len = c.args.self.len in
     let counts = c.args.counts in
     let few = c.requires.few in
@@ -115,7 +122,7 @@ loop-i-preserved c =
     let below = turn.invariant.3 (turn.i - 1) (omega arith) in
     let positive = fits_positive (take len counts) (take len turn.values) (fits len counts turn.values (omega arith) (omega arith) turn.invariant.3) in
     (omega arith, omega arith, omega (arith, c.requires.small, count_le len (turn.i - 1) counts (omega arith) (omega arith) positive)) in
-    let parts : ((value c + c.loop-i.carry) % count c < count c) × ((value c + c.loop-i.carry) / count c ≤ 1) = parts_small (value c) (count c) c.loop-i.carry (small).1 c.loop-i.invariant.2 in
+    let parts : ((value + c.loop-i.carry) % count < count) × ((value + c.loop-i.carry) / count ≤ 1) = parts_small (value) (count) c.loop-i.carry (small).1 c.loop-i.invariant.2 in
     let turn = c.loop-i in
     let len = c.args.self.len in
     let counts = c.args.counts in
@@ -124,18 +131,20 @@ loop-i-preserved c =
     let six-first : length c.args.self.values ≡ 6 = search rules in
     let six-now : length turn.values ≡ 6 = turn.invariant.1 in
     let j = turn.i - 1 in
-    let left = (value c + turn.carry) % count c in (
+    let left = (value + turn.carry) % count in (
       omega arith,
       length-set turn.values j _ ∙ six-now,
       (parts).1,
       λ k l. set_below j left counts turn.values (omega arith) (omega (arith, (parts).0, (small).0)) k (λ _. turn.invariant.3 k l),
-      carried_on len turn.i j counts turn.values (omega arith) (omega arith) (omega arith) (omega arith) turn.carry (count c) c.args.self.values (small).0 (omega arith) turn.invariant.4,
+      carried_on len turn.i j counts turn.values (omega arith) (omega arith) (omega arith) (omega arith) turn.carry (count) c.args.self.values (small).0 (omega arith) turn.invariant.4,
       drop-set-lt len turn.values j left (omega arith) ∙ turn.invariant.5,
     )
 
 pub returns : goal.returns
 returns c =
-    let small : (count c ≡ get_or c.args.counts (c.loop-i.i - 1) 0) × (value c < count c) × (count c ≤ 4096) = let turn = c.loop-i in
+    let value : ℕ = get_or c.loop-i.values (c.loop-i.i - 1) 0 in
+    let count : ℕ = get_or c.args.counts (c.loop-i.i - 1) 0 - 1 + 1 in
+    let small : (count ≡ get_or c.args.counts (c.loop-i.i - 1) 0) × (value < count) × (count ≤ 4096) = let turn = c.loop-i in
     let len = c.args.self.len in
     let counts = c.args.counts in
     let few = c.requires.few in
