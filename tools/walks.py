@@ -426,7 +426,7 @@ def convert(lts, crate, folder, fpath, problems):
         """Puts the helpers that an answer uses before its body."""
         need_, seen = [], txt
         for name, typ, body_ in reversed(inlined):
-            if re.search(r"(?<![^\s(){},;])" + re.escape(name) + r"(?![^\s(){},;.])", seen):
+            if re.search(r"(?<![^\s(){},;])" + re.escape(name) + r" c(?:⟨[^⟩]*⟩)?(?![\w.⟨])", seen):
                 need_.append((name, typ, body_)); seen += " " + typ + " " + body_
         need_.reverse()
         fix = lambda s: functools_reduce(s)

@@ -27,7 +27,7 @@ loop-counts-init c =
 
 pub returns-then-i-len : goal.returns-then-i-len
 returns-then-i-len c attrs are =
-    let room : c.args.list.len ≤ length c.args.list.all = let size : length c.args.list.all ≡ 65 = simp length-map at c.type_inv.1.1.0.1.1.0.1.0.1 in
+    let room : c.args.list.len ≤ length c.args.list.all = let size : length c.args.list.all ≡ 65 = simp length-map at c.well_formed.1.1.0.1.1.0.1.0.1 in
     omega (arith, c.requires.1) in
     let a = c.args in
     let i = c.loop-counts.tree.len in
@@ -44,7 +44,7 @@ check_element-checked-requires c = (c.requires.0, c.loop-counts.invariant.1, c.l
 
 pub returns-then-checked-ne0 : goal.returns-then-checked-ne0
 returns-then-checked-ne0 c attrs are =
-    let room : c.args.list.len ≤ length c.args.list.all = let size : length c.args.list.all ≡ 65 = simp length-map at c.type_inv.1.1.0.1.1.0.1.0.1 in
+    let room : c.args.list.len ≤ length c.args.list.all = let size : length c.args.list.all ≡ 65 = simp length-map at c.well_formed.1.1.0.1.1.0.1.0.1 in
     omega (arith, c.requires.1) in
     let a = c.args in
     let i = c.loop-counts.tree.len in
@@ -89,7 +89,7 @@ loop-counts-smaller c =
 
 pub loop-counts-preserved : goal.loop-counts-preserved
 loop-counts-preserved c =
-    let room : c.args.list.len ≤ length c.args.list.all = let size : length c.args.list.all ≡ 65 = simp length-map at c.type_inv.1.1.0.1.1.0.1.0.1 in
+    let room : c.args.list.len ≤ length c.args.list.all = let size : length c.args.list.all ≡ 65 = simp length-map at c.well_formed.1.1.0.1.1.0.1.0.1 in
     omega (arith, c.requires.1) in
     let passed_here : Sound c.args.list.all c.loop-counts.tree.len = let a = c.args in
     let ns = take a.attributes a.counts in

@@ -12,10 +12,6 @@ use Rattle.attribute_lines.specs.Steps.{BeforeLine, read_sofar}
 use Rattle.element_lines.proofs.TreeSteps.{count_told, earlier_told, some_attribute, room_there, targets_told, tree_told}
 use Rattle.element_lines.proofs.tree_line.Goals as goal
 
--- The start, from behind the test of the field count
-abbrev start : tie.Else1 → tie.Start
-start c = c.before.before.before.before.before.before.before.before
-
 -- what was read so far is what the state stands for
 behind : {f table places : List ℕ} {st : State} → BeforeLine f table places st → Behind f st.attributes places st.tree (read_sofar f table places st)
 behind ready = record { attributes = refl; stands = ready.tree; names = element_names _ _ _ _ }
@@ -26,42 +22,49 @@ returns-then-fields-attributes c =
     count_told _ _ _ _ _ _ _ pre.0 pre.1 pre.2 c.if-fields-attributes.true
 
 pub field_ends-e-requires : goal.field_ends-e-requires
-field_ends-e-requires c = omega (arith, (start c).requires.2.count)
+field_ends-e-requires c =
+    let start : tie.Start = c⟨Else1⟩ in
+    omega (arith, (start).requires.2.count)
 
 pub element_refusal-refusal-requires : goal.element_refusal-refusal-requires
 element_refusal-refusal-requires c =
-    let pre = (start c⟨After-field_ends⟩).requires in
+    let start : tie.Start = c⟨Else1⟩ in
+    let pre = (start).requires in
     (pre.0.rooms.named, pre.0.in_file.shallow, c.field_ends-e.ensures.headed, (_, behind pre.0))
 
 pub returns-then-refusal-ne0 : goal.returns-then-refusal-ne0
 returns-then-refusal-ne0 c =
-    let pre = (start c⟨Then2⟩).requires in
+    let start : tie.Start = c⟨Else1⟩ in
+    let pre = (start).requires in
     let lowest = c.element_refusal-refusal.ensures _ (behind pre.0) in
     earlier_told _ _ _ _ _ _ _ pre.0 pre.1 pre.2 c.if-fields-attributes.false _ lowest c.if-refusal-ne0.true
 
 pub line_masks-m-requires : goal.line_masks-m-requires
 line_masks-m-requires c =
-    let pre = (start c⟨Else2⟩).requires in
+    let start : tie.Start = c⟨Else1⟩ in
+    let pre = (start).requires in
     let lowest = c.element_refusal-refusal.ensures _ (behind pre.0) in
     let attributes = pre.0.in_file.attributes in
     (attributes.standing, attributes.few_values, some_attribute _ _ _ _ _ _ _ pre.0 pre.1 pre.2 c.if-fields-attributes.false _ lowest c.if-refusal-ne0.false, sym pre.2.count ∙ c.if-fields-attributes.false, c.field_ends-e.ensures.headed)
 
 pub returns-then-not-m : goal.returns-then-not-m
 returns-then-not-m c =
-    let pre = (start c⟨Then3⟩).requires in
+    let start : tie.Start = c⟨Else1⟩ in
+    let pre = (start).requires in
     let lowest = c.element_refusal-refusal.ensures _ (behind pre.0) in
     targets_told _ _ _ _ _ _ _ pre.0 pre.1 pre.2 c.if-fields-attributes.false _ lowest c.if-refusal-ne0.false c.line_masks-m.ensures (c.if-not-m.true)
 
 pub lay_line-state-requires : goal.lay_line-state-requires
 lay_line-state-requires c =
-    let ends_low : c.args.end < 18446744073709551615 = omega (arith, c.requires.1.ends) in
-    let pre = (start c⟨After-lay_line-arg2⟩).requires in
+    let start : tie.Start = c⟨Else1⟩ in
+    let pre = (start).requires in
     let lowest = c.element_refusal-refusal.ensures _ (behind pre.0) in
-    (room_there _ _ _ _ _ _ _ pre.0 pre.1 pre.2 c.if-fields-attributes.false _ lowest c.if-refusal-ne0.false (ends_low (start c⟨After-lay_line-arg2⟩)), c.field_ends-e.ensures.headed)
+    (room_there _ _ _ _ _ _ _ pre.0 pre.1 pre.2 c.if-fields-attributes.false _ lowest c.if-refusal-ne0.false (ends_low (start)), c.field_ends-e.ensures.headed)
 
 pub returns : goal.returns
 returns c =
-    let pre = (start c⟨After-slice_known4⟩).requires in
+    let start : tie.Start = c⟨Else1⟩ in
+    let pre = (start).requires in
     let lowest = c.element_refusal-refusal.ensures _ (behind pre.0) in
     let good = c.if-not-m.false in
     let put = c.lay_line-state.ensures in

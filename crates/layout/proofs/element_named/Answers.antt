@@ -15,25 +15,13 @@ pub loop-i-init : goal.loop-i-init
 loop-i-init c = (search rules, refl)
 
 pub overflow_mul-end : goal.overflow_mul-end
-overflow_mul-end c =
-    let placed : let a = c.args in let i = c.loop-i.i - 1 in (2 * i + 2 ≤ length a.places.now) × (start_of a.places.now i + 4 ≤ get_or a.places.now (2 * i + 1) 0) × (get_or a.places.now (2 * i + 1) 0 ≤ length a.file.now) = let named = c.requires in
-    let i = c.loop-i.i - 1 in
-    (omega (arith, named.room), named.starts i (omega arith), named.ends i (omega arith)) in
-    let (room, start, end) = placed (c) in search rules
+overflow_mul-end c = let (room, start, end) = placed (c) in search rules
 
 pub overflow_add-end : goal.overflow_add-end
-overflow_add-end c =
-    let placed : let a = c.args in let i = c.loop-i.i - 1 in (2 * i + 2 ≤ length a.places.now) × (start_of a.places.now i + 4 ≤ get_or a.places.now (2 * i + 1) 0) × (get_or a.places.now (2 * i + 1) 0 ≤ length a.file.now) = let named = c.requires in
-    let i = c.loop-i.i - 1 in
-    (omega (arith, named.room), named.starts i (omega arith), named.ends i (omega arith)) in
-    let (room, start, end) = placed (c) in search rules
+overflow_add-end c = let (room, start, end) = placed (c) in search rules
 
 pub offset_bounds-places-i : goal.offset_bounds-places-i
-offset_bounds-places-i c =
-    let placed : let a = c.args in let i = c.loop-i.i - 1 in (2 * i + 2 ≤ length a.places.now) × (start_of a.places.now i + 4 ≤ get_or a.places.now (2 * i + 1) 0) × (get_or a.places.now (2 * i + 1) 0 ≤ length a.file.now) = let named = c.requires in
-    let i = c.loop-i.i - 1 in
-    (omega (arith, named.room), named.starts i (omega arith), named.ends i (omega arith)) in
-    let (room, start, end) = placed (c) in search rules
+offset_bounds-places-i c = let (room, start, end) = placed (c) in search rules
 
 pub bounds-places-i : goal.bounds-places-i
 bounds-places-i c =

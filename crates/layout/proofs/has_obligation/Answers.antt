@@ -8,32 +8,17 @@ use borrow.Author.Rules.{rules}
 use Rattle.layout.specs.Places.{obligation_start, obligation_end}
 use Rattle.layout.proofs.has_obligation.Goals as goal
 
-abbrev start : tie.After-shared-slice-known5 → tie.Start
-start c = c.before.before.before.before.before
-
 pub slice_bounds-same_name-count : goal.slice_bounds-same_name-count
 slice_bounds-same_name-count c =
-    let lies : let a = c.args in (obligation_start a.places.now a.i a.k ≤ obligation_end a.places.now a.i a.k) × (obligation_end a.places.now a.i a.k ≤ length a.file.now) = let (obliged, place) = c.requires in (obliged.starts c.args.k place, within _ _ (obliged.ends c.args.k place))
-  where
-    within : (end size : ℕ) → (end ≢ 0 → end + 1 < size) → end ≤ size
-    within zero size h = omega arith
-    within (suc end) size h = omega (arith, h (λ e. omega arith)) in
-    (lies (start c)).0
+    let start : tie.Start = c⟨After-shared_slice_known5⟩ in
+    (lies (start)).0
 
 pub slice_bounds-same_name-start : goal.slice_bounds-same_name-start
 slice_bounds-same_name-start c =
-    let lies : let a = c.args in (obligation_start a.places.now a.i a.k ≤ obligation_end a.places.now a.i a.k) × (obligation_end a.places.now a.i a.k ≤ length a.file.now) = let (obliged, place) = c.requires in (obliged.starts c.args.k place, within _ _ (obliged.ends c.args.k place))
-  where
-    within : (end size : ℕ) → (end ≢ 0 → end + 1 < size) → end ≤ size
-    within zero size h = omega arith
-    within (suc end) size h = omega (arith, h (λ e. omega arith)) in
-    let (starts, ends) = lies (start c) in search rules
+    let start : tie.Start = c⟨After-shared_slice_known5⟩ in
+    let (starts, ends) = lies (start) in search rules
 
 pub slice_bounds-same_name-end : goal.slice_bounds-same_name-end
 slice_bounds-same_name-end c =
-    let lies : let a = c.args in (obligation_start a.places.now a.i a.k ≤ obligation_end a.places.now a.i a.k) × (obligation_end a.places.now a.i a.k ≤ length a.file.now) = let (obliged, place) = c.requires in (obliged.starts c.args.k place, within _ _ (obliged.ends c.args.k place))
-  where
-    within : (end size : ℕ) → (end ≢ 0 → end + 1 < size) → end ≤ size
-    within zero size h = omega arith
-    within (suc end) size h = omega (arith, h (λ e. omega arith)) in
-    let (starts, ends) = lies (start c) in search rules
+    let start : tie.Start = c⟨After-shared_slice_known5⟩ in
+    let (starts, ends) = lies (start) in search rules

@@ -10,6 +10,6 @@ use Rattle.lists.proofs.element_of.Goals as goal
 
 pub returns : goal.returns
 returns c =
-    let size : length c.args.list.all ≡ 65 = sym (length-map c.args.list.all _) ∙ c.type_inv.0.1.1.0.1.0.1 in
+    let size : length c.args.list.all ≡ 65 = sym (length-map c.args.list.all _) ∙ c.well_formed.0.1.1.0.1.0.1 in
     let within : c.args.i < length c.args.list.all = omega (arith, c.requires) in
     (inside c.args.list.all c.args.i _ blank within, within)

@@ -16,83 +16,93 @@ use Rattle.layout.specs.Places.{obligations_in}
 use Rattle.obligation_lines.proofs.ObligationTests.{bad_name_lem, no_element, known_name, behind_rule, third, bad_word, good_obligation}
 use Rattle.obligation_lines.proofs.obligation_refusal.Goals as goal
 
-abbrev fields : tie.Start → List Bytes
-fields c = cut tab c.args.line.now
-
--- The start, from behind the calls of branch 1, 2, and so on
-abbrev start : tie.After-is-name → tie.Start
-start c = c.before.before.before.before.before
-
-abbrev start-2 : tie.Else2 → tie.Start
-start-2 c = start c.before.before.before
-
-abbrev start-3 : tie.After-known-obligation → tie.Start
-start-3 c = start-2 c.before.before
-
-abbrev start-4 : tie.Else4 → tie.Start
-start-4 c = start-3 c.before.before.before
-
-abbrev start-5 : tie.Else5 → tie.Start
-start-5 c = start-4 c.before.before
-
 pub returns-then-not-is_name : goal.returns-then-not-is_name
 returns-then-not-is_name c =
-    let name-found : is_name (get_or (fields (start c)) 1 []) ≡ c.is_name.result = sym (ap is_name c.field-name.ensures) ∙ sym c.is_name.ensures in
+    let start : tie.Start = c⟨After-is_name⟩ in
+    let name-found : is_name (get_or (fields (start)) 1 []) ≡ c.is_name.result = sym (ap is_name c.field-name.ensures) ∙ sym c.is_name.ensures in
     bad_name_lem _ _ _ _ (name-found ∙ c.if-not-is_name.true)
 
 pub returns-then-tree-eq0 : goal.returns-then-tree-eq0
 returns-then-tree-eq0 c =
-    let name-found : is_name (get_or (fields (start c)) 1 []) ≡ c.is_name.result = sym (ap is_name c.field-name.ensures) ∙ sym c.is_name.ensures in
-    let named : is_name (get_or (fields (start c⟨Else1⟩)) 1 []) ≡ true = name-found ∙ c.if-not-is_name.false in
+    let start : tie.Start = c⟨After-is_name⟩ in
+    let name-found : is_name (get_or (fields (start)) 1 []) ≡ c.is_name.result = sym (ap is_name c.field-name.ensures) ∙ sym c.is_name.ensures in
+    let named : is_name (get_or (fields (start)) 1 []) ≡ true = name-found ∙ c.if-not-is_name.false in
     no_element _ _ _ _ (named) c.if-tree-eq0.true
 
 pub known_obligation-requires : goal.known_obligation-requires
-known_obligation-requires c = (start-2 c⟨After-struct_known2⟩).requires.1 ((start-2 c⟨After-struct_known2⟩).args.tree.len - 1) (omega arith)
+known_obligation-requires c =
+    let start : tie.Start = c⟨After-is_name⟩ in
+    let start-2 : tie.Start = start in
+    (start-2).requires.1 ((start-2).args.tree.len - 1) (omega arith)
 
 pub returns-then-known_obligation : goal.returns-then-known_obligation
 returns-then-known_obligation c =
-    let name-found : is_name (get_or (fields (start c)) 1 []) ≡ c.is_name.result = sym (ap is_name c.field-name.ensures) ∙ sym c.is_name.ensures in
-    let named : is_name (get_or (fields (start c⟨Else1⟩)) 1 []) ≡ true = name-found ∙ c.if-not-is_name.false in
-    let known-found : let a = (start-3 c).args in among_names (get_or (fields (start-3 c)) 1 []) (map obligation_name (obligations_in a.file.now a.places.now (a.tree.len - 1))) ≡ c.known_obligation.result = let a = (start-3 c).args in
+    let start : tie.Start = c⟨After-is_name⟩ in
+    let start-2 : tie.Start = start in
+    let start-3 : tie.Start = start-2 in
+    let name-found : is_name (get_or (fields (start)) 1 []) ≡ c.is_name.result = sym (ap is_name c.field-name.ensures) ∙ sym c.is_name.ensures in
+    let named : is_name (get_or (fields (start)) 1 []) ≡ true = name-found ∙ c.if-not-is_name.false in
+    let known-found : let a = (start-3).args in among_names (get_or (fields (start-3)) 1 []) (map obligation_name (obligations_in a.file.now a.places.now (a.tree.len - 1))) ≡ c.known_obligation.result = let a = (start-3).args in
     sym (ap (λ n. among_names n (map obligation_name (obligations_in a.file.now a.places.now (a.tree.len - 1)))) c.field-name.ensures) ∙ sym c.known_obligation.ensures in
     known_name _ _ _ _ (named) c.if-tree-eq0.false (known-found ∙ c.if-known_obligation.true)
 
 pub returns-then-kinds-depth-eq3 : goal.returns-then-kinds-depth-eq3
 returns-then-kinds-depth-eq3 c =
-    let name-found : is_name (get_or (fields (start c)) 1 []) ≡ c.is_name.result = sym (ap is_name c.field-name.ensures) ∙ sym c.is_name.ensures in
-    let named : is_name (get_or (fields (start c⟨Else1⟩)) 1 []) ≡ true = name-found ∙ c.if-not-is_name.false in
-    let known-found : let a = (start-3 c).args in among_names (get_or (fields (start-3 c)) 1 []) (map obligation_name (obligations_in a.file.now a.places.now (a.tree.len - 1))) ≡ c.known_obligation.result = let a = (start-3 c).args in
+    let start : tie.Start = c⟨After-is_name⟩ in
+    let start-2 : tie.Start = start in
+    let start-3 : tie.Start = start-2 in
+    let name-found : is_name (get_or (fields (start)) 1 []) ≡ c.is_name.result = sym (ap is_name c.field-name.ensures) ∙ sym c.is_name.ensures in
+    let named : is_name (get_or (fields (start)) 1 []) ≡ true = name-found ∙ c.if-not-is_name.false in
+    let known-found : let a = (start-3).args in among_names (get_or (fields (start-3)) 1 []) (map obligation_name (obligations_in a.file.now a.places.now (a.tree.len - 1))) ≡ c.known_obligation.result = let a = (start-3).args in
     sym (ap (λ n. among_names n (map obligation_name (obligations_in a.file.now a.places.now (a.tree.len - 1)))) c.field-name.ensures) ∙ sym c.known_obligation.ensures in
-    behind_rule _ _ _ _ (named) c.if-tree-eq0.false (known-found ∙ c.if-known_obligation.false) (start-2 c⟨Then4⟩).requires.0 c.if-kinds-depth-eq3.true
+    behind_rule _ _ _ _ (named) c.if-tree-eq0.false (known-found ∙ c.if-known_obligation.false) (start-2).requires.0 c.if-kinds-depth-eq3.true
 
 pub obligation_count-requires : goal.obligation_count-requires
-obligation_count-requires c = ((start-4 c).requires.1 ((start-4 c).args.tree.len - 1) (omega arith)).room
+obligation_count-requires c =
+    let start : tie.Start = c⟨After-is_name⟩ in
+    let start-2 : tie.Start = start in
+    let start-3 : tie.Start = start-2 in
+    let start-4 : tie.Start = start-3 in
+    ((start-4).requires.1 ((start-4).args.tree.len - 1) (omega arith)).room
 
 pub returns-then-obligation_count-ge2 : goal.returns-then-obligation_count-ge2
 returns-then-obligation_count-ge2 c =
-    let name-found : is_name (get_or (fields (start c)) 1 []) ≡ c.is_name.result = sym (ap is_name c.field-name.ensures) ∙ sym c.is_name.ensures in
-    let named : is_name (get_or (fields (start c⟨Else1⟩)) 1 []) ≡ true = name-found ∙ c.if-not-is_name.false in
-    let known-found : let a = (start-3 c).args in among_names (get_or (fields (start-3 c)) 1 []) (map obligation_name (obligations_in a.file.now a.places.now (a.tree.len - 1))) ≡ c.known_obligation.result = let a = (start-3 c).args in
+    let start : tie.Start = c⟨After-is_name⟩ in
+    let start-2 : tie.Start = start in
+    let start-3 : tie.Start = start-2 in
+    let name-found : is_name (get_or (fields (start)) 1 []) ≡ c.is_name.result = sym (ap is_name c.field-name.ensures) ∙ sym c.is_name.ensures in
+    let named : is_name (get_or (fields (start)) 1 []) ≡ true = name-found ∙ c.if-not-is_name.false in
+    let known-found : let a = (start-3).args in among_names (get_or (fields (start-3)) 1 []) (map obligation_name (obligations_in a.file.now a.places.now (a.tree.len - 1))) ≡ c.known_obligation.result = let a = (start-3).args in
     sym (ap (λ n. among_names n (map obligation_name (obligations_in a.file.now a.places.now (a.tree.len - 1)))) c.field-name.ensures) ∙ sym c.known_obligation.ensures in
     let counted = c.obligation_count.ensures.value in
-    third _ _ _ _ (named) c.if-tree-eq0.false (known-found ∙ c.if-known_obligation.false) (start-2 c⟨Then5⟩).requires.0 c.if-kinds-depth-eq3.false (omega (arith, counted, c.if-obligation_count-ge2.true))
+    third _ _ _ _ (named) c.if-tree-eq0.false (known-found ∙ c.if-known_obligation.false) (start-2).requires.0 c.if-kinds-depth-eq3.false (omega (arith, counted, c.if-obligation_count-ge2.true))
 
 pub returns-then-word_number-eq6 : goal.returns-then-word_number-eq6
 returns-then-word_number-eq6 c =
-    let name-found : is_name (get_or (fields (start c)) 1 []) ≡ c.is_name.result = sym (ap is_name c.field-name.ensures) ∙ sym c.is_name.ensures in
-    let named : is_name (get_or (fields (start c⟨Else1⟩)) 1 []) ≡ true = name-found ∙ c.if-not-is_name.false in
-    let known-found : let a = (start-3 c).args in among_names (get_or (fields (start-3 c)) 1 []) (map obligation_name (obligations_in a.file.now a.places.now (a.tree.len - 1))) ≡ c.known_obligation.result = let a = (start-3 c).args in
+    let start : tie.Start = c⟨After-is_name⟩ in
+    let start-2 : tie.Start = start in
+    let start-3 : tie.Start = start-2 in
+    let start-4 : tie.Start = start-3 in
+    let start-5 : tie.Start = start-4 in
+    let name-found : is_name (get_or (fields (start)) 1 []) ≡ c.is_name.result = sym (ap is_name c.field-name.ensures) ∙ sym c.is_name.ensures in
+    let named : is_name (get_or (fields (start)) 1 []) ≡ true = name-found ∙ c.if-not-is_name.false in
+    let known-found : let a = (start-3).args in among_names (get_or (fields (start-3)) 1 []) (map obligation_name (obligations_in a.file.now a.places.now (a.tree.len - 1))) ≡ c.known_obligation.result = let a = (start-3).args in
     sym (ap (λ n. among_names n (map obligation_name (obligations_in a.file.now a.places.now (a.tree.len - 1)))) c.field-name.ensures) ∙ sym c.known_obligation.ensures in
-    let word-found : number_of_word (word_of rule (get_or (fields (start-5 c⟨After-word_number⟩)) 2 [])) ≡ c.word_number.result = sym (ap (λ w. number_of_word (word_of rule w)) c.field.ensures) ∙ sym c.word_number.ensures.value in
+    let word-found : number_of_word (word_of rule (get_or (fields (start-5)) 2 [])) ≡ c.word_number.result = sym (ap (λ w. number_of_word (word_of rule w)) c.field.ensures) ∙ sym c.word_number.ensures.value in
     let counted = c.obligation_count.ensures.value in
-    bad_word _ _ _ _ (named) c.if-tree-eq0.false (known-found ∙ c.if-known_obligation.false) (start-2 c⟨Then6⟩).requires.0 c.if-kinds-depth-eq3.false (omega (arith, counted, c.if-obligation_count-ge2.false)) (word-found ∙ c.if-word_number-eq6.true)
+    bad_word _ _ _ _ (named) c.if-tree-eq0.false (known-found ∙ c.if-known_obligation.false) (start-2).requires.0 c.if-kinds-depth-eq3.false (omega (arith, counted, c.if-obligation_count-ge2.false)) (word-found ∙ c.if-word_number-eq6.true)
 
 pub returns : goal.returns
 returns c =
-    let name-found : is_name (get_or (fields (start c)) 1 []) ≡ c.is_name.result = sym (ap is_name c.field-name.ensures) ∙ sym c.is_name.ensures in
-    let named : is_name (get_or (fields (start c⟨Else1⟩)) 1 []) ≡ true = name-found ∙ c.if-not-is_name.false in
-    let known-found : let a = (start-3 c).args in among_names (get_or (fields (start-3 c)) 1 []) (map obligation_name (obligations_in a.file.now a.places.now (a.tree.len - 1))) ≡ c.known_obligation.result = let a = (start-3 c).args in
+    let start : tie.Start = c⟨After-is_name⟩ in
+    let start-2 : tie.Start = start in
+    let start-3 : tie.Start = start-2 in
+    let start-4 : tie.Start = start-3 in
+    let start-5 : tie.Start = start-4 in
+    let name-found : is_name (get_or (fields (start)) 1 []) ≡ c.is_name.result = sym (ap is_name c.field-name.ensures) ∙ sym c.is_name.ensures in
+    let named : is_name (get_or (fields (start)) 1 []) ≡ true = name-found ∙ c.if-not-is_name.false in
+    let known-found : let a = (start-3).args in among_names (get_or (fields (start-3)) 1 []) (map obligation_name (obligations_in a.file.now a.places.now (a.tree.len - 1))) ≡ c.known_obligation.result = let a = (start-3).args in
     sym (ap (λ n. among_names n (map obligation_name (obligations_in a.file.now a.places.now (a.tree.len - 1)))) c.field-name.ensures) ∙ sym c.known_obligation.ensures in
-    let word-found : number_of_word (word_of rule (get_or (fields (start-5 c⟨After-word_number⟩)) 2 [])) ≡ c.word_number.result = sym (ap (λ w. number_of_word (word_of rule w)) c.field.ensures) ∙ sym c.word_number.ensures.value in
+    let word-found : number_of_word (word_of rule (get_or (fields (start-5)) 2 [])) ≡ c.word_number.result = sym (ap (λ w. number_of_word (word_of rule w)) c.field.ensures) ∙ sym c.word_number.ensures.value in
     let counted = c.obligation_count.ensures.value in
-    good_obligation _ _ _ _ (named) c.if-tree-eq0.false (known-found ∙ c.if-known_obligation.false) (start-2 c⟨Else6⟩).requires.0 c.if-kinds-depth-eq3.false (omega (arith, counted, c.if-obligation_count-ge2.false)) (λ e. c.if-word_number-eq6.false (sym (word-found) ∙ e))
+    good_obligation _ _ _ _ (named) c.if-tree-eq0.false (known-found ∙ c.if-known_obligation.false) (start-2).requires.0 c.if-kinds-depth-eq3.false (omega (arith, counted, c.if-obligation_count-ge2.false)) (λ e. c.if-word_number-eq6.false (sym (word-found) ∙ e))

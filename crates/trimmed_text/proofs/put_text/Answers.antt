@@ -12,9 +12,6 @@ use Rattle.trimmed_text.specs.Copied.{piece_at, copied}
 use Rattle.trimmed_text.proofs.Copying.{length_head, reached, reached_line, reached_end, length_piece, piece_stored}
 use Rattle.trimmed_text.proofs.put_text.Goals as goal
 
-abbrev entry : tie.At-loop invariant-loop decreases-loop → tie.Start invariant-loop decreases-loop
-entry c = c.before.before.before.before.before.before.before.before.before.before.before
-
 pub slice_bounds-put_bytes-end : goal.slice_bounds-put_bytes-end
 slice_bounds-put_bytes-end c = let pre = c.requires in omega (arith, pre.inside 0 pre.some)
 
@@ -32,7 +29,8 @@ loop-i-init c =
 
 pub put_bytes-at-requires-in-loop-i : goal.put_bytes-at-requires-in-loop-i
 put_bytes-at-requires-in-loop-i c =
-    let room : let a = (entry c⟨After-piece_end⟩).args in let l = c.loop-i in l.at + length (part a.file.now (start_of a.places.now l.i) c.piece_end-end.result) ≤ c.piece_end-end.result = let a = (entry c⟨After-piece_end⟩).args in
+    let entry : tie.Start invariant-loop decreases-loop = c⟨At-loop⟩ in
+    let room : let a = (entry).args in let l = c.loop-i in l.at + length (part a.file.now (start_of a.places.now l.i) c.piece_end-end.result) ≤ c.piece_end-end.result = let a = (entry).args in
     let l = c.loop-i in
     let p = c.piece_end-end in
     let start = reached_line a.file.now a.places.now a.n l.i c.loop-i-test.true in
@@ -41,12 +39,13 @@ put_bytes-at-requires-in-loop-i c =
 
 pub loop-i-preserved : goal.loop-i-preserved
 loop-i-preserved c =
-    let room : let a = (entry c⟨After-piece_end⟩).args in let l = c.loop-i in l.at + length (part a.file.now (start_of a.places.now l.i) c.piece_end-end.result) ≤ c.piece_end-end.result = let a = (entry c⟨After-piece_end⟩).args in
+    let entry : tie.Start invariant-loop decreases-loop = c⟨At-loop⟩ in
+    let room : let a = (entry).args in let l = c.loop-i in l.at + length (part a.file.now (start_of a.places.now l.i) c.piece_end-end.result) ≤ c.piece_end-end.result = let a = (entry).args in
     let l = c.loop-i in
     let p = c.piece_end-end in
     let start = reached_line a.file.now a.places.now a.n l.i c.loop-i-test.true in
     omega (arith, l.invariant.1, length_piece a.file.now a.places.now a.struck.now a.n l.i p.result p.ensures, p.ensures.starts) in
-    let a = (entry c⟨After-slice_known3⟩).args in
+    let a = (entry).args in
     let l = c.loop-i in
     let p = c.piece_end-end in
     let w = c.put_bytes-at-in-loop-i.ensures in (
@@ -58,7 +57,8 @@ loop-i-preserved c =
 pub returns : goal.returns
 unfolding copied
 returns c =
-    let a = (entry c⟨After-loop⟩).args in
+    let entry : tie.Start invariant-loop decreases-loop = c⟨At-loop⟩ in
+    let a = (entry).args in
     let l = c.loop-i in
     let end = reached_end a.file.now a.places.now a.n l.i c.loop-i-test.false in
     (then c.put_bytes-at.ensures (ended_all (piece_at a.file.now a.places.now a.struck.now a.n) (length a.file.now) _ _ l.i l.invariant.2 a.n (omega arith)), omega (arith, l.invariant.1))

@@ -142,17 +142,6 @@ loop-i-preserved c =
 
 pub returns : goal.returns
 returns c =
-    let value : ℕ = get_or c.loop-i.values (c.loop-i.i - 1) 0 in
-    let count : ℕ = get_or c.args.counts (c.loop-i.i - 1) 0 - 1 + 1 in
-    let small : (count ≡ get_or c.args.counts (c.loop-i.i - 1) 0) × (value < count) × (count ≤ 4096) = let turn = c.loop-i in
-    let len = c.args.self.len in
-    let counts = c.args.counts in
-    let few = c.requires.few in
-    let six : length counts ≡ 6 = search rules in
-    let six-now : length turn.values ≡ 6 = turn.invariant.1 in
-    let below = turn.invariant.3 (turn.i - 1) (omega arith) in
-    let positive = fits_positive (take len counts) (take len turn.values) (fits len counts turn.values (omega arith) (omega arith) turn.invariant.3) in
-    (omega arith, omega arith, omega (arith, c.requires.small, count_le len (turn.i - 1) counts (omega arith) (omega arith) positive)) in
     let turn = c.loop-i in
     let len = c.args.self.len in
     let counts = c.args.counts in

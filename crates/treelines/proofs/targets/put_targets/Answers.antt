@@ -15,24 +15,16 @@ loop-i-init c =
     (omega arith, begun (tab_target args.header.now args.a.values args.a.ends args.e.masks) 16386 0 args.out.now args.at)
 
 pub offset_bounds-values-i : goal.offset_bounds-values-i
-offset_bounds-values-i c =
-    let below-six : c.loop-i.i < 6 = omega (arith, c.requires.0.standing.few) in
-    let small = below-six (c) in search rules
+offset_bounds-values-i c = let small = below-six (c) in search rules
 
 pub bounds-values-i : goal.bounds-values-i
-bounds-values-i c =
-    let below-six : c.loop-i.i < 6 = omega (arith, c.requires.0.standing.few) in
-    let small = below-six (c) in search rules
+bounds-values-i c = let small = below-six (c) in search rules
 
 pub offset_bounds-ends-i : goal.offset_bounds-ends-i
-offset_bounds-ends-i c =
-    let below-six : c.loop-i.i < 6 = omega (arith, c.requires.0.standing.few) in
-    let small = below-six (c) in search rules
+offset_bounds-ends-i c = let small = below-six (c) in search rules
 
 pub bounds-ends-i : goal.bounds-ends-i
-bounds-ends-i c =
-    let below-six : c.loop-i.i < 6 = omega (arith, c.requires.0.standing.few) in
-    let small = below-six (c) in search rules
+bounds-ends-i c = let small = below-six (c) in search rules
 
 pub put-target-requires : goal.put-target-requires
 put-target-requires c = omega (arith, c.loop-i.invariant.1.within, c.requires.0.standing.few)
