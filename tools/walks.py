@@ -313,6 +313,8 @@ def convert(lts, crate, folder, fpath, problems):
             else:
                 cur += ch
         parts.append(cur.strip())
+        if parts[-1] == "":
+            parts.pop()
         if len(parts) != len(labels):
             return b
         return s[:i] + "record { " + "; ".join(f"{l} = {p}" for l, p in zip(labels, parts)) + " }"
@@ -369,9 +371,9 @@ def convert(lts, crate, folder, fpath, problems):
                 if lab:
                     nb = as_record(nb, lab)
                 outc.append(f"{new} {' '.join(['c'] + ps)} ={nb}")
-            if len(outc) == 1 and re.fullmatch(r"\s*search rules", outc[0].split("=", 1)[1]):
-                continue
             sig = g[2]
+            if len(outc) == 1 and "\n" not in sig and re.fullmatch(r"\s*search rules", outc[0].split("=", 1)[1]):
+                continue
             extra = "".join("\n" + l for l in sig.split("\n")[1:])
             done.append((g[1], f"pub {new} : goal.{new}{extra}\n" + "\n".join(outc), j))
         else:

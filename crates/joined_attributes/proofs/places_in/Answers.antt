@@ -53,10 +53,7 @@ returns c =
     let l = c.loop-j in
     let first = attributes_of c.args.first.now c.args.a in
     let own = attributes_of c.args.own.now c.args.c in
-    let all : l.j ≡ c.args.b.len = omega arith in (
-      l.invariant.1 ∙ ap (λ n. listed (places_in own (both first (attributes_from c.args.second.now c.args.b 0 n)))) all,
-      omega (arith, c.requires.0.few, c.requires.1.few, ap (λ p. p.len) l.invariant.1, attributes_length c.args.first.now c.args.a, both_count c.args.second.now c.args.b own first l.j),
-    )
+    let all : l.j ≡ c.args.b.len = omega arith in record { value = l.invariant.1 ∙ ap (λ n. listed (places_in own (both first (attributes_from c.args.second.now c.args.b 0 n)))) all; within = omega (arith, c.requires.0.few, c.requires.1.few, ap (λ p. p.len) l.invariant.1, attributes_length c.args.first.now c.args.a, both_count c.args.second.now c.args.b own first l.j) }
 
 pub of_first-p-requires : goal.of_first-p-requires
 of_first-p-requires c = (c.requires.0, c.requires.2)

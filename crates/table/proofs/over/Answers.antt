@@ -26,14 +26,11 @@ returns-then-depth_at-depth c =
     let args = c.args in
     let turn = c.loop-j in
     let depth = c.depth_at-depth.ensures.0 in
-    let here = c.depth_at.ensures.0 in (
-      sym (ap (place_or args.i) (last_is (lower args.table.now args.i) args.i (turn.j - 1) (record {
+    let here = c.depth_at.ensures.0 in record { value = sym (ap (place_or args.i) (last_is (lower args.table.now args.i) args.i (turn.j - 1) (record {
         below = omega arith;
         holds = lt-ltb (depth_of args.table.now (turn.j - 1)) (depth_of args.table.now args.i) (omega (arith, depth, here));
         no_later = λ m l u. le-ltb (depth_of args.table.now m) (depth_of args.table.now args.i) (omega (arith, depth, turn.invariant.1 m (omega arith) (omega arith)));
-      }))),
-      record { within = omega arith; deeper = λ k low high. omega (arith, turn.invariant.1 k (omega arith) high, here) },
-    )
+      }))); above = record { within = omega arith; deeper = λ k low high. omega (arith, turn.invariant.1 k (omega arith) high, here) } }
 
 pub loop-j-preserved : goal.loop-j-preserved
 loop-j-preserved c = (omega arith, λ k low high. go k low high (test (eqb k (c.loop-j.j - 1))))

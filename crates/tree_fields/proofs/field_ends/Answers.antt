@@ -36,14 +36,11 @@ returns c =
     let letter-is : c.end_of-letter.result ≡ field_end line 0 = omega (arith, end_is line 0 0 c.end_of-letter.result refl c.end_of-letter.ensures) in
     let depth_is : c.end_of-depth.result ≡ field_end line 1 = omega (arith, letter-is, end_is line 1 (c.end_of-letter.result + 1) c.end_of-depth.result (letter-ends).1 c.end_of-depth.ensures) in
     let name_is : c.end_of-name.result ≡ field_end line 2 = omega (arith, depth_is, end_is line 2 (c.end_of-depth.result + 1) c.end_of-name.result (depth-ends).1 c.end_of-name.ensures) in
-    let word-is : c.end_of-word.result ≡ field_end line 3 = omega (arith, name_is, end_is line 3 (c.end_of-name.result + 1) c.end_of-word.result word-starts c.end_of-word.ensures) in (
-      rw (letter-is, depth_is, name_is, word-is),
-      record {
+    let word-is : c.end_of-word.result ≡ field_end line 3 = omega (arith, name_is, end_is line 3 (c.end_of-name.result + 1) c.end_of-word.result word-starts c.end_of-word.ensures) in record { value = rw (letter-is, depth_is, name_is, word-is); headed = record {
         c⟨After-end_of4⟩ = field_is line 1 (c.end_of-letter.result + 1) c.end_of-depth.result (letter-ends).1 c.end_of-depth.ensures;
         c⟨After-end_of4⟩ = field_is line 2 (c.end_of-depth.result + 1) c.end_of-name.result (depth-ends).1 c.end_of-name.ensures;
         word = field_is line 3 (c.end_of-name.result + 1) c.end_of-word.result word-starts c.end_of-word.ensures;
         targets = λ more.
             let (l, s) = field_behind line 3 (c.end_of-name.result + 1) c.end_of-word.result word-starts c.end_of-word.ensures (omega arith) in
             (l, sym s);
-      },
-    )
+      } }
