@@ -20,7 +20,7 @@ returns-in-Attribute c =
 
 pub tree_refusal-refusal-requires : goal.tree_refusal-refusal-requires
 tree_refusal-refusal-requires c =
-    (c.requires.0.ready.in_file.attributes.standing.few, (_, of_kind _ c.line_shape-shape.ensures c.enum_told-1.given.1))
+    (c.requires.0.ready.in_file.attributes.standing.few, (_, of_kind _ c.line_shape-shape.ensures c.in-Tree.is))
 
 pub returns-in-Tree : goal.returns-in-Tree
 returns-in-Tree c = past_tree _ _ _ _ _ refl c.tree_refusal-refusal.ensures

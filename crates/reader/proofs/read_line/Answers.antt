@@ -23,12 +23,12 @@ returns-in-Attribute c =
 pub obligation_line-requires : goal.obligation_line-requires
 obligation_line-requires c =
     let pre = c.requires in
-    (pre.0.in_file, pre.1, of_kind _ c.shape_of-shape.ensures c.enum_told-1.given.1, pre.0.obliged)
+    (pre.0.in_file, pre.1, of_kind _ c.shape_of-shape.ensures c.in-Obligation.is, pre.0.obliged)
 
 pub returns-in-Obligation : goal.returns-in-Obligation
 returns-in-Obligation c =
     let pre = c.requires in
-    obligation_told pre.0 pre.1 (of_kind _ c.shape_of-shape.ensures c.enum_told-1.given.1) c.obligation_line.ensures
+    obligation_told pre.0 pre.1 (of_kind _ c.shape_of-shape.ensures c.in-Obligation.is) c.obligation_line.ensures
 
 pub returns-in-Other : goal.returns-in-Other
 returns-in-Other c =

@@ -5,7 +5,7 @@ use Rattle.syntax.proofs.Fields.{policy_number}
 use Rattle.syntax.proofs.word_number.Goals as goal
 
 pub returns-in-Rule : goal.returns-in-Rule
-returns-in-Rule c = rw c.enum_told-1.given.1 c.effect_number.ensures
+returns-in-Rule c = rw c.in-Rule.is c.effect_number.ensures
 
 pub returns-in-Set : goal.returns-in-Set
 returns-in-Set c = rw c.enum_told-in-Set-1.given.1 c.algorithm_number.ensures

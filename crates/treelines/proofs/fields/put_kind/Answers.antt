@@ -4,7 +4,7 @@ use borrow.Author.Rules.{rules}
 use Rattle.treelines.proofs.fields.put_kind.Goals as goal
 
 pub returns-in-Set : goal.returns-in-Set
-returns-in-Set c = kind_put c.args.kind _ c.enum_told-1.given.1 c.put_field.ensures
+returns-in-Set c = kind_put c.args.kind _ c.in-Set.is c.put_field.ensures
 
 pub returns-in-Policy : goal.returns-in-Policy
 returns-in-Policy c = kind_put c.args.kind _ c.enum_told-in-Policy-1.given.1 c.put_field-in-Policy.ensures

@@ -4,7 +4,7 @@ use borrow.Author.Rules.{rules}
 use Rattle.treelines.proofs.fields.put_word.Goals as goal
 
 pub returns-in-Permit : goal.returns-in-Permit
-returns-in-Permit c = word_put c.args.word _ c.enum_told-1.given.1 c.put_bytes.ensures
+returns-in-Permit c = word_put c.args.word _ c.in-Permit.is c.put_bytes.ensures
 
 pub returns-in-Deny : goal.returns-in-Deny
 returns-in-Deny c = word_put c.args.word _ c.enum_told-in-Deny-1.given.1 c.put_bytes-in-Deny.ensures
