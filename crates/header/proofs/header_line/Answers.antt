@@ -26,7 +26,7 @@ pub returns-in-Tree : goal.returns-in-Tree
 returns-in-Tree c = past_tree _ _ _ _ _ refl c.tree_refusal-refusal.ensures
 
 pub obligation_refusal-refusal-requires : goal.obligation_refusal-refusal-requires
-obligation_refusal-refusal-requires c = of_kind _ c.line_shape-shape.ensures c.enum_told-in-Obligation-1.given.1
+obligation_refusal-refusal-requires c = of_kind _ c.line_shape-shape.ensures c.in-Obligation.is
 
 pub returns-in-Obligation : goal.returns-in-Obligation
 returns-in-Obligation c = past_obligation _ _ _ _ c.obligation_refusal-refusal.ensures
@@ -34,4 +34,4 @@ returns-in-Obligation c = past_obligation _ _ _ _ c.obligation_refusal-refusal.e
 pub returns-in-Other : goal.returns-in-Other
 returns-in-Other c =
     let a = c.args in
-    past_other _ _ _ (of_kind (cut tab (part a.header.now a.st.at a.end)) c.line_shape-shape.ensures c.enum_told-in-Other-1.given.1 _)
+    past_other _ _ _ (of_kind (cut tab (part a.header.now a.st.at a.end)) c.line_shape-shape.ensures c.in-Other.is _)

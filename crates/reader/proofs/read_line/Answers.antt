@@ -33,4 +33,4 @@ returns-in-Obligation c =
 pub returns-in-Other : goal.returns-in-Other
 returns-in-Other c =
     let a = c.args in
-    refused_2 _ _ _ _ _ (of_kind (cut tab (part a.file.now a.st.at a.end)) c.shape_of-shape.ensures c.enum_told-in-Other-1.given.1 _)
+    refused_2 _ _ _ _ _ (of_kind (cut tab (part a.file.now a.st.at a.end)) c.shape_of-shape.ensures c.in-Other.is _)
