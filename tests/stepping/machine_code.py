@@ -87,7 +87,7 @@ def look(code):
     if form["trap"]:
         divisor = next(r for r, parts in PARTS.items() if re.fullmatch(parts, form["divisor"]))
         load = form["load"].split(": ")[1].strip()
-        if f": div {form['divisor']}\n" not in form["loop"] or writes(form["loop"], divisor) != {load}:
+        if writes(form["loop"], divisor) != {load, f"div {form['divisor']}"}:
             raise Refused("a test of what is no divisor")
     (count, place), length, frame = counts[0], form["length"], int(form["frame"] or "0", 16)
     start = re.match(rf"(?:(?!{STORES}).*\n)*", form["start"]).group()
