@@ -2,7 +2,6 @@
 use mathlib.Core.Path.{sym}
 use native.Mathlib.Omega.{arith}
 use lib.Seq.{length-take-le}
-use borrow.Author.Rules.{rules}
 use Rattle.printing.proofs.Fitting.{written}
 use Rattle.trimmed_text.proofs.Held.{steady_held, next_within}
 use Rattle.rule_by_rule.proofs.Shown.{show_fitted}

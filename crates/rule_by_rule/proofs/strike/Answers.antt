@@ -2,8 +2,6 @@
 use mathlib.Core.Path.{sym, ◌∙◌}
 use native.Mathlib.Omega.{arith}
 use lib.Seq.{length-take-le}
-use borrow.Author.Rules.{rules}
-use borrow.Author.Tests.{not-true, not-false}
 use Rattle.printing.proofs.Fitting.{written}
 use Rattle.trimmed_text.proofs.Held.{steady_held, named_held, copies_held, small_part}
 use Rattle.rule_by_rule.proofs.Struck.{no_element, here, needed, strike_fitted}
