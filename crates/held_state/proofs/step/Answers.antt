@@ -1,6 +1,5 @@
 -- `step`: nothing changes where no rule is found, else the rule's line is closed up. Assumes nothing.
 use native.Mathlib.Omega.{arith}
-use borrow.Author.Rules.{rules}
 use Rattle.trimmed_text.proofs.Held.{places_room, steady_held, small_part}
 use Rattle.held_state.proofs.Stepping.{none_left, here, gap_lies, struck_so}
 use Rattle.held_state.proofs.step.Goals as goal
