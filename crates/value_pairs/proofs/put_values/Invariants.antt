@@ -1,9 +1,7 @@
 -- `put_values`: the lines of the requests so far. Assumes nothing.
 use Prim.Native.Nat.{◌+◌, ◌-◌, ◌≤◌}
-use native.Mathlib.Omega.{arith}
-use borrow.Author.Rules.{rules}
-use Rattle.printing.proofs.Walks.{Sofar, begun, stored, ended_all}
-use Rattle.value_pairs.specs.Lines.{pair_line, value_lines}
+use Rattle.printing.proofs.Walks.{Sofar}
+use Rattle.value_pairs.specs.Lines.{pair_line}
 use Rattle.value_pairs.proofs.put_values.Given as goal
 
 abbrev pub invariant-loop-k : goal.invariant-loop-k

@@ -1,6 +1,5 @@
 -- `put_kind` meets its contract: each arm stores its kind's letter.
 use Rattle.treelines.proofs.Words.{kind_put}
-use borrow.Author.Rules.{rules}
 use Rattle.treelines.proofs.fields.put_kind.Goals as goal
 
 pub returns-in-Set : goal.returns-in-Set

@@ -1,6 +1,5 @@
 -- `put_word` meets its contract: each arm stores its word.
 use Rattle.treelines.proofs.Words.{word_put}
-use borrow.Author.Rules.{rules}
 use Rattle.treelines.proofs.fields.put_word.Goals as goal
 
 pub returns-in-Permit : goal.returns-in-Permit
