@@ -202,6 +202,12 @@ def convert(lts, crate, folder, fpath, problems):
         if i == len(comps):
             return ("place", P)
         field = comps[i]
+        if field.startswith("enum_told"):
+            Q = P
+            while Q is not None and not fn.label[Q][1].startswith("in-"):
+                Q = fn.parent.get(Q)
+            if Q is not None:
+                return "c." + fn.label[Q][1] + ".is"
         # the step, here or above
         Q = P
         while Q is not None and norm(fn.label[Q][0]) != norm(field):

@@ -3,10 +3,11 @@
 
 One form is accepted. Moves; a test of the request's length, and a jump over the loop. The loop: a sum is divided once,
 with 32 bits, and stored; the jump back goes by the place, which starts as the length and is counted down by one. Moves,
-and the return. Nothing else jumps or is tested; only the place, the stack and the result make addresses; the length is
-loaded before anything is stored, and nothing is stored where the return goes by. Whatever is not of this form is
-refused, so that nobody has to know all that can compare. Says what was found; the status is 3 if the function is
-refused.
+and the return. As the toolchain tests a divisor against 0, the loop may begin with such a test, of what it then divides
+by, just loaded and never written else, with a jump to a trap behind the return. Nothing else jumps or is tested; only
+the place, the stack and the result make addresses; the length is loaded before anything is stored, and nothing is stored
+where the return goes by. Behind the loop the request's truth values may be packed into a word. Whatever is not of this form is refused, so that nobody has to know all that can compare. Says
+what was found; the status is 3 if the function is refused.
 """
 
 import re
@@ -16,12 +17,14 @@ import sys
 MOVE = r"(?:\w+: (?:mov|movzx|movups|movaps|movdqu|movdqa|lea|nop|endbr64)\b.*\n)"
 DIVIDE = r"(?:\w+: (?:add eax,.*|xor edx,edx|div (?:DWORD .*|e\w\w|r\d+d))\n)"
 COUNT = r"(?:\w+: (?:dec r\w+|sub r\w+,0x1)\n)"
+PACK = r"(?:\w+: (?:shl r\w+,0x\w+|movabs r\w+,0x\w+|(?:or|and) r\w+,r\w+)\n)"
+DIVISOR = r"(?P<load>\w+: mov (?P<divisor>e\w\w|r\d+d),DWORD PTR \[rsp\+r\w+\*8[+-]0x\w+\]\n)\w+: test (?P=divisor),(?P=divisor)\n\w+: je (?P<trap>\w+) .*\n"
 FORM = re.compile(
     rf"(?:\w+: sub rsp,(?P<frame>0x\w+)\n)?(?P<start>{MOVE}*)"
     rf"\w+: test (?P<length>r\w+),(?P=length)\n{MOVE}*\w+: je (?P<end>\w+) .*\n{MOVE}*"
-    rf"(?=(?P<again>\w+): )(?P<loop>(?:{MOVE}|{DIVIDE}|{COUNT})*"
+    rf"(?=(?P<again>\w+): )(?P<loop>(?:{DIVISOR})?(?:{MOVE}|{DIVIDE}|{COUNT})*"
     rf"(?:{COUNT}|\w+: test (?P<tested>r\w+),(?P=tested)\n)){MOVE}*\w+: jne (?P=again) .*\n"
-    rf"(?=(?P=end): ){MOVE}*(?(frame)\w+: add rsp,(?P=frame)\n)\w+: ret\n(?:\w+: (?:nop\b.*|xchg ax,ax)\n)*"
+    rf"(?=(?P=end): )(?:{MOVE}|{PACK})*(?(frame)\w+: add rsp,(?P=frame)\n)\w+: ret\n(?(trap)(?=(?P=trap): )\w+: ud2\n)(?:\w+: (?:nop\b.*|xchg ax,ax)\n)*"
 )
 STORES = r"\w+: (?!nop |div )\w+ \w+ PTR "
 STORE = re.compile(r"\w+: mov\w* (\w+) PTR \[(\w+)(?:\+(\w+)\*8)?([+-]0x\w+)?\],.*")
@@ -81,6 +84,11 @@ def look(code):
     counts = re.findall(r"((?:dec|sub) (r\w+).*)\n", form["loop"])
     if len(counts) != 1 or form["loop"].count(" div ") != 1:
         raise Refused("more than one count or division")
+    if form["trap"]:
+        divisor = next(r for r, parts in PARTS.items() if re.fullmatch(parts, form["divisor"]))
+        load = form["load"].split(": ")[1].strip()
+        if writes(form["loop"], divisor) != {load, f"div {form['divisor']}"}:
+            raise Refused("a test of what is no divisor")
     (count, place), length, frame = counts[0], form["length"], int(form["frame"] or "0", 16)
     start = re.match(rf"(?:(?!{STORES}).*\n)*", form["start"]).group()
     made = {count, f"mov {place},{length}"}
@@ -95,7 +103,8 @@ def look(code):
     for register in address_registers(code) - {length, place}:
         if not all(re.fullmatch(BASE, write) for write in writes(code, register)):
             raise Refused(f"{register} makes an address")
-    return f"{len(code.splitlines())} instructions, one division, two conditional jumps, both on the place"
+    tested = ", and a trap for a divisor of 0" if form["trap"] else ""
+    return f"{len(code.splitlines())} instructions, one division, two conditional jumps, both on the place{tested}"
 
 
 def main(file, function):

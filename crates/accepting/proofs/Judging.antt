@@ -73,13 +73,13 @@ module _ (f : Bytes) (places table : List ℕ) (s : Shape) (struck : List ℕ) w
   requests = first_from differs 0 s.space
 
   abbrev pub rules : Option ℕ
-  rules = first_from (table-level.needlessAt f places table s.n (hit_of s) s.space struck) 0 s.n
+  rules = first_from (table-level.needless_at f places table s.n (hit_of s) s.space struck) 0 s.n
 
   pub request_below : (m : ℕ) → requests ≡ some m → m < s.space
   request_below m e = omega (arith, (first_some differs 0 s.space m e).high)
 
   pub rule_below : (i : ℕ) → rules ≡ some i → i < s.n
-  rule_below i e = omega (arith, (first_some (table-level.needlessAt f places table s.n (hit_of s) s.space struck) 0 s.n i e).high)
+  rule_below i e = omega (arith, (first_some (table-level.needless_at f places table s.n (hit_of s) s.space struck) 0 s.n i e).high)
 
   -- where no request differs, the decisions laid down are those under the flags too
   pub same_laid : requests ≡ none → (outcomes : List ℕ) → OutcomesLaid table none_struck outcomes s → OutcomesLaid table struck outcomes s
@@ -141,7 +141,7 @@ module _ (f table places : List ℕ) (s : Shape) (held : PolicyHeld f table plac
       ∙ first_flag f p h flags left.stands_so
       ∙ ap (map (line_at p flags))
       (ap (first_from (needless_at p flags) 0) size
-      ∙ sym (first_alike (table-level.needlessAt f places table s.n (hit_of s) s.space flags) (needless_at p flags) 0 s.n (λ i l u. needless_is f p h table places s.n held.elements size (hit_of s) s.space held.hits_are held.space_is flags left.ready.stays i (omega arith))))
+      ∙ sym (first_alike (table-level.needless_at f places table s.n (hit_of s) s.space flags) (needless_at p flags) 0 s.n (λ i l u. needless_is f p h table places s.n held.elements size (hit_of s) s.space held.hits_are held.space_is flags left.ready.stays i (omega arith))))
 
   pub judged_so : judged_at f places table s flags ≡ accept_answer f g
   unfolding judged_at judged accept_file

@@ -1,5 +1,5 @@
 -- What is left of a text, read line by line under any tests of a line from 3 on.
-use mathlib.Core.Path.{◌≡◌, refl, sym, ap, ◌∙◌}
+use mathlib.Core.Path.{◌≡◌, refl, sym, ap, ap₂, ◌∙◌}
 use Prim.Native.Nat.{ℕ, zero, suc, ◌+◌, ◌≤◌, ◌<◌, zero-le}
 use native.Mathlib.Numerals.{add-one}
 use native.Mathlib.Omega.{arith}
@@ -61,7 +61,7 @@ module _ (tests : Sofar → Line → Tests) (f : Bytes) (at n : ℕ) (s : Sofar)
 
   one_line : end < length f → lines_from tests f at n s ≡ unless (refusal_by tests s fields) n (lines_from tests f (end + 1) (suc n) (extended s (line_of fields)))
   unfolding refusal_by
-  one_line l = rw (first_line f at end ends l, last_line f at end ends l)
+  one_line l = ap₂ (λ (rest : Bytes) (lines : List Bytes). read_lines tests rest n s lines) (last_line f at end ends l) (first_line f at end ends l)
 
   pub one_refused : end < length f → (refusal_by tests s fields ≡ 0 → ⊥) → lines_from tests f at n s ≡ refused (refusal_by tests s fields) n
   one_refused l h = one_line l ∙ go (refusal_by tests s fields) h _

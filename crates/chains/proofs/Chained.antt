@@ -102,7 +102,9 @@ module _ (hit : Element → Bool) (d : Decision) (t s : List ℕ) (n : ℕ) wher
       rw (x, equal (depth_of t i))
       (ap (λ g. g ∷ either (cond g (chain_below i m) (nones (left t s (i + 1) m))) (chain_from hit d (depth_of t i) (drop 1 bs) (left t s (i + 1) m))) given
       ∙ child_marks s i m gives (λ j. chained_in hit d t s n (word_of i) (suc (depth_of t i)) gives j (i + 1) m) (λ j. chained_in hit d t s n w (depth_of t i) (asks_next hit d t s n w b i) j (i + 1) m) _ _
-      (none_before hit d t s n (word_of i) (suc (depth_of t i)) gives i (i + 1) m (omega arith)) (none_before hit d t s n w (depth_of t i) (asks_next hit d t s n w b i) i (i + 1) m (omega arith)) (below_child i m gives asked-below later) behind)
+      (none_before hit d t s n (word_of i) (suc (depth_of t i)) gives i (i + 1) m (omega arith)) (none_before hit d t s n w (depth_of t i) (asks_next hit d t s n w b i) i (i + 1) m (omega arith)) (below_child i m gives asked-below later) behind
+      ∙ ap (λ ys. ((eqb i i && gives) || (chained_in hit d t s n (word_of i) (suc (depth_of t i)) gives i (i + 1) m || chained_in hit d t s n w (depth_of t i) (asks_next hit d t s n w b i) i (i + 1) m)) ∷ ys)
+      (marks_same s _ (λ j. chained_in hit d t s n w (depth_of t i) b j i (suc m)) (i + 1) m (λ j l. rw (x, equal (depth_of t i)))))
 
   chain_from_lem : (m i : ℕ) (w : Word) (k : ℕ) (b : Bool) (bs : List Bool) → i + m ≡ n → Fits d bs w b (child_replies hit k (left t s i m)) → Same w k b bs i m
   unfolding left chained_in element_at
@@ -110,13 +112,13 @@ module _ (hit : Element → Bool) (d : Decision) (t s : List ℕ) (n : ℕ) wher
   chain_from_lem (suc m) i w k b bs e fits = go (test (eqb (get_or s i 0) 0)) (compare (depth_of t i) k) refl (λ w k b bs. chain_from_lem m (i + 1) w k b bs (omega arith))
     where
       go : Test (eqb (get_or s i 0) 0) → (o : Ordering) → compare (depth_of t i) k ≡ o → Later (i + 1) m → Same w k b bs i (suc m)
-      go (failed x) o c later = rw x (later w k b bs (rw x at fits))
-      go (passed x) Ordering.lt c later = rw (x, c) (ap (λ ys. false ∷ ys) (sym (marks_none s t (λ j. false) (i + 1) m (λ j. refl))))
+      go (failed x) o c later = rw x (later w k b bs (rw x at fits) ∙ marks_same s _ (λ j. chained_in hit d t s n w k b j i (suc m)) (i + 1) m (λ j l. rw x))
+      go (passed x) Ordering.lt c later = rw (x, c) (ap (λ ys. false ∷ ys) (sym (marks_none s t (λ j. chained_in hit d t s n w k b j i (suc m)) (i + 1) m (λ j. rw (x, c)))))
       go (passed x) Ordering.eq c later =
           let depth : depth_of t i ≡ k = eqb-true (depth_of t i) k (ap compare_is_eq c) in
           subst (λ k. Same w k b bs i (suc m)) depth (chain_child m i w b bs e x later (subst (λ k. Fits d bs w b (child_replies hit k (left t s i (suc m)))) (sym depth) fits))
       go (passed x) Ordering.gt c later =
-          rw (x, c) (ap₂ (λ y ys. y ∷ ys) (sym (none_before hit d t s n w k b i (i + 1) m (omega arith))) (later w k b bs (rw (x, c) at fits)))
+          rw (x, c) (ap₂ (λ y ys. y ∷ ys) (sym (none_before hit d t s n w k b i (i + 1) m (omega arith))) (later w k b bs (rw (x, c) at fits) ∙ marks_same s _ (λ j. chained_in hit d t s n w k b j i (suc m)) (i + 1) m (λ j l. rw (x, c))))
 
 -- Of n elements, with the decision that the first gives
 module _ (hit : Element → Bool) (t s : List ℕ) (n : ℕ) where

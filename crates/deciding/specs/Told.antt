@@ -1,5 +1,5 @@
 -- What a request gets, for a lent buffer.
-use Rattle.std.specs.Prelude.{◌≡◌, ℕ, ◌+◌, ◌*◌, ◌≤◌, ◌<◌, List, length, replicate}
+use Rattle.std.specs.Prelude.{◌≡◌, ℕ, ◌≤◌, ◌<◌, List, length, replicate}
 use Rattle.meaning.specs.declared.Decided.{Decided}
 use Rattle.meaning.specs.Text.{Bytes}
 use Rattle.meaning.specs.Model.{Result, given, ◌then◌, fitted}

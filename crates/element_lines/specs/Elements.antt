@@ -3,7 +3,7 @@ use Rattle.std.specs.Prelude.{ℕ, ◌*◌, ◌≤◌, ◌<◌, ◌+◌, ◌≡�
 use Rattle.meaning.specs.declared.Kind.{Kind}
 use Rattle.meaning.specs.declared.Element.{Element}
 use Rattle.meaning.specs.Text.{Bytes, empty, is_none, among_names}
-use Rattle.meaning.specs.Model.{Attribute, name_of, space}
+use Rattle.meaning.specs.Model.{Attribute, name_of}
 use Rattle.meaning.specs.Reading.{word_of, element_of, Sofar, well_placed, Tests, bad_name, bad_unused, depth_of}
 use Rattle.table.specs.Rows.{Rows}
 use Rattle.layout.specs.declared.Attributes.{Attributes}

@@ -19,12 +19,13 @@ pub use prog.Memory.{Memory}
 pub use prog.Routine.{Routine}
 pub use prog.Wp.{Heap, Out, Env, after_seq, after_block, Calls, Loops, Wp, at_return, WpFn, Tables}
 unfoldable pub use prog.Wp.{after_turn}
-pub use ghost.Atoms.{Atoms, sem}
+pub use ghost.Atoms.{Atoms}
+pub use types.Logic.{sem}
 pub use contract.Lifetimes.{Lfts}
 pub use contract.Monad.{Fun, fact}
-pub use contract.Running.{given_of, tables}
+pub use contract.Running.{tables}
 unfoldable pub use contract.Running.{tables_of}
-pub use types.Kit.{Given, Item, Goal, Seq, Sq, Soaks, mean, ‵, raw, ◌⊛◌, given, ⋆, some, later, runs, lands, any_q, at_ret, ◌$◌, ◌∵◌, !, qed, by, move, drop, use1, use2, split, join, learn, rewrite, pick, fsplit, fjoin, suffices, frame, await, done}
+pub use types.Kit.{Item, Goal, Seq, Sq, Soaks, mean, ‵, raw, ◌⊛◌, given, ⋆, some, later, runs, lands, any_q, at_ret, ◌$◌, ◌∵◌, !, qed, by, move, drop, use1, use2, split, join, learn, rewrite, pick, fsplit, fjoin, suffices, frame, await, done}
 pub use types.Part.{agg, whole, sub, look_in}
 pub use types.Run.{look, store, init, forget, stop, fld, from, load, lit, of_opd, and_then, no_more, bin, assigns, assigns_last, land, first, skips, jumps, blocks, branches, returns, enter, alloc1, alloc0, params1, pass1, pass0, free1, free0, exec, Below, again, loops}
 pub use sound.WpLaws.{FmC, fm_of, WpFn-mono}

@@ -1,6 +1,5 @@
 // Fields taken from a line from left to right: a reader holds the line's slice and a place.
-// The borrow checker covers no function over such a struct, so `start`, `current`, `advance` and `field` are proved by hand. They are thin:
-// the work is in `field_at` and `place_after`, covered functions on a slice and a number, over the cursor `text::end_of`.
+// `start`, `current`, `advance` and `field` are thin: the work is in `field_at` and `place_after`, functions on a slice and a number, over the cursor `text::end_of`.
 #![tactic(auto)]
 
 ghost use Rattle.std.specs.Prelude.{◌≡◌, [], get_or};
@@ -57,7 +56,7 @@ pub fn advance<'a>(r: Fields<'a>) -> Fields<'a>
     Fields { line: r.line, at }
 }
 
-// Field k of a line, or an empty text where it has fewer. Its parameters are plain, so whoever calls it needs no proof by hand.
+// Field k of a line, or an empty text where it has fewer.
 pub fn field(line: &[u8], k: usize) -> &[u8]
     ensures { result.now ≡ get_or (cut tab line.now) k [] }
 {

@@ -18,8 +18,7 @@ fn refused(answer: Answer) -> Decided
 }
 
 // What a policy file decides on a request line, and in a lent buffer the obligations that come with it.
-#[unsafe(no_mangle)]
-pub extern "C" fn jogimaduve_decide(file: &[u8], request: &[u8], out: &mut [u8]) -> Decided
+pub fn jogimaduve_decide(file: &[u8], request: &[u8], out: &mut [u8]) -> Decided
     ensures value { result ≡ decide_answer file.now request.now out.old }
     ensures out_after { out.new ≡ decide_lent file.now request.now out.old }
 {
@@ -43,8 +42,7 @@ pub extern "C" fn jogimaduve_decide(file: &[u8], request: &[u8], out: &mut [u8])
 }
 
 // The trimmed text of a policy file, in a lent buffer.
-#[unsafe(no_mangle)]
-pub extern "C" fn jogimaduve_trim(file: &[u8], out: &mut [u8]) -> Answer
+pub fn jogimaduve_trim(file: &[u8], out: &mut [u8]) -> Answer
     ensures value { result ≡ trim_answer file.now out.old }
     ensures out_after { out.new ≡ trim_lent file.now out.old }
 {
@@ -67,8 +65,7 @@ pub extern "C" fn jogimaduve_trim(file: &[u8], out: &mut [u8]) -> Answer
 }
 
 // The name of the rule that trimming a policy file would strike next, in a lent buffer.
-#[unsafe(no_mangle)]
-pub extern "C" fn jogimaduve_next_rule(file: &[u8], out: &mut [u8]) -> Answer
+pub fn jogimaduve_next_rule(file: &[u8], out: &mut [u8]) -> Answer
     ensures value { result ≡ next_rule_answer file.now out.old }
     ensures out_after { out.new ≡ next_rule_lent file.now out.old }
 {
@@ -82,8 +79,7 @@ pub extern "C" fn jogimaduve_next_rule(file: &[u8], out: &mut [u8]) -> Answer
 }
 
 // A policy file without the line of a needless rule, which is given by its name, in a lent buffer.
-#[unsafe(no_mangle)]
-pub extern "C" fn jogimaduve_strike(file: &[u8], rule: &[u8], out: &mut [u8]) -> Answer
+pub fn jogimaduve_strike(file: &[u8], rule: &[u8], out: &mut [u8]) -> Answer
     ensures value { result ≡ strike_answer file.now rule.now out.old }
     ensures out_after { out.new ≡ strike_lent file.now rule.now out.old }
 {
@@ -98,8 +94,7 @@ pub extern "C" fn jogimaduve_strike(file: &[u8], rule: &[u8], out: &mut [u8]) ->
 }
 
 // Strikes, in place, the rule that trimming a policy file would strike next.
-#[unsafe(no_mangle)]
-pub extern "C" fn jogimaduve_step(text: &mut [u8]) -> Stepped
+pub fn jogimaduve_step(text: &mut [u8]) -> Stepped
     ensures value { result ≡ step_answer text.old }
     ensures text_after { text.new ≡ step_lent text.old }
 {
@@ -118,8 +113,7 @@ pub extern "C" fn jogimaduve_step(text: &mut [u8]) -> Stepped
 }
 
 // Whether a proposal for the trimmed policy of a policy file, the original, is sound.
-#[unsafe(no_mangle)]
-pub extern "C" fn jogimaduve_accept(original: &[u8], proposal: &[u8]) -> Answer
+pub fn jogimaduve_accept(original: &[u8], proposal: &[u8]) -> Answer
     ensures { result ≡ accept_answer original.now proposal.now }
 {
     let mut table = [0u16; 512];
@@ -133,13 +127,7 @@ pub extern "C" fn jogimaduve_accept(original: &[u8], proposal: &[u8]) -> Answer
 }
 
 // Two policy files joined as the two children of a set with this algorithm word, in a lent buffer.
-#[unsafe(no_mangle)]
-pub extern "C" fn jogimaduve_join(
-    first: &[u8],
-    second: &[u8],
-    word: &[u8],
-    out: &mut [u8],
-) -> Answer
+pub fn jogimaduve_join(first: &[u8], second: &[u8], word: &[u8], out: &mut [u8]) -> Answer
     ensures value { result ≡ join_answer first.now second.now word.now out.old }
     ensures out_after { out.new ≡ join_lent first.now second.now word.now out.old }
 {
@@ -154,8 +142,7 @@ pub extern "C" fn jogimaduve_join(
 }
 
 // The report of a policy file, in a lent buffer.
-#[unsafe(no_mangle)]
-pub extern "C" fn jogimaduve_report(file: &[u8], out: &mut [u8]) -> Answer
+pub fn jogimaduve_report(file: &[u8], out: &mut [u8]) -> Answer
     ensures value { result ≡ report_answer file.now out.old }
     ensures out_after { out.new ≡ report_lent file.now out.old }
 {
@@ -169,8 +156,7 @@ pub extern "C" fn jogimaduve_report(file: &[u8], out: &mut [u8]) -> Answer
 }
 
 // The pairs of values of an `M` attribute that get another decision than one of the two alone, in a lent buffer.
-#[unsafe(no_mangle)]
-pub extern "C" fn jogimaduve_value_pairs(file: &[u8], attribute: &[u8], out: &mut [u8]) -> Answer
+pub fn jogimaduve_value_pairs(file: &[u8], attribute: &[u8], out: &mut [u8]) -> Answer
     ensures value { result ≡ value_pairs_answer file.now attribute.now out.old }
     ensures out_after { out.new ≡ value_pairs_lent file.now attribute.now out.old }
 {

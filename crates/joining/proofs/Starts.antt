@@ -96,5 +96,5 @@ joinable f a from held =
         ended = subst (λ n. Ended (drop n f)) (sym held.starts) lines_from.ended;
         fitting = subst (All Fits) (ap (λ n. drop n (file_lines f)) count ∙ sym behind) (other_lines_lem f p held.is_read);
       };
-      other_lines_lem = behind;
+      other_lines = behind;
     }

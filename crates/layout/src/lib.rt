@@ -7,7 +7,7 @@ ghost use Rattle.meaning.specs.declared.Element.{Element};
 ghost use Rattle.meaning.specs.Text.{last_below, same_name, among_names};
 ghost use Rattle.meaning.specs.Model.{choices_of, obligation_name};
 ghost use Rattle.meaning.specs.Reading.{well_placed};
-ghost use Rattle.meaning.specs.Joining.{declared, place_in};
+ghost use Rattle.meaning.specs.Joining.{place_in};
 ghost use Rattle.table.specs.Rows.{Rows, with_row};
 ghost use Rattle.table.specs.Tree.{place_or};
 ghost use Rattle.layout.specs.Places.{part, attribute_at, attributes_of, Standing, AllStanding, FewValues, sizes_of, no_attributes, added, name_in, names_to, has_name, Named, NameAt, obligation_place, obligation_start, obligation_end, obligations_in, obligation_count, Obliged};
@@ -118,7 +118,7 @@ pub fn attribute_named(file: &[u8], a: Attributes, name: &[u8]) -> usize
 // Whether an attribute has this name.
 pub fn known_attribute(file: &[u8], a: Attributes, name: &[u8]) -> bool
     requires { AllStanding file.now a }
-    ensures { result ≡ declared (attributes_of file.now a) name.now }
+    ensures { result ≡ among_names name.now (map (λ b. b.name) (attributes_of file.now a)) }
 {
     attribute_named(file, a, name) < a.len
 }

@@ -9,8 +9,8 @@ use lib.Dec.{eqb}
 use lib.ListN.{length, take, drop, get_or, length-take, length-append}
 use lib.Seq.{take-append_seam, take_at}
 use borrow.Author.Tests.{eq-eqb, ne_eqb, eqb-true}
-use Rattle.meaning.specs.Text.{Bytes, same, newline, line}
-use Rattle.meaning.specs.Model.{obligation_name, word_text, decision_text}
+use Rattle.meaning.specs.Text.{Bytes, same, newline}
+use Rattle.meaning.specs.Model.{word_text, decision_text}
 use Rattle.laws.proofs.Types.{Word, Decision, not_applicable, indeterminate, Obligation, Element}
 use Rattle.laws.proofs.Bools.{Test, passed, failed, test, contradiction, or_false}
 use Rattle.blocks.specs.Bits.{Answers}

@@ -47,7 +47,7 @@ module _ (f table places : List ℕ) (s : Shape) (held : PolicyHeld f table plac
   size = sizes f table places s held
 
   -- whether element i is needless, by the table and by the policy
-  by_table : (i : ℕ) → i < s.n → table-level.needlessAt f places table s.n (hit_of s) s.space none_struck i ≡ needless_at p none_struck i
+  by_table : (i : ℕ) → i < s.n → table-level.needless_at f places table s.n (hit_of s) s.space none_struck i ≡ needless_at p none_struck i
   by_table i l = needless_is f p h table places s.n held.elements size (hit_of s) s.space held.hits_are held.space_is none_struck refl i l
 
   -- its name on its line, in the policy and in the file
@@ -98,7 +98,7 @@ module _ (f table places : List ℕ) (s : Shape) (held : PolicyHeld f table plac
           go (some j) e = let x = last_some (has_name f places name) s.n j e in rw (is ∙ ap (place_or s.n) e) (x.below, x.holds)
 
       -- it is not needless
-      pub needed : table-level.needlessAt f places table s.n (hit_of s) s.space none_struck i ≡ false → (out : Bytes) → (record { number = 15; second = 0 } ≡ strike_answer f name out) × (out ≡ strike_lent f name out)
+      pub needed : table-level.needless_at f places table s.n (hit_of s) s.space none_struck i ≡ false → (out : Bytes) → (record { number = 15; second = 0 } ≡ strike_answer f name out) × (out ≡ strike_lent f name out)
       needed not out = none_struck_so out (λ r. go (rule_found r))
         where
           go : Found → ⊥
@@ -107,7 +107,7 @@ module _ (f table places : List ℕ) (s : Shape) (held : PolicyHeld f table plac
               contradiction x.is_needless (ap (needless_at p none_struck) one ∙ sym (by_table i here.0) ∙ not)
 
       -- it is
-      module _ (needless : table-level.needlessAt f places table s.n (hit_of s) s.space none_struck i ≡ true) where
+      module _ (needless : table-level.needless_at f places table s.n (hit_of s) s.space none_struck i ≡ true) where
         abbrev rule : needless_at p none_struck i ≡ true
         rule = sym (by_table i here.0) ∙ needless
 

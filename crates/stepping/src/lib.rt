@@ -15,8 +15,7 @@ pub struct Counts {
 }
 
 // The next request in number order, the first one behind the last.
-#[unsafe(no_mangle)]
-pub extern "C" fn next_request(q: Request, counts: Counts) -> Request
+pub fn next_request(q: Request, counts: Counts) -> Request
     requires { Fitting counts.counts q }
     ensures { result ≡ revalued q (next_request (take q.len counts.counts) (values_of q)) }
 {

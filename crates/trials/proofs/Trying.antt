@@ -149,4 +149,4 @@ tested f places t s i same is answered = ap (λ flags. needless_at f places t s.
 
 -- The places have room for the obligations of all elements
 pub obligation_room : {f : Bytes} {places t struck : List ℕ} {s : Shape} → Steady f places t s → PolicyTable t struck s → 128 + 4 * s.n ≤ length places
-obligation_room steady ready = differences.obligation-room steady.obliged ready
+obligation_room steady ready = differences.obligation_room steady.obliged ready

@@ -61,9 +61,9 @@ module _ (f table places : List ℕ) (s : Shape) (held : PolicyHeld f table plac
   found = table-level.next_at f places table s.n (hit_of s) s.space none_struck
 
   -- it is one of the elements, and needless
-  pub found_needless : (i : ℕ) → found ≡ some i → (i < s.n) × (table-level.needlessAt f places table s.n (hit_of s) s.space none_struck i ≡ true)
+  pub found_needless : (i : ℕ) → found ≡ some i → (i < s.n) × (table-level.needless_at f places table s.n (hit_of s) s.space none_struck i ≡ true)
   unfolding table-level.next_at
-  found_needless i e = let x = last_some (table-level.needlessAt f places table s.n (hit_of s) s.space none_struck) s.n i e in (x.below, x.holds)
+  found_needless i e = let x = last_some (table-level.needless_at f places table s.n (hit_of s) s.space none_struck) s.n i e in (x.below, x.holds)
 
   pub next_within : (next : ℕ) → next ≡ place_or s.n found → next ≤ s.n
   next_within next is = go found refl

@@ -54,25 +54,25 @@ module _ (f : Bytes) (p : Policy) (h : read f ≡ given p) (table places : List 
   first_stays struck i kept live = get_or-set_other struck i 0 1 0 (λ first. behind_first struck i kept (sym first)) ∙ live
 
   -- the first request that gets something else without it
-  change_is : (struck : List ℕ) → get_or struck 0 0 ≡ 0 → (i m : ℕ) → kept_at p struck i ≡ true → table-level.changesAt f places table n hit struck i m ≡ changes_at p struck i m
-  unfolding table-level.changesAt changes_at
+  change_is : (struck : List ℕ) → get_or struck 0 0 ≡ 0 → (i m : ℕ) → kept_at p struck i ≡ true → table-level.changes_at f places table n hit struck i m ≡ changes_at p struck i m
+  unfolding table-level.changes_at changes_at
   change_is struck live i m kept = ap₂ (λ a b. not (same_outcome a b)) (outcome_is struck live m) (outcome_is (set struck i 1) (first_stays struck i kept live) m)
 
-  pub first_change_is : (struck : List ℕ) → get_or struck 0 0 ≡ 0 → (i : ℕ) → kept_at p struck i ≡ true → table-level.firstChangeAt f places table n hit space struck i ≡ first_change_at p struck i
-  unfolding table-level.firstChangeAt first_change_at
+  pub first_change_is : (struck : List ℕ) → get_or struck 0 0 ≡ 0 → (i : ℕ) → kept_at p struck i ≡ true → table-level.first_change_at f places table n hit space struck i ≡ first_change_at p struck i
+  unfolding table-level.first_change_at first_change_at
   first_change_is struck live i kept = λ j. first_from (λ m. change_is struck live i m kept j) 0 (space_is j)
 
-  pub needless_is : (struck : List ℕ) → get_or struck 0 0 ≡ 0 → (i : ℕ) → i < n → table-level.needlessAt f places table n hit space struck i ≡ needless_at p struck i
-  unfolding table-level.needlessAt needless_at
-  needless_is struck live i l = ap (λ b. b && is_none (table-level.firstChangeAt f places table n hit space struck i)) (rule_is struck i l) ∙ go (test (kept_at p struck i))
+  pub needless_is : (struck : List ℕ) → get_or struck 0 0 ≡ 0 → (i : ℕ) → i < n → table-level.needless_at f places table n hit space struck i ≡ needless_at p struck i
+  unfolding table-level.needless_at needless_at
+  needless_is struck live i l = ap (λ b. b && is_none (table-level.first_change_at f places table n hit space struck i)) (rule_is struck i l) ∙ go (test (kept_at p struck i))
     where
-      go : Test (kept_at p struck i) → (kept_at p struck i && is_none (table-level.firstChangeAt f places table n hit space struck i)) ≡ (kept_at p struck i && is_none (first_change_at p struck i))
+      go : Test (kept_at p struck i) → (kept_at p struck i && is_none (table-level.first_change_at f places table n hit space struck i)) ≡ (kept_at p struck i && is_none (first_change_at p struck i))
       go (passed e) = ap (λ o. kept_at p struck i && is_none o) (first_change_is struck live i e)
       go (failed e) = rw e
 
   pub next_is : (struck : List ℕ) → get_or struck 0 0 ≡ 0 → table-level.next_at f places table n hit space struck ≡ next_at p struck
   unfolding table-level.next_at next_at
-  next_is struck live = last_alike (table-level.needlessAt f places table n hit space struck) (needless_at p struck) n (needless_is struck live) ∙ ap (last_below (needless_at p struck)) (sym size)
+  next_is struck live = last_alike (table-level.needless_at f places table n hit space struck) (needless_at p struck) n (needless_is struck live) ∙ ap (last_below (needless_at p struck)) (sym size)
 
   -- the same flags at the end, and the same places struck
   pub trimming_is : (k : ℕ) (struck : List ℕ) → get_or struck 0 0 ≡ 0 → table-level.trimmingAt f places table n hit space k struck ≡ trimming_at k p struck

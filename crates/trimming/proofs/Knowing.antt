@@ -18,7 +18,7 @@ use Rattle.table.specs.declared.Shape.{Shape}
 use Rattle.table.specs.Shape.{hit_of}
 use Rattle.matching.specs.Hits.{bit_of}
 use Rattle.obligations.specs.Given.{outcome_left}
-use Rattle.trimming.specs.Decided.{changesAt, firstChangeAt, needlessAt}
+use Rattle.trimming.specs.Decided.{changes_at, first_change_at, needless_at}
 use Rattle.trials.specs.Trial.{Laid}
 use Rattle.trimming.specs.Known.{IsSet, Known, Forgets}
 use Rattle.trials.proofs.Trying.{one_shown, ready_set, set_back, rule_flag, rule_word, aside}
@@ -29,14 +29,14 @@ module _ (f : Bytes) (places t : List ℕ) (s : Shape) where
   Knows = Known f places t s
 
   abbrev changes : List ℕ → ℕ → ℕ → Bool
-  changes = changesAt f places t s.n (hit_of s)
+  changes = changes_at f places t s.n (hit_of s)
 
   -- a rule that is known is not needless
-  pub known_needed : (struck hints known : List ℕ) → Knows struck hints known → (i : ℕ) → i < s.n → IsSet known i → needlessAt f places t s.n (hit_of s) s.space struck i ≡ false
-  unfolding needlessAt firstChangeAt
+  pub known_needed : (struck hints known : List ℕ) → Knows struck hints known → (i : ℕ) → i < s.n → IsSet known i → needless_at f places t s.n (hit_of s) s.space struck i ≡ false
+  unfolding needless_at first_change_at
   known_needed struck hints known knows i l is_set = go (test (rule_left t struck i))
     where
-      go : Test (rule_left t struck i) → needlessAt f places t s.n (hit_of s) s.space struck i ≡ false
+      go : Test (rule_left t struck i) → needless_at f places t s.n (hit_of s) s.space struck i ≡ false
       go (failed x) = rw x
       go (passed x) = let shown = knows i l is_set in rw x (one_shown (changes struck i) s.space (get_or hints i 0) shown.0 (shown.1 x))
 
@@ -52,7 +52,7 @@ module _ (f : Bytes) (places t : List ℕ) (s : Shape) where
           rw (get_or-set_other hints i j shown 0 other) (knows j l (λ none. is_set (get_or-set_other known i j 1 0 other ∙ none)))
 
   -- A needless rule x is struck: what is known by requests that do not match it is still known
-  module _ (struck hits outcomes : List ℕ) (x : ℕ) (inside : x < s.n) (needless : needlessAt f places t s.n (hit_of s) s.space struck x ≡ true) (laid : Laid f places t struck hits outcomes s) where
+  module _ (struck hits outcomes : List ℕ) (x : ℕ) (inside : x < s.n) (needless : needless_at f places t s.n (hit_of s) s.space struck x ≡ true) (laid : Laid f places t struck hits outcomes s) where
     abbrev after : List ℕ
     after = set struck x 1
 
@@ -81,7 +81,7 @@ module _ (f : Bytes) (places t : List ℕ) (s : Shape) where
         ap (λ flags. outcome_left (hit_of s m) f t places flags s.n) (sym back) ∙ same ∙ ap (λ flags. outcome_left (hit_of s m) f t places flags s.n) swap
 
     pub known_next : (hints known left : List ℕ) → Knows struck hints known → Forgets hits s.n x hints known left → Knows after hints left
-    unfolding changesAt
+    unfolding changes_at
     known_next hints known left knows forgets i l is_set =
         let (was, off-bit) = forgets.still i l is_set in
         let (fits, shows) = knows i l was in

@@ -20,7 +20,7 @@ use Rattle.table.specs.declared.Shape.{Shape}
 use Rattle.table.specs.Shape.{hit_of}
 use Rattle.outcomes.specs.Decided.{decided_at}
 use Rattle.obligations.specs.Given.{outcome_left}
-use Rattle.trimming.specs.Decided.{changesAt, firstChangeAt, needlessAt, next_at, trimming_at}
+use Rattle.trimming.specs.Decided.{changes_at, first_change_at, needless_at, next_at, trimming_at}
 use Rattle.trials.specs.Trial.{Laid}
 use Rattle.trimming.specs.Trims.{Trims}
 use Rattle.trials.proofs.Trying.{ready_set, rule_word}
@@ -34,7 +34,7 @@ module _ (f : Bytes) (places t : List ℕ) (n : ℕ) (hit : ℕ → Element → 
   pub record Next (i : ℕ) : Type 0 where
     pub found : next_at f places t n hit space struck ≡ some i
     pub below : i < n
-    pub needless : needlessAt f places t n hit space struck i ≡ true
+    pub needless : needless_at f places t n hit space struck i ≡ true
 
   pub next_found : (i : ℕ) → i ≡ place_or n (next_at f places t n hit space struck) → (i ≡ n → ⊥) → Next i
   unfolding next_at
@@ -44,7 +44,7 @@ module _ (f : Bytes) (places t : List ℕ) (n : ℕ) (hit : ℕ → Element → 
       go none e = absurd (inside (is ∙ ap (place_or n) e))
       go (some j) e =
           let at : i ≡ j = is ∙ ap (place_or n) e in
-          let last = last_some (needlessAt f places t n hit space struck) n j e in
+          let last = last_some (needless_at f places t n hit space struck) n j e in
           rw at record { found = e; below = last.below; needless = last.holds }
 
   pub next_none : (i : ℕ) → i ≡ place_or n (next_at f places t n hit space struck) → i ≡ n → next_at f places t n hit space struck ≡ none
@@ -55,7 +55,7 @@ module _ (f : Bytes) (places t : List ℕ) (n : ℕ) (hit : ℕ → Element → 
       go none e = e
       go (some j) e =
           let at : i ≡ j = is ∙ ap (place_or n) e in
-          let no : ⊥ = omega (arith, (last_some (needlessAt f places t n hit space struck) n j e).below) in
+          let no : ⊥ = omega (arith, (last_some (needless_at f places t n hit space struck) n j e).below) in
           absurd no
 
   -- nothing is struck where no rule is needless
@@ -65,16 +65,16 @@ module _ (f : Bytes) (places t : List ℕ) (n : ℕ) (hit : ℕ → Element → 
   trimming_stops (suc fuel) e = rw e
 
 -- A needless rule struck: what was asked of the flags holds again, for every request gets the same
-module _ (f : Bytes) (places t struck : List ℕ) (s : Shape) (i : ℕ) (needless : needlessAt f places t s.n (hit_of s) s.space struck i ≡ true) where
-  pub needless_both : (rule_left t struck i ≡ true) × (is_none (firstChangeAt f places t s.n (hit_of s) s.space struck i) ≡ true)
-  unfolding needlessAt
-  needless_both = and_true (rule_left t struck i) (is_none (firstChangeAt f places t s.n (hit_of s) s.space struck i)) needless
+module _ (f : Bytes) (places t struck : List ℕ) (s : Shape) (i : ℕ) (needless : needless_at f places t s.n (hit_of s) s.space struck i ≡ true) where
+  pub needless_both : (rule_left t struck i ≡ true) × (is_none (first_change_at f places t s.n (hit_of s) s.space struck i) ≡ true)
+  unfolding needless_at
+  needless_both = and_true (rule_left t struck i) (is_none (first_change_at f places t s.n (hit_of s) s.space struck i)) needless
 
   pub outcome_same : (m : ℕ) → m < s.space → outcome_left (hit_of s m) f t places struck s.n ≡ outcome_left (hit_of s m) f t places (set struck i 1) s.n
-  unfolding firstChangeAt changesAt
+  unfolding first_change_at changes_at
   outcome_same m l =
-      let nowhere = none_of (firstChangeAt f places t s.n (hit_of s) s.space struck i) needless_both.1 in
-      let unchanged = first_none (changesAt f places t s.n (hit_of s) struck i) 0 s.space nowhere m zero-le (omega arith) in
+      let nowhere = none_of (first_change_at f places t s.n (hit_of s) s.space struck i) needless_both.1 in
+      let unchanged = first_none (changes_at f places t s.n (hit_of s) struck i) 0 s.space nowhere m zero-le (omega arith) in
       same_outcome_lem _ _ (not-false _ unchanged)
 
   pub laid_next : (hits outcomes : List ℕ) → Laid f places t struck hits outcomes s → Laid f places t (set struck i 1) hits outcomes s

@@ -3,7 +3,7 @@ use Rattle.std.specs.Prelude.{ℕ, zero, suc, Bool, List, [], ◌∷◌, set}
 use Rattle.std.proofs.Math.Option.{Option, none, some}
 use Rattle.meaning.specs.Text.{Bytes, last_below}
 use Rattle.meaning.specs.declared.Element.{Element}
-unfoldable pub use Rattle.trials.specs.Decided.{changesAt, firstChangeAt, shownAt, needlessAt}
+unfoldable pub use Rattle.trials.specs.Decided.{changes_at, first_change_at, shown_at, needless_at}
 
 -- the flags at the end, and the places struck in order
 pub record Struck : Type 0 where
@@ -21,7 +21,7 @@ onward (some i) struck next = struck_first i (next i)
 module _ (f : Bytes) (places t : List ℕ) (n : ℕ) (hit : ℕ → Element → Bool) (space : ℕ) where
   -- the next rule to strike: the last needless one
   unfoldable pub next_at : List ℕ → Option ℕ
-  next_at struck = last_below (needlessAt f places t n hit space struck) n
+  next_at struck = last_below (needless_at f places t n hit space struck) n
 
   -- while there is one, the next rule is struck
   unfoldable pub trimming_at : ℕ → List ℕ → Struck

@@ -5,7 +5,7 @@ use Rattle.table.specs.Tree.{rule_left}
 use Rattle.table.specs.declared.Shape.{Shape}
 use Rattle.table.specs.Shape.{hit_of}
 use Rattle.matching.specs.Hits.{bit_of}
-use Rattle.trimming.specs.Decided.{changesAt}
+use Rattle.trimming.specs.Decided.{changes_at}
 
 -- a flag that is set
 abbrev pub IsSet : List ℕ → ℕ → Type 0
@@ -19,7 +19,7 @@ HintsFit n hints known = (i : ℕ) → i < n → IsSet known i → get_or hints 
 abbrev pub Known : Bytes → (places t : List ℕ) → Shape → (struck hints known : List ℕ) → Type 0
 Known f places t s struck hints known =
     (i : ℕ) → i < s.n → IsSet known i
-    → (get_or hints i 0 < s.space) × (rule_left t struck i ≡ true → changesAt f places t s.n (hit_of s) struck i (get_or hints i 0) ≡ true)
+    → (get_or hints i 0 < s.space) × (rule_left t struck i ≡ true → changes_at f places t s.n (hit_of s) struck i (get_or hints i 0) ≡ true)
 
 -- what is still known was known, by a request that does not match the rule
 pub record Forgets (hits : List ℕ) (n rule : ℕ) (hints known after : List ℕ) : Type 0 where

@@ -14,7 +14,7 @@ use borrow.Author.Tests.{ne_eqb}
 use Rattle.meaning.specs.declared.Decision.{Decision}
 use Rattle.meaning.specs.Text.{Bytes, gathered, counting, line}
 use Rattle.meaning.specs.Model.{Policy, sizes, product, space}
-use Rattle.meaning.specs.Deciding.{Request, number_of, request_of, requests, members, decision_number, is, decision_on}
+use Rattle.meaning.specs.Deciding.{number_of, request_of, requests, members, decision_number, is, decision_on}
 use Rattle.meaning.specs.ValuePairs.{ValuePair, differs, alone, of_two, pair_on, value_pairs, pair_fields, pairs_text}
 use Rattle.laws.proofs.Lists.{gathered_alike, gathered_keep, gathered_twice}
 use Rattle.laws.proofs.Search.{counting_only}

@@ -6,7 +6,6 @@ use mathlib.Core.Bool.{true, false, not}
 use mathlib.Core.List.{[]}
 use native.Mathlib.Nat.{mul-le-mul_right}
 use native.Mathlib.Omega.{arith}
-use borrow.Author.Rules.{rules}
 use borrow.Author.Tests.{not-true, not-false}
 use lib.ListN.{drop, get_or}
 use Rattle.meaning.specs.Text.{all, among_names, repeated, cut, tab, is_name}

@@ -3,7 +3,6 @@ use mathlib.Core.Path.{ap, ◌∙◌}
 use native.Mathlib.Omega.{arith}
 use borrow.Author.Tests.{lt-ltb, le-ltb}
 use Rattle.syntax.specs.Fields.{line_kind}
-use borrow.Author.Rules.{rules}
 use Rattle.attribute_lines.proofs.shape_of.Goals as goal
 
 pub returns-then-fields-lt3 : goal.returns-then-fields-lt3

@@ -1,5 +1,4 @@
 -- `start` meets its contract: it has no attribute.
-use borrow.Author.Rules.{rules}
 use Rattle.attribute_lines.proofs.start.Goals as goal
 
 pub returns : goal.returns

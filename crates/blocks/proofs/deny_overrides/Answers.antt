@@ -1,6 +1,5 @@
 -- `deny_overrides`: bit by bit. Assumes nothing.
 use Rattle.blocks.proofs.Words.{deny_words}
-use borrow.Author.Rules.{rules}
 use Rattle.blocks.proofs.deny_overrides.Goals as goal
 
 pub returns : goal.returns

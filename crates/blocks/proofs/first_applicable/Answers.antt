@@ -1,6 +1,5 @@
 -- `first_applicable`: bit by bit. Assumes nothing.
 use Rattle.blocks.proofs.Words.{first_words}
-use borrow.Author.Rules.{rules}
 use Rattle.blocks.proofs.first_applicable.Goals as goal
 
 pub returns : goal.returns

@@ -1,7 +1,6 @@
 -- `next`: by the algorithm. Assumes nothing.
 use native.Mathlib.Omega.{arith}
 use Rattle.decisions.proofs.Combining.{only_one_lem}
-use borrow.Author.Rules.{rules}
 use Rattle.blocks.proofs.next.Goals as goal
 
 pub returns-then-algorithm-eq0 : goal.returns-then-algorithm-eq0

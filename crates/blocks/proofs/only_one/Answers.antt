@@ -1,6 +1,5 @@
 -- `only_one`: bit by bit. Assumes nothing.
 use Rattle.blocks.proofs.Words.{only_one_words}
-use borrow.Author.Rules.{rules}
 use Rattle.blocks.proofs.only_one.Goals as goal
 
 pub returns : goal.returns

@@ -1,6 +1,5 @@
 -- `permit_overrides`: bit by bit. Assumes nothing.
 use Rattle.blocks.proofs.Words.{permit_words}
-use borrow.Author.Rules.{rules}
 use Rattle.blocks.proofs.permit_overrides.Goals as goal
 
 pub returns : goal.returns

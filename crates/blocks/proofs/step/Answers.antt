@@ -1,6 +1,5 @@
 -- `step`: the decisions, and whether one of the two matches. Assumes nothing.
 use Rattle.laws.proofs.Bits.{bit_or_lem}
-use borrow.Author.Rules.{rules}
 use Rattle.blocks.proofs.step.Goals as goal
 
 pub returns : goal.returns

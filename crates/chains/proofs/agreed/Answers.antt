@@ -1,5 +1,4 @@
 -- `agreed`: bit by bit. Assumes nothing.
-use borrow.Author.Rules.{rules}
 use Rattle.chains.proofs.Words.{alike_words}
 use Rattle.chains.proofs.agreed.Goals as goal
 

@@ -1,10 +1,9 @@
 -- `ask_all`: the words are 0 before the first element is asked. Assumes nothing.
-use Prim.Native.Nat.{ℕ, ◌-◌, ◌≤◌, ◌<◌}
-use mathlib.Core.Path.{◌≡◌, refl, ap, ◌∙◌}
+use Prim.Native.Nat.{◌<◌}
+use mathlib.Core.Path.{refl, ap, ◌∙◌}
 use native.Mathlib.Omega.{arith}
-use lib.ListN.{length, length-set, drop, get_or}
+use lib.ListN.{length-set}
 use lib.Seq.{drop-set-lt}
-use borrow.Author.Rules.{rules}
 use Rattle.chains.proofs.Marking.{cleared, root_asked}
 use Rattle.chains.proofs.ask_all.Goals as goal
 
@@ -24,7 +23,7 @@ returns c =
     let turn = c.loop-i in
     let asked = c.ask in
     record {
-      bits = root_asked args.table.now args.struck.now args.hits.now args.n args.block _ _ _ turn.given asked.new.1.1.1.1.1.1.1.1.1.1.0
+      bits = root_asked args.table.now args.struck.now args.hits.now args.n args.block _ _ _ turn.given asked.new.given
           (λ v hit answers. ap (λ r. r.decision) (c.reply-root.ensures v hit answers)) c.agreed-on.ensures c.depth_at-depth.ensures.0 (λ j l. turn.invariant.3 j (omega arith)) asked.ensures.bits;
       behind = asked.ensures.behind ∙ turn.invariant.2;
     }

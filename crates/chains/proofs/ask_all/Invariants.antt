@@ -1,11 +1,7 @@
 -- `ask_all`: the words are 0 before the first element is asked. Assumes nothing.
 use Prim.Native.Nat.{ℕ, ◌-◌, ◌≤◌, ◌<◌}
-use mathlib.Core.Path.{◌≡◌, refl, ap, ◌∙◌}
-use native.Mathlib.Omega.{arith}
-use lib.ListN.{length, length-set, drop, get_or}
-use lib.Seq.{drop-set-lt}
-use borrow.Author.Rules.{rules}
-use Rattle.chains.proofs.Marking.{cleared, root_asked}
+use mathlib.Core.Path.{◌≡◌}
+use lib.ListN.{length, drop, get_or}
 use Rattle.chains.proofs.ask_all.Given as goal
 
 abbrev pub invariant-loop-i : goal.invariant-loop-i

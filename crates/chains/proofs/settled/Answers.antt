@@ -1,6 +1,5 @@
 -- `settled`: by the word, and the two bits. Assumes nothing.
 use mathlib.Core.Path.{◌∙◌}
-use borrow.Author.Rules.{rules}
 use Rattle.meaning.specs.Deciding.{bit}
 use Rattle.laws.proofs.Bits.{bit_or_lem, bit_zero}
 use Rattle.blocks.specs.Bits.{decision_bit}

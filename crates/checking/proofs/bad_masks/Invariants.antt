@@ -1,17 +1,9 @@
 -- `bad_masks` meets its contract. The first loop keeps the answer for the masks of the attributes, the second for those behind them.
-use Prim.Native.Nat.{ℕ, ◌-◌, ◌^◌, ◌≤◌}
-use mathlib.Core.Path.{◌≡◌, refl, sym, ap, ◌∙◌}
-use mathlib.Core.Bool.{Bool, true, false}
-use mathlib.Core.List.{List}
-use native.Mathlib.Omega.{arith}
-use lib.ListN.{length, take, drop, get_or}
-use lib.Seq.{length-take-le, get_or-take}
-use borrow.Author.Rules.{rules}
-use Rattle.meaning.specs.Model.{Attribute}
-use Rattle.meaning.specs.Reading.{non_zero, bad_masks}
-use Rattle.layout.specs.Places.{value_counts}
-use Rattle.checking.proofs.Zeros.{zeros_end, zeros_stop, zeros_next}
-use Rattle.checking.proofs.Masks.{wrong_masks, masks_by_counts, masks_end, mask_empty, mask_high, mask_good}
+use Prim.Native.Nat.{◌-◌, ◌≤◌}
+use mathlib.Core.Path.{◌≡◌}
+use lib.ListN.{take, drop}
+use Rattle.meaning.specs.Reading.{non_zero}
+use Rattle.checking.proofs.Masks.{wrong_masks}
 use Rattle.checking.proofs.bad_masks.Given as goal
 
 abbrev pub invariant-loop-i : goal.invariant-loop-i

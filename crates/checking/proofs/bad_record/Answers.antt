@@ -1,6 +1,5 @@
 -- `bad_record` meets its contract.
 use mathlib.Core.Path.{sym, ◌∙◌}
-use borrow.Author.Rules.{rules}
 use Rattle.checking.proofs.bad_record.Goals as goal
 
 pub returns-then-bad_stored : goal.returns-then-bad_stored

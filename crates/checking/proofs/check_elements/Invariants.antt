@@ -1,20 +1,14 @@
 -- `check_elements` meets its contract. The loop keeps the answer: that for the elements from the tree's count on, behind those before,
 -- the first of them on the line at hand.
 use Prim.Native.Nat.{suc, ◌+◌, ◌-◌, ◌*◌, ◌≤◌}
-use mathlib.Core.Path.{◌≡◌, refl, ◌∙◌, subst⁻¹}
+use mathlib.Core.Path.{◌≡◌}
 use mathlib.Core.List.{List, []}
-use native.Mathlib.Numerals.{add-one}
-use native.Mathlib.Omega.{arith}
-use lib.ListN.{length, take, get_or, length-map}
-use borrow.Author.Rules.{rules}
+use lib.ListN.{take}
 use Rattle.meaning.specs.Model.{Attribute}
 use Rattle.meaning.specs.Writing.{read_elements}
-use Rattle.layout.proofs.Placing.{stands_more}
 use Rattle.layout.specs.Places.{value_counts}
-use Rattle.checking.specs.Tested.{none, taken, earlier, behind, Begun, CheckedAs}
-use Rattle.checking.proofs.Earlier.{earlier_length}
-use Rattle.checking.proofs.Told.{pass_told}
-use Rattle.checking.proofs.Walk.{remaining, all_remain, none_remains, element_refused, element_passed, stand_ins, stand_in_counts, Sound, sound, begun_first, begun_next}
+use Rattle.checking.specs.Tested.{Begun}
+use Rattle.checking.proofs.Walk.{remaining}
 use Rattle.checking.proofs.check_elements.Given as goal
 
 abbrev pub invariant-loop-counts : goal.invariant-loop-counts
@@ -22,7 +16,7 @@ invariant-loop-counts l =
     (l.tree.len ≤ l.len)
     × Begun l.all l.tree
     × (l.line ≤ 7 + 3 * l.tree.len)
-    × ((attrs : List Attribute) → take l.attributes l.counts ≡ value_counts attrs → read_elements (suc l.attributes) (record { l.attributes = attrs; before = [] }) (take l.len l.all) ≡ remaining l.line attrs l.all l.len l.tree.len)
+    × ((attrs : List Attribute) → take l.attributes l.counts ≡ value_counts attrs → read_elements (suc l.attributes) (record { attributes = attrs; before = [] }) (take l.len l.all) ≡ remaining l.line attrs l.all l.len l.tree.len)
 
 abbrev pub decreases-loop-counts : goal.decreases-loop-counts
 decreases-loop-counts l = l.len - l.tree.len

@@ -1,17 +1,18 @@
 -- `element_refusal` meets its contract. Each answer is what the tests give that are left once the element passed those before.
-use Prim.Native.Nat.{ℕ}
+use Prim.Native.Nat.{ℕ, ◌≤◌, ◌<◌}
 use mathlib.Core.Path.{◌≡◌, sym, ◌∙◌}
-use mathlib.Core.Bool.{false, ◌||◌}
-use mathlib.Core.List.{List}
+use mathlib.Core.Bool.{true, false, not, ◌||◌}
+use mathlib.Core.List.{List, map}
 use native.Mathlib.Omega.{arith}
 use lib.Dec.{eqb}
 use lib.ListN.{length, take, drop}
 use borrow.Author.Rules.{rules}
 use borrow.Author.Tests.{not-true, not-false, le-leb, lt-leb, eq-eqb, ne_eqb}
-use Rattle.meaning.specs.Text.{empty, is_none}
-use Rattle.meaning.specs.Model.{Attribute, word_text}
+use Rattle.meaning.specs.Text.{empty, is_none, among_names}
+use Rattle.meaning.specs.Model.{Attribute, name_of, word_text}
 use Rattle.meaning.specs.Reading.{word_of, well_placed, bad_name, bad_unused, lowest, element_tests}
 use Rattle.layout.specs.Places.{value_counts}
+use Rattle.laws.proofs.Types.{Element}
 use Rattle.laws.proofs.Bools.{or_false}
 use Rattle.laws.proofs.Bounds.{stored_short}
 use Rattle.checking.specs.Tested.{earlier, behind}
@@ -23,132 +24,103 @@ returns-then-bad_record c attrs are = sym (rw (sym c.bad_record.ensures ∙ c.if
 
 pub known-requires : goal.known-requires
 known-requires c =
-    let start-1 : tie.Start = c⟨Else1⟩ in
-    let named : let e = (start-1).args.e in (bad_name e || bad_unused e) ≡ false = sym c.bad_record.ensures ∙ c.if-bad_record.false in
-    let begun = (start-1).requires.1 in
-    let e = (start-1).args.e in
-    (omega (arith, begun.few), stored_short e.len e.name (or_false (bad_name e) (bad_unused e) (named)).0, begun.short_names)
+    let e = c.args.e in
+    let begun = c.requires.1 in
+    let named : (bad_name e || bad_unused e) ≡ false = sym c.bad_record.ensures ∙ c.if-bad_record.false in
+    (omega (arith, begun.few), stored_short e.len e.name (or_false (bad_name e) (bad_unused e) named).0, begun.short_names)
+
+-- the number that the tests give of an element behind n others
+module _ (attrs : List Attribute) (all : List Element) (n : ℕ) (e : Element) where
+  abbrev number : ℕ
+  number = lowest (element_tests (behind attrs all n) (word_text e.word) e)
+
+  -- the number, the first k tests left out
+  abbrev number_from : ℕ → ℕ
+  number_from k = lowest (drop k (element_tests (behind attrs all n) (word_text e.word) e))
+
+  -- the tests that are left behind each branch
+  module _ (named : (bad_name e || bad_unused e) ≡ false) (other : among_names (name_of e) (map name_of (earlier all n)) ≡ false) where
+    past_2 : number ≡ number_from 2
+    past_2 = rw (named, other)
+
+    module _ (few : n < 64) where
+      past_3 : number ≡ number_from 3
+      past_3 = past_2 ∙ rw (earlier_length all n, lt-leb 64 n few)
+
+      module _ (some : empty attrs ≡ false) (placed : well_placed e.kind e.depth (earlier all n) ≡ true) where
+        past_4 : number ≡ number_from 4
+        past_4 = past_3 ∙ rw (some, placed)
+
+        past_5 : not (is_none (word_of e.kind (word_text e.word))) ≡ true → number ≡ number_from 5
+        past_5 fits = past_4 ∙ rw (not-true (is_none (word_of e.kind (word_text e.word))) fits)
+
+-- whether there is an attribute, by their count
+attributes_found : (counts : List ℕ) (attributes : ℕ) (attrs : List Attribute) → length counts ≡ 6 → attributes ≤ 6 → take attributes counts ≡ value_counts attrs → empty attrs ≡ eqb attributes 0
+attributes_found counts attributes attrs six few are = none_counted counts attributes attrs (omega arith) are
 
 pub returns-then-known : goal.returns-then-known
 returns-then-known c attrs are =
-    let start-1 : tie.Start = c⟨Else1⟩ in
-    let named : let e = (start-1).args.e in (bad_name e || bad_unused e) ≡ false = sym c.bad_record.ensures ∙ c.if-bad_record.false in
-    let past-1 : (attrs : List Attribute) → number (start-1) attrs 0 ≡ number (start-1) attrs 1 = λ attrs. rw (named) in
-    sym (past-1 attrs ∙ rw (sym c.known.ensures ∙ c.if-known.true))
+    let a = c.args in
+    let named : (bad_name a.e || bad_unused a.e) ≡ false = sym c.bad_record.ensures ∙ c.if-bad_record.false in
+    sym (rw (named, sym c.known.ensures ∙ c.if-known.true))
 
 pub returns-then-tree-ge64 : goal.returns-then-tree-ge64
 returns-then-tree-ge64 c attrs are =
-    let start-1 : tie.Start = c⟨Else1⟩ in
-    let start-2 : tie.Start = start-1 in
-    let named : let e = (start-1).args.e in (bad_name e || bad_unused e) ≡ false = sym c.bad_record.ensures ∙ c.if-bad_record.false in
-    let past-1 : (attrs : List Attribute) → number (start-1) attrs 0 ≡ number (start-1) attrs 1 = λ attrs. rw (named) in
-    let past-2 : (attrs : List Attribute) → number (start-2) attrs 0 ≡ number (start-2) attrs 2 = λ attrs. past-1 attrs ∙ rw (sym c.known.ensures ∙ c.if-known.false) in
-    let a = (start-2).args in
-    sym (past-2 attrs ∙ rw (earlier_length a.all a.tree.len, le-leb 64 a.tree.len c.if-tree-ge64.true))
+    let a = c.args in
+    let named : (bad_name a.e || bad_unused a.e) ≡ false = sym c.bad_record.ensures ∙ c.if-bad_record.false in
+    let other : among_names (name_of a.e) (map name_of (earlier a.all a.tree.len)) ≡ false = sym c.known.ensures ∙ c.if-known.false in
+    sym (past_2 attrs a.all a.tree.len a.e named other ∙ rw (earlier_length a.all a.tree.len, le-leb 64 a.tree.len c.if-tree-ge64.true))
 
 pub returns-then-attributes-eq0 : goal.returns-then-attributes-eq0
 returns-then-attributes-eq0 c attrs are =
-    let start-1 : tie.Start = c⟨Else1⟩ in
-    let start-2 : tie.Start = start-1 in
-    let start-3 : tie.Start = start-2 in
-    let named : let e = (start-1).args.e in (bad_name e || bad_unused e) ≡ false = sym c.bad_record.ensures ∙ c.if-bad_record.false in
-    let past-1 : (attrs : List Attribute) → number (start-1) attrs 0 ≡ number (start-1) attrs 1 = λ attrs. rw (named) in
-    let past-2 : (attrs : List Attribute) → number (start-2) attrs 0 ≡ number (start-2) attrs 2 = λ attrs. past-1 attrs ∙ rw (sym c.known.ensures ∙ c.if-known.false) in
-    let past-3 : (attrs : List Attribute) → number (start-3) attrs 0 ≡ number (start-3) attrs 3 = λ attrs. let a = (start-3).args in
-    past-2 attrs ∙ rw (earlier_length a.all a.tree.len, lt-leb 64 a.tree.len c.if-tree-ge64.false) in
-    let attributes-found : (attrs : List Attribute) → Counted (start-3) attrs → empty attrs ≡ eqb (start-3).args.attributes 0 = λ attrs are. let a = (start-3).args in
+    let a = c.args in
+    let named : (bad_name a.e || bad_unused a.e) ≡ false = sym c.bad_record.ensures ∙ c.if-bad_record.false in
+    let other : among_names (name_of a.e) (map name_of (earlier a.all a.tree.len)) ≡ false = sym c.known.ensures ∙ c.if-known.false in
     let six : length a.counts ≡ 6 = search rules in
-    none_counted a.counts a.attributes attrs (omega (arith, (start-3).requires.0.few)) are in
-    sym (past-3 attrs ∙ rw (attributes-found attrs are ∙ eq-eqb (start-3).args.attributes 0 c.if-attributes-eq0.true))
+    let found : empty attrs ≡ eqb a.attributes 0 = attributes_found a.counts a.attributes attrs six c.requires.0.few are in
+    sym (past_3 attrs a.all a.tree.len a.e named other c.if-tree-ge64.false ∙ rw (found ∙ eq-eqb a.attributes 0 c.if-attributes-eq0.true))
 
 pub returns-then-not-well_placed : goal.returns-then-not-well_placed
 returns-then-not-well_placed c attrs are =
-    let start-1 : tie.Start = c⟨Else1⟩ in
-    let start-2 : tie.Start = start-1 in
-    let start-3 : tie.Start = start-2 in
-    let start-4 : tie.Start = start-3 in
-    let named : let e = (start-1).args.e in (bad_name e || bad_unused e) ≡ false = sym c.bad_record.ensures ∙ c.if-bad_record.false in
-    let past-1 : (attrs : List Attribute) → number (start-1) attrs 0 ≡ number (start-1) attrs 1 = λ attrs. rw (named) in
-    let past-2 : (attrs : List Attribute) → number (start-2) attrs 0 ≡ number (start-2) attrs 2 = λ attrs. past-1 attrs ∙ rw (sym c.known.ensures ∙ c.if-known.false) in
-    let past-3 : (attrs : List Attribute) → number (start-3) attrs 0 ≡ number (start-3) attrs 3 = λ attrs. let a = (start-3).args in
-    past-2 attrs ∙ rw (earlier_length a.all a.tree.len, lt-leb 64 a.tree.len c.if-tree-ge64.false) in
-    let attributes-found : (attrs : List Attribute) → Counted (start-3) attrs → empty attrs ≡ eqb (start-3).args.attributes 0 = λ attrs are. let a = (start-3).args in
+    let a = c.args in
+    let named : (bad_name a.e || bad_unused a.e) ≡ false = sym c.bad_record.ensures ∙ c.if-bad_record.false in
+    let other : among_names (name_of a.e) (map name_of (earlier a.all a.tree.len)) ≡ false = sym c.known.ensures ∙ c.if-known.false in
     let six : length a.counts ≡ 6 = search rules in
-    none_counted a.counts a.attributes attrs (omega (arith, (start-3).requires.0.few)) are in
-    let place_found : let a = (start-4).args in well_placed a.e.kind a.e.depth (earlier a.all a.tree.len) ≡ c.well_placed.result = let start = start-4 in
-    sym (c.well_placed.ensures (earlier start.args.all start.args.tree.len) start.pre.1.stands) in
-    let attribute-there : (attrs : List Attribute) → Counted (start-4) attrs → empty attrs ≡ false = λ attrs are. attributes-found attrs are ∙ ne_eqb (start-4).args.attributes 0 c.if-attributes-eq0.false in
-    sym (past-3 attrs ∙ rw (attribute-there attrs are, place_found ∙ c.if-not-well_placed.true))
+    let found : empty attrs ≡ eqb a.attributes 0 = attributes_found a.counts a.attributes attrs six c.requires.0.few are in
+    let some : empty attrs ≡ false = found ∙ ne_eqb a.attributes 0 c.if-attributes-eq0.false in
+    let place : well_placed a.e.kind a.e.depth (earlier a.all a.tree.len) ≡ c.well_placed.result = sym (c.well_placed.ensures (earlier a.all a.tree.len) c.requires.1.stands) in
+    sym (past_3 attrs a.all a.tree.len a.e named other c.if-tree-ge64.false ∙ rw (some, place ∙ c.if-not-well_placed.true))
 
 pub returns-then-not-word_fits : goal.returns-then-not-word_fits
 returns-then-not-word_fits c attrs are =
-    let start-1 : tie.Start = c⟨Else1⟩ in
-    let start-2 : tie.Start = start-1 in
-    let start-3 : tie.Start = start-2 in
-    let start-4 : tie.Start = start-3 in
-    let start-5 : tie.Start = start-4 in
-    let named : let e = (start-1).args.e in (bad_name e || bad_unused e) ≡ false = sym c.bad_record.ensures ∙ c.if-bad_record.false in
-    let past-1 : (attrs : List Attribute) → number (start-1) attrs 0 ≡ number (start-1) attrs 1 = λ attrs. rw (named) in
-    let past-2 : (attrs : List Attribute) → number (start-2) attrs 0 ≡ number (start-2) attrs 2 = λ attrs. past-1 attrs ∙ rw (sym c.known.ensures ∙ c.if-known.false) in
-    let past-3 : (attrs : List Attribute) → number (start-3) attrs 0 ≡ number (start-3) attrs 3 = λ attrs. let a = (start-3).args in
-    past-2 attrs ∙ rw (earlier_length a.all a.tree.len, lt-leb 64 a.tree.len c.if-tree-ge64.false) in
-    let attributes-found : (attrs : List Attribute) → Counted (start-3) attrs → empty attrs ≡ eqb (start-3).args.attributes 0 = λ attrs are. let a = (start-3).args in
+    let a = c.args in
+    let named : (bad_name a.e || bad_unused a.e) ≡ false = sym c.bad_record.ensures ∙ c.if-bad_record.false in
+    let other : among_names (name_of a.e) (map name_of (earlier a.all a.tree.len)) ≡ false = sym c.known.ensures ∙ c.if-known.false in
     let six : length a.counts ≡ 6 = search rules in
-    none_counted a.counts a.attributes attrs (omega (arith, (start-3).requires.0.few)) are in
-    let place_found : let a = (start-4).args in well_placed a.e.kind a.e.depth (earlier a.all a.tree.len) ≡ c.well_placed.result = let start = start-4 in
-    sym (c.well_placed.ensures (earlier start.args.all start.args.tree.len) start.pre.1.stands) in
-    let attribute-there : (attrs : List Attribute) → Counted (start-4) attrs → empty attrs ≡ false = λ attrs are. attributes-found attrs are ∙ ne_eqb (start-4).args.attributes 0 c.if-attributes-eq0.false in
-    let past-5 : (attrs : List Attribute) → Counted (start-5) attrs → number (start-5) attrs 0 ≡ number (start-5) attrs 4 = λ attrs are. past-3 attrs ∙ rw (attribute-there attrs are, place_found ∙ c.if-not-well_placed.false) in
-    let e = (start-5).args.e in
-    let other = not-false (is_none (word_of e.kind (word_text e.word))) (sym c.word_fits.ensures ∙ c.if-not-word_fits.true) in
-    sym (past-5 attrs are ∙ rw other)
+    let found : empty attrs ≡ eqb a.attributes 0 = attributes_found a.counts a.attributes attrs six c.requires.0.few are in
+    let some : empty attrs ≡ false = found ∙ ne_eqb a.attributes 0 c.if-attributes-eq0.false in
+    let place : well_placed a.e.kind a.e.depth (earlier a.all a.tree.len) ≡ c.well_placed.result = sym (c.well_placed.ensures (earlier a.all a.tree.len) c.requires.1.stands) in
+    let unfit = not-false (is_none (word_of a.e.kind (word_text a.e.word))) (sym c.word_fits.ensures ∙ c.if-not-word_fits.true) in
+    sym (past_4 attrs a.all a.tree.len a.e named other c.if-tree-ge64.false some (place ∙ c.if-not-well_placed.false) ∙ rw unfit)
 
 pub returns-then-bad_masks : goal.returns-then-bad_masks
 returns-then-bad_masks c attrs are =
-    let start-1 : tie.Start = c⟨Else1⟩ in
-    let start-2 : tie.Start = start-1 in
-    let start-3 : tie.Start = start-2 in
-    let start-4 : tie.Start = start-3 in
-    let start-5 : tie.Start = start-4 in
-    let start-6 : tie.Start = start-5 in
-    let named : let e = (start-1).args.e in (bad_name e || bad_unused e) ≡ false = sym c.bad_record.ensures ∙ c.if-bad_record.false in
-    let past-1 : (attrs : List Attribute) → number (start-1) attrs 0 ≡ number (start-1) attrs 1 = λ attrs. rw (named) in
-    let past-2 : (attrs : List Attribute) → number (start-2) attrs 0 ≡ number (start-2) attrs 2 = λ attrs. past-1 attrs ∙ rw (sym c.known.ensures ∙ c.if-known.false) in
-    let past-3 : (attrs : List Attribute) → number (start-3) attrs 0 ≡ number (start-3) attrs 3 = λ attrs. let a = (start-3).args in
-    past-2 attrs ∙ rw (earlier_length a.all a.tree.len, lt-leb 64 a.tree.len c.if-tree-ge64.false) in
-    let attributes-found : (attrs : List Attribute) → Counted (start-3) attrs → empty attrs ≡ eqb (start-3).args.attributes 0 = λ attrs are. let a = (start-3).args in
+    let a = c.args in
+    let named : (bad_name a.e || bad_unused a.e) ≡ false = sym c.bad_record.ensures ∙ c.if-bad_record.false in
+    let other : among_names (name_of a.e) (map name_of (earlier a.all a.tree.len)) ≡ false = sym c.known.ensures ∙ c.if-known.false in
     let six : length a.counts ≡ 6 = search rules in
-    none_counted a.counts a.attributes attrs (omega (arith, (start-3).requires.0.few)) are in
-    let place_found : let a = (start-4).args in well_placed a.e.kind a.e.depth (earlier a.all a.tree.len) ≡ c.well_placed.result = let start = start-4 in
-    sym (c.well_placed.ensures (earlier start.args.all start.args.tree.len) start.pre.1.stands) in
-    let attribute-there : (attrs : List Attribute) → Counted (start-4) attrs → empty attrs ≡ false = λ attrs are. attributes-found attrs are ∙ ne_eqb (start-4).args.attributes 0 c.if-attributes-eq0.false in
-    let past-5 : (attrs : List Attribute) → Counted (start-5) attrs → number (start-5) attrs 0 ≡ number (start-5) attrs 4 = λ attrs are. past-3 attrs ∙ rw (attribute-there attrs are, place_found ∙ c.if-not-well_placed.false) in
-    let past-6 : (attrs : List Attribute) → Counted (start-6) attrs → number (start-6) attrs 0 ≡ number (start-6) attrs 5 = λ attrs are. let e = (start-6).args.e in
-    let fits = not-true (is_none (word_of e.kind (word_text e.word))) (sym c.word_fits.ensures ∙ c.if-not-word_fits.false) in
-    past-5 attrs are ∙ rw fits in
-    sym (past-6 attrs are ∙ rw (sym (c.bad_masks.ensures attrs are) ∙ c.if-bad_masks.true))
+    let found : empty attrs ≡ eqb a.attributes 0 = attributes_found a.counts a.attributes attrs six c.requires.0.few are in
+    let some : empty attrs ≡ false = found ∙ ne_eqb a.attributes 0 c.if-attributes-eq0.false in
+    let place : well_placed a.e.kind a.e.depth (earlier a.all a.tree.len) ≡ c.well_placed.result = sym (c.well_placed.ensures (earlier a.all a.tree.len) c.requires.1.stands) in
+    sym (past_5 attrs a.all a.tree.len a.e named other c.if-tree-ge64.false some (place ∙ c.if-not-well_placed.false) (sym c.word_fits.ensures ∙ c.if-not-word_fits.false) ∙ rw (sym (c.bad_masks.ensures attrs are) ∙ c.if-bad_masks.true))
 
 pub returns : goal.returns
 returns c attrs are =
-    let start-1 : tie.Start = c⟨Else1⟩ in
-    let start-2 : tie.Start = start-1 in
-    let start-3 : tie.Start = start-2 in
-    let start-4 : tie.Start = start-3 in
-    let start-5 : tie.Start = start-4 in
-    let start-6 : tie.Start = start-5 in
-    let named : let e = (start-1).args.e in (bad_name e || bad_unused e) ≡ false = sym c.bad_record.ensures ∙ c.if-bad_record.false in
-    let past-1 : (attrs : List Attribute) → number (start-1) attrs 0 ≡ number (start-1) attrs 1 = λ attrs. rw (named) in
-    let past-2 : (attrs : List Attribute) → number (start-2) attrs 0 ≡ number (start-2) attrs 2 = λ attrs. past-1 attrs ∙ rw (sym c.known.ensures ∙ c.if-known.false) in
-    let past-3 : (attrs : List Attribute) → number (start-3) attrs 0 ≡ number (start-3) attrs 3 = λ attrs. let a = (start-3).args in
-    past-2 attrs ∙ rw (earlier_length a.all a.tree.len, lt-leb 64 a.tree.len c.if-tree-ge64.false) in
-    let attributes-found : (attrs : List Attribute) → Counted (start-3) attrs → empty attrs ≡ eqb (start-3).args.attributes 0 = λ attrs are. let a = (start-3).args in
+    let a = c.args in
+    let named : (bad_name a.e || bad_unused a.e) ≡ false = sym c.bad_record.ensures ∙ c.if-bad_record.false in
+    let other : among_names (name_of a.e) (map name_of (earlier a.all a.tree.len)) ≡ false = sym c.known.ensures ∙ c.if-known.false in
     let six : length a.counts ≡ 6 = search rules in
-    none_counted a.counts a.attributes attrs (omega (arith, (start-3).requires.0.few)) are in
-    let place_found : let a = (start-4).args in well_placed a.e.kind a.e.depth (earlier a.all a.tree.len) ≡ c.well_placed.result = let start = start-4 in
-    sym (c.well_placed.ensures (earlier start.args.all start.args.tree.len) start.pre.1.stands) in
-    let attribute-there : (attrs : List Attribute) → Counted (start-4) attrs → empty attrs ≡ false = λ attrs are. attributes-found attrs are ∙ ne_eqb (start-4).args.attributes 0 c.if-attributes-eq0.false in
-    let past-5 : (attrs : List Attribute) → Counted (start-5) attrs → number (start-5) attrs 0 ≡ number (start-5) attrs 4 = λ attrs are. past-3 attrs ∙ rw (attribute-there attrs are, place_found ∙ c.if-not-well_placed.false) in
-    let past-6 : (attrs : List Attribute) → Counted (start-6) attrs → number (start-6) attrs 0 ≡ number (start-6) attrs 5 = λ attrs are. let e = (start-6).args.e in
-    let fits = not-true (is_none (word_of e.kind (word_text e.word))) (sym c.word_fits.ensures ∙ c.if-not-word_fits.false) in
-    past-5 attrs are ∙ rw fits in
-    sym (past-6 attrs are ∙ rw (sym (c.bad_masks.ensures attrs are) ∙ c.if-bad_masks.false))
+    let found : empty attrs ≡ eqb a.attributes 0 = attributes_found a.counts a.attributes attrs six c.requires.0.few are in
+    let some : empty attrs ≡ false = found ∙ ne_eqb a.attributes 0 c.if-attributes-eq0.false in
+    let place : well_placed a.e.kind a.e.depth (earlier a.all a.tree.len) ≡ c.well_placed.result = sym (c.well_placed.ensures (earlier a.all a.tree.len) c.requires.1.stands) in
+    sym (past_5 attrs a.all a.tree.len a.e named other c.if-tree-ge64.false some (place ∙ c.if-not-well_placed.false) (sym c.word_fits.ensures ∙ c.if-not-word_fits.false) ∙ rw (sym (c.bad_masks.ensures attrs are) ∙ c.if-bad_masks.false))

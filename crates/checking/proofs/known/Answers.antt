@@ -1,13 +1,9 @@
 -- `known` meets its contract. The loop keeps the answer: the name is known if it is among the names before `i`.
-use Prim.Native.Nat.{◌-◌, ◌≤◌}
-use mathlib.Core.Path.{◌≡◌, refl, sym, ◌∙◌}
-use mathlib.Core.List.{map}
+use Prim.Native.Nat.{◌-◌}
+use mathlib.Core.Path.{refl, sym, ◌∙◌}
 use native.Mathlib.Omega.{arith}
-use lib.ListN.{take}
 use borrow.Author.Rules.{rules}
-use Rattle.meaning.specs.Text.{among_names}
 use Rattle.meaning.specs.Model.{name_of}
-use Rattle.checking.specs.Tested.{earlier}
 use Rattle.checking.proofs.Names.{names_end, name_hit, name_miss}
 use Rattle.checking.proofs.known.Goals as goal
 
@@ -26,14 +22,14 @@ same_stored-requires c = (c.requires.1, c.requires.2 (c.loop-i.i - 1) (omega ari
 pub returns-then-same_stored : goal.returns-then-same_stored
 returns-then-same_stored c =
     let a = c.args in
-    sym (sym c.loop-i.invariant.1 ∙ name_hit a.t1 (name_of a.e) c.loop-i.i (omega arith) (sym c.same_stored.ensures ∙ c.if-same_stored.true))
+    sym (sym c.loop-i.invariant.1 ∙ name_hit a.all (name_of a.e) c.loop-i.i (omega arith) (sym c.same_stored.ensures ∙ c.if-same_stored.true))
 
 pub loop-i-preserved : goal.loop-i-preserved
 loop-i-preserved c =
     let a = c.args in
-    (omega arith, sym (name_miss a.t1 (name_of a.e) c.loop-i.i (omega arith) (sym c.same_stored.ensures ∙ c.if-same_stored.false)) ∙ c.loop-i.invariant.1)
+    (omega arith, sym (name_miss a.all (name_of a.e) c.loop-i.i (omega arith) (sym c.same_stored.ensures ∙ c.if-same_stored.false)) ∙ c.loop-i.invariant.1)
 
 pub returns : goal.returns
 returns c =
     let a = c.args in
-    sym (sym c.loop-i.invariant.1 ∙ names_end a.t1 (name_of a.e) c.loop-i.i (omega arith))
+    sym (sym c.loop-i.invariant.1 ∙ names_end a.all (name_of a.e) c.loop-i.i (omega arith))

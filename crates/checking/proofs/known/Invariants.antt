@@ -1,14 +1,11 @@
 -- `known` meets its contract. The loop keeps the answer: the name is known if it is among the names before `i`.
-use Prim.Native.Nat.{◌-◌, ◌≤◌}
-use mathlib.Core.Path.{◌≡◌, refl, sym, ◌∙◌}
+use Prim.Native.Nat.{◌≤◌}
+use mathlib.Core.Path.{◌≡◌}
 use mathlib.Core.List.{map}
-use native.Mathlib.Omega.{arith}
 use lib.ListN.{take}
-use borrow.Author.Rules.{rules}
 use Rattle.meaning.specs.Text.{among_names}
 use Rattle.meaning.specs.Model.{name_of}
 use Rattle.checking.specs.Tested.{earlier}
-use Rattle.checking.proofs.Names.{names_end, name_hit, name_miss}
 use Rattle.checking.proofs.known.Given as goal
 
 abbrev pub invariant-loop-i : goal.invariant-loop-i

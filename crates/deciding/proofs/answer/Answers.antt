@@ -1,9 +1,6 @@
 -- `answer` meets its contract: no obligations come, or those that are given.
 use mathlib.Core.Path.{refl, sym, ap, ◌∙◌}
-use Prim.Native.Nat.{◌≤◌}
 use native.Mathlib.Omega.{arith}
-use borrow.Author.Rules.{rules}
-use borrow.Author.Tests.{not-true}
 use Rattle.meaning.specs.Deciding.{decision_number}
 use Rattle.deciding.proofs.Telling.{undecided, unobliged, places_room}
 use Rattle.deciding.proofs.answer.Goals as goal

@@ -1,8 +1,5 @@
 -- `ask_one` meets its contract: the words of one request, asked with no element struck.
-use mathlib.Core.Path.{◌≡◌, sym, ◌∙◌}
-use Prim.Native.Nat.{◌≤◌}
 use native.Mathlib.Omega.{arith}
-use lib.ListN.{length}
 use borrow.Author.Rules.{rules}
 use Rattle.meaning.specs.Deciding.{matches}
 use Rattle.requests.specs.Values.{values_of, severals_of}

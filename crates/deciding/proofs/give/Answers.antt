@@ -2,7 +2,6 @@
 use mathlib.Core.Path.{sym}
 use native.Mathlib.Omega.{arith}
 use lib.Seq.{length-take-le}
-use borrow.Author.Rules.{rules}
 use Rattle.printing.proofs.Fitting.{written}
 use Rattle.deciding.proofs.Telling.{giving, given_told}
 use Rattle.deciding.proofs.give.Goals as goal
@@ -28,4 +27,4 @@ pub returns : goal.returns
 returns c =
     let a = c.args in
     let fits = written c.put_given-needed.ensures.0 a.out.now _ c.lend-part.ensures.value c.put_given.ensures.0 c.text_answer.ensures in
-    rw c.with_decision.ensures (given_told a.file.now a.table.now a.places.now a.n a.q a.decision c.requires.1 c.requires.2 c.ask_one.new.1.1.1.0 c.ask_one.ensures.0 fits)
+    rw c.with_decision.ensures (given_told a.file.now a.table.now a.places.now a.n a.q a.decision c.requires.1 c.requires.2 c.ask_one.new.given c.ask_one.ensures.0 fits)

@@ -1,12 +1,9 @@
 -- `match_one` meets its contract, an element at a time.
-use Prim.Native.Nat.{◌-◌, ◌≤◌}
-use mathlib.Core.Path.{◌≡◌, refl, sym, ap, ◌∙◌, subst}
+use mathlib.Core.Path.{refl, ◌∙◌}
 use native.Mathlib.Omega.{arith}
-use lib.ListN.{length, length-set}
-use borrow.Author.Rules.{rules}
+use lib.ListN.{length-set}
 use Rattle.meaning.specs.Deciding.{matches}
 use Rattle.requests.specs.Values.{values_of, severals_of}
-use Rattle.blocks.specs.Bits.{Answers}
 use Rattle.deciding.proofs.Telling.{next_answers}
 use Rattle.deciding.proofs.match_one.Goals as goal
 

@@ -1,13 +1,10 @@
 -- `match_one` meets its contract, an element at a time.
 use Prim.Native.Nat.{◌-◌, ◌≤◌}
-use mathlib.Core.Path.{◌≡◌, refl, sym, ap, ◌∙◌, subst}
-use native.Mathlib.Omega.{arith}
-use lib.ListN.{length, length-set}
-use borrow.Author.Rules.{rules}
+use mathlib.Core.Path.{◌≡◌}
+use lib.ListN.{length}
 use Rattle.meaning.specs.Deciding.{matches}
 use Rattle.requests.specs.Values.{values_of, severals_of}
 use Rattle.blocks.specs.Bits.{Answers}
-use Rattle.deciding.proofs.Telling.{next_answers}
 use Rattle.deciding.proofs.match_one.Given as goal
 
 abbrev pub invariant-loop-i : goal.invariant-loop-i

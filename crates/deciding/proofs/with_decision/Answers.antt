@@ -1,6 +1,5 @@
 -- `with_decision` meets its contract.
 use mathlib.Core.Path.{sym}
-use borrow.Author.Rules.{rules}
 use borrow.Author.Tests.{eq-eqb, ne_eqb}
 use Rattle.deciding.proofs.with_decision.Goals as goal
 

@@ -1,7 +1,6 @@
 -- `decide`: the first element is not struck, so it is the first that is left. Assumes nothing.
 use mathlib.Core.Path.{sym, ap, ◌∙◌}
 use native.Mathlib.Nat.{sub-zero}
-use borrow.Author.Rules.{rules}
 use Rattle.meaning.specs.Deciding.{matches}
 use Rattle.requests.specs.Values.{values_of, severals_of}
 use Rattle.decisions.proofs.Children.{first_left}

@@ -1,5 +1,4 @@
 -- `next`: the entry of the table, whose rule is proved once. Assumes nothing.
-use borrow.Author.Rules.{rules}
 use Rattle.decisions.proofs.Combining.{entry}
 use Rattle.decisions.proofs.next.Goals as goal
 

@@ -1,5 +1,4 @@
 -- `step`: by the table, or by which of the two match. Assumes nothing.
-use borrow.Author.Rules.{rules}
 use Rattle.decisions.proofs.Combining.{step_table, only_one_lem}
 use Rattle.decisions.proofs.step.Goals as goal
 

@@ -1,7 +1,5 @@
 -- `difference_in`: without obligations the decisions tell. Assumes nothing.
 use mathlib.Core.Path.{sym, ◌∙◌}
-use borrow.Author.Tests.{not-true}
-use borrow.Author.Rules.{rules}
 use Rattle.differences.proofs.Marking.{first_decided}
 use Rattle.differences.proofs.difference_in.Goals as goal
 

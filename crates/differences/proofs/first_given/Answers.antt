@@ -1,11 +1,9 @@
 -- `first_given`: none of those passed, and none that is left out, gets other obligations. Assumes nothing.
-use Prim.Native.Nat.{ℕ, ◌-◌, ◌≤◌, ◌<◌}
+use Prim.Native.Nat.{◌<◌}
 use mathlib.Core.Path.{◌≡◌, refl, sym, ap, ◌∙◌}
-use mathlib.Core.Bool.{true, false, not}
+use mathlib.Core.Bool.{false, not}
 use native.Mathlib.Omega.{arith}
 use borrow.Author.Tests.{ne_eqb}
-use borrow.Author.Rules.{rules}
-use Rattle.meaning.specs.Deciding.{bit}
 use Rattle.laws.proofs.Bools.{contradiction}
 use Rattle.outcomes.proofs.Searching.{up_to}
 use Rattle.differences.specs.Marks.{others_given}
@@ -37,7 +35,7 @@ returns-then-not-same_given c =
     let turn = c.loop-v in
     record {
       within = omega (arith, c.if-first-from.false);
-      found = λ l. (turn.v, c.loop-v-test.true, refl, ap not (sym c.same_given.ensures) ∙ c.if-not-same_given.true);
+      found = λ l. (turn.v, c.loop-v-test.true, refl, ap not (sym c.same_given.ensures ∙ c.if-not-same_given.true));
       none_earlier = λ u small l. turn.invariant.1 u (omega arith);
     }
 
@@ -51,7 +49,7 @@ pub loop-v-preserved : goal.loop-v-preserved
 loop-v-preserved c =
     let args = c.args in
     let turn = c.loop-v in
-    let here : others_given args.file.now args.places.now args.n args.one.now args.other.now args.permits turn.v ≡ false = ap not (sym c.same_given.ensures) ∙ c.if-not-same_given.false in (
+    let here : others_given args.file.now args.places.now args.n args.one.now args.other.now args.permits turn.v ≡ false = ap not (sym c.same_given.ensures ∙ c.if-not-same_given.false) in (
       omega arith,
       up_to _ turn.v turn.invariant.1 (λ among. here),
       left_next args.file.now args.places.now args.n args.one.now args.other.now args.permits turn.v args.on turn.left _ _ _ _ turn.invariant.2 here c.like_bit-decided.ensures c.like_marks.ensures c.like_marks-like.ensures c.without-left.ensures,

@@ -1,15 +1,9 @@
 -- `first_given`: none of those passed, and none that is left out, gets other obligations. Assumes nothing.
 use Prim.Native.Nat.{ℕ, ◌-◌, ◌≤◌, ◌<◌}
-use mathlib.Core.Path.{◌≡◌, refl, sym, ap, ◌∙◌}
-use mathlib.Core.Bool.{true, false, not}
-use native.Mathlib.Omega.{arith}
-use borrow.Author.Tests.{ne_eqb}
-use borrow.Author.Rules.{rules}
+use mathlib.Core.Path.{◌≡◌}
+use mathlib.Core.Bool.{true, false}
 use Rattle.meaning.specs.Deciding.{bit}
-use Rattle.laws.proofs.Bools.{contradiction}
-use Rattle.outcomes.proofs.Searching.{up_to}
 use Rattle.differences.specs.Marks.{others_given}
-use Rattle.differences.proofs.Likes.{left_next}
 use Rattle.differences.proofs.first_given.Given as goal
 
 abbrev pub invariant-loop-v : goal.invariant-loop-v

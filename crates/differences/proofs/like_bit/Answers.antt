@@ -1,7 +1,6 @@
 -- `like_bit`: by the bit of request v. Assumes nothing.
 use mathlib.Core.Path.{sym, ◌∙◌}
 use borrow.Author.Tests.{eq-eqb, ne_eqb}
-use borrow.Author.Rules.{rules}
 use Rattle.differences.proofs.Likes.{like_set, like_clear}
 use Rattle.differences.proofs.like_bit.Goals as goal
 

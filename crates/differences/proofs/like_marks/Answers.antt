@@ -1,8 +1,5 @@
 -- `like_marks`: one word more. Assumes nothing.
-use Prim.Native.Nat.{◌-◌, ◌≤◌}
 use native.Mathlib.Omega.{arith}
-use borrow.Author.Rules.{rules}
-use Rattle.differences.specs.Marks.{LikeMarks}
 use Rattle.differences.proofs.Likes.{like_next}
 use Rattle.differences.proofs.like_marks.Goals as goal
 

@@ -1,9 +1,6 @@
 -- `like_marks`: one word more. Assumes nothing.
 use Prim.Native.Nat.{◌-◌, ◌≤◌}
-use native.Mathlib.Omega.{arith}
-use borrow.Author.Rules.{rules}
 use Rattle.differences.specs.Marks.{LikeMarks}
-use Rattle.differences.proofs.Likes.{like_next}
 use Rattle.differences.proofs.like_marks.Given as goal
 
 abbrev pub invariant-loop-i : goal.invariant-loop-i

@@ -1,8 +1,5 @@
 -- `touched`: one element more, which is struck or is not. Assumes nothing.
-use Prim.Native.Nat.{◌-◌, ◌≤◌}
 use native.Mathlib.Omega.{arith}
-use borrow.Author.Rules.{rules}
-use Rattle.differences.specs.Apart.{Touched}
 use Rattle.differences.proofs.Words.{touched_skip, touched_next}
 use Rattle.differences.proofs.touched.Goals as goal
 

@@ -1,9 +1,6 @@
 -- `unlike`: one element more, which has obligations or has none. Assumes nothing.
 use Prim.Native.Nat.{◌-◌, ◌≤◌}
-use native.Mathlib.Omega.{arith}
-use borrow.Author.Rules.{rules}
 use Rattle.differences.specs.Marks.{Marked}
-use Rattle.differences.proofs.Words.{marked_skip, marked_next}
 use Rattle.differences.proofs.unlike.Given as goal
 
 abbrev pub invariant-loop-i : goal.invariant-loop-i

@@ -1,113 +1,121 @@
 -- `element_refusal` meets its contract. Each answer is what the tests give by what was found on the way to it.
-use Prim.Native.Nat.{ℕ}
+use Prim.Native.Nat.{ℕ, ◌<◌}
 use mathlib.Core.Path.{◌≡◌, sym, ap, ◌∙◌}
 use mathlib.Core.Bool.{Bool, true, false, not}
 use mathlib.Core.List.{List, [], ◌∷◌}
-use borrow.Author.Rules.{rules}
-use borrow.Author.Tests.{not-true, not-false, le-leb, lt-leb, eq-eqb, ne_eqb}
+use borrow.Author.Tests.{le-leb, lt-leb, eq-eqb, ne_eqb}
 use lib.Dec.{eqb}
 use lib.ListN.{get_or}
 use Rattle.meaning.specs.Text.{Bytes, among_names, cut, tab, is_name}
 use Rattle.meaning.specs.Reading.{depth_of, word_of, Sofar, well_placed, lowest}
-use Rattle.laws.proofs.Types.{Element}
+use Rattle.laws.proofs.Types.{Kind, Element}
 use Rattle.syntax.specs.Fields.{number_of_word}
+use Rattle.layout.specs.declared.Attributes.{Attributes}
+use Rattle.layout.specs.declared.Tree.{Tree}
 use Rattle.layout.specs.Places.{names_to}
 use Rattle.layout.specs.Nearest.{Stands}
 use Rattle.element_lines.specs.Elements.{element_from, Behind, earlier_tests}
 use Rattle.element_lines.proofs.ElementTests.{first_found, tests_found}
 use Rattle.element_lines.proofs.element_refusal.Goals as goal
 
+module _ (f : Bytes) (a : Attributes) (places : List ℕ) (tree : Tree) (k : Kind) (fs : List Bytes) where
+  -- what the tests look at: whether field 2 is a name, and one of the elements'; whether kind and depth fit; the word's number
+  abbrev named : Bool
+  named = is_name (get_or fs 2 [])
+
+  abbrev known : Bool
+  known = among_names (get_or fs 2 []) (names_to f places tree.len)
+
+  abbrev placed : List Element → Bool
+  placed before = well_placed k (depth_of (get_or fs 1 [])) before
+
+  abbrev number : ℕ
+  number = number_of_word (word_of k (get_or fs 3 []))
+
+  abbrev found : List Element → ℕ
+  found before = first_found named known tree.len a.len (placed before) number
+
+  -- an answer is right if they give it, whatever the elements are that the tree stands for
+  answer : (r : ℕ) → ((before : List Element) → Stands tree before → found before ≡ r) → (s : Sofar) → Behind f a places tree s
+      → r ≡ lowest (earlier_tests s (get_or fs 3 []) (element_from s.attributes k fs))
+  answer r gives s behind = sym (tests_found f a places tree k fs s behind ∙ gives s.before behind.stands)
+
+  -- the tests that are left, once the line passed those before
+  from_place : named ≡ true → known ≡ false → tree.len < 64 → (a.len ≡ 0 → ⊥) → (before : List Element)
+      → found before ≡ lowest ((6, not (placed before)) ∷ (7, eqb number 6) ∷ [])
+  from_place name fresh few some before = rw (name, fresh, lt-leb 64 _ few, ne_eqb _ 0 some)
+
+-- what each call found, by the field that it looked at
+of_name : {name field : Bytes} {r : Bool} → name ≡ field → r ≡ is_name name → is_name field ≡ r
+of_name e r = sym (ap is_name e) ∙ sym r
+
+of_known : (names : List Bytes) {name field : Bytes} {r : Bool} → name ≡ field → r ≡ among_names name names → among_names field names ≡ r
+of_known names e r = sym (ap (λ n. among_names n names) e) ∙ sym r
+
+of_place : (k : Kind) (before : List Element) {d : ℕ} {name field : Bytes} {r : Bool} → name ≡ field → d ≡ depth_of name → r ≡ well_placed k d before → well_placed k (depth_of field) before ≡ r
+of_place k before e depth r = sym (ap (λ d. well_placed k d before) (depth ∙ ap depth_of e)) ∙ sym r
+
+of_word : (k : Kind) {name field : Bytes} {r : ℕ} → name ≡ field → r ≡ number_of_word (word_of k name) → number_of_word (word_of k field) ≡ r
+of_word k e r = sym (ap (λ w. number_of_word (word_of k w)) e) ∙ sym r
+
 pub returns-then-not-is_name : goal.returns-then-not-is_name
 returns-then-not-is_name c =
-    let start : tie.Start = c⟨After-is_name⟩ in
-    let name-found : isNamed (start) ≡ c.is_name.result = sym (ap is_name c.name_field-name.ensures) ∙ sym c.is_name.ensures in
-    answer (start) 3 (λ before stands. rw (name-found ∙ c.if-not-is_name.true))
+    let g = c.args in
+    let unnamed = of_name c.name_field-name.ensures c.is_name.ensures ∙ c.if-not-is_name.true in
+    answer g.file.now g.a g.places.now g.tree g.kind (cut tab g.line.now) 3 (λ before stands. rw unnamed)
 
 pub returns-then-known_element : goal.returns-then-known_element
 returns-then-known_element c =
-    let start : tie.Start = c⟨After-is_name⟩ in
-    let start-2 : tie.Start = start in
-    let name-found : isNamed (start) ≡ c.is_name.result = sym (ap is_name c.name_field-name.ensures) ∙ sym c.is_name.ensures in
-    let known-found : isKnown (start-2) ≡ c.known_element.result = let args = (start-2).args in
-    sym (ap (λ n. among_names n (names_to args.file.now args.places.now args.tree.len)) c.name_field-name.ensures) ∙ sym c.known_element.ensures in
-    let named : isNamed (start) ≡ true = name-found ∙ c.if-not-is_name.false in
-    answer (start-2) 4 (λ before stands. rw (named, known-found ∙ c.if-known_element.true))
+    let g = c.args in
+    let name = of_name c.name_field-name.ensures c.is_name.ensures ∙ c.if-not-is_name.false in
+    let known = of_known (names_to g.file.now g.places.now g.tree.len) c.name_field-name.ensures c.known_element.ensures ∙ c.if-known_element.true in
+    answer g.file.now g.a g.places.now g.tree g.kind (cut tab g.line.now) 4 (λ before stands. rw (name, known))
 
 pub returns-then-tree-ge64 : goal.returns-then-tree-ge64
 returns-then-tree-ge64 c =
-    let start : tie.Start = c⟨After-is_name⟩ in
-    let start-2 : tie.Start = start in
-    let name-found : isNamed (start) ≡ c.is_name.result = sym (ap is_name c.name_field-name.ensures) ∙ sym c.is_name.ensures in
-    let known-found : isKnown (start-2) ≡ c.known_element.result = let args = (start-2).args in
-    sym (ap (λ n. among_names n (names_to args.file.now args.places.now args.tree.len)) c.name_field-name.ensures) ∙ sym c.known_element.ensures in
-    let named : isNamed (start) ≡ true = name-found ∙ c.if-not-is_name.false in
-    let fresh : isKnown (start-2) ≡ false = known-found ∙ c.if-known_element.false in
-    answer (start-2) 5 (λ before stands. rw (named, fresh, le-leb 64 _ c.if-tree-ge64.true))
+    let g = c.args in
+    let name = of_name c.name_field-name.ensures c.is_name.ensures ∙ c.if-not-is_name.false in
+    let fresh = of_known (names_to g.file.now g.places.now g.tree.len) c.name_field-name.ensures c.known_element.ensures ∙ c.if-known_element.false in
+    answer g.file.now g.a g.places.now g.tree g.kind (cut tab g.line.now) 5 (λ before stands. rw (name, fresh, le-leb 64 _ c.if-tree-ge64.true))
 
 pub returns-then-a-eq0 : goal.returns-then-a-eq0
 returns-then-a-eq0 c =
-    let start : tie.Start = c⟨After-is_name⟩ in
-    let start-2 : tie.Start = start in
-    let name-found : isNamed (start) ≡ c.is_name.result = sym (ap is_name c.name_field-name.ensures) ∙ sym c.is_name.ensures in
-    let known-found : isKnown (start-2) ≡ c.known_element.result = let args = (start-2).args in
-    sym (ap (λ n. among_names n (names_to args.file.now args.places.now args.tree.len)) c.name_field-name.ensures) ∙ sym c.known_element.ensures in
-    let named : isNamed (start) ≡ true = name-found ∙ c.if-not-is_name.false in
-    let fresh : isKnown (start-2) ≡ false = known-found ∙ c.if-known_element.false in
-    answer (start-2) 6 (λ before stands. rw (named, fresh, lt-leb 64 _ c.if-tree-ge64.false, eq-eqb _ 0 c.if-a-eq0.true))
+    let g = c.args in
+    let name = of_name c.name_field-name.ensures c.is_name.ensures ∙ c.if-not-is_name.false in
+    let fresh = of_known (names_to g.file.now g.places.now g.tree.len) c.name_field-name.ensures c.known_element.ensures ∙ c.if-known_element.false in
+    answer g.file.now g.a g.places.now g.tree g.kind (cut tab g.line.now) 6 (λ before stands. rw (name, fresh, lt-leb 64 _ c.if-tree-ge64.false, eq-eqb _ 0 c.if-a-eq0.true))
 
 pub returns-then-not-well_placed : goal.returns-then-not-well_placed
 returns-then-not-well_placed c =
-    let start : tie.Start = c⟨After-is_name⟩ in
-    let start-2 : tie.Start = start in
-    let start-4 : tie.Start = start-2 in
-    let start-5 : tie.Start = start-4 in
-    let name-found : isNamed (start) ≡ c.is_name.result = sym (ap is_name c.name_field-name.ensures) ∙ sym c.is_name.ensures in
-    let known-found : isKnown (start-2) ≡ c.known_element.result = let args = (start-2).args in
-    sym (ap (λ n. among_names n (names_to args.file.now args.places.now args.tree.len)) c.name_field-name.ensures) ∙ sym c.known_element.ensures in
-    let place_found : (before : List Element) → Stands (start-5).args.tree before → is_placed (start-5) before ≡ c.well_placed.result = λ before stands. let depth = c.depth_of-depth.ensures.value ∙ ap depth_of c.depth_field.ensures in
-    sym (ap (λ d. well_placed (start-5).args.kind d before) depth) ∙ sym (c.well_placed.ensures before stands) in
-    let named : isNamed (start) ≡ true = name-found ∙ c.if-not-is_name.false in
-    let fresh : isKnown (start-2) ≡ false = known-found ∙ c.if-known_element.false in
-    let from_place : (before : List Element) → found (start-4) before ≡ lowest ((6, not (is_placed (start-4) before)) ∷ (7, eqb (wordNumber (start-4)) 6) ∷ []) = λ before. rw (named, fresh, lt-leb 64 _ c.if-tree-ge64.false, ne_eqb _ 0 c.if-a-eq0.false) in
-    let misplaced = c.if-not-well_placed.true in
-    answer (start-5) 6 (λ before stands. from_place before ∙ rw (place_found before stands ∙ misplaced))
+    let g = c.args in
+    let fs = cut tab g.line.now in
+    let name = of_name c.name_field-name.ensures c.is_name.ensures ∙ c.if-not-is_name.false in
+    let fresh = of_known (names_to g.file.now g.places.now g.tree.len) c.name_field-name.ensures c.known_element.ensures ∙ c.if-known_element.false in
+    answer g.file.now g.a g.places.now g.tree g.kind fs 6
+    (λ before stands.
+    let misplaced = of_place g.kind before c.depth_field.ensures c.depth_of-depth.ensures.value (c.well_placed.ensures before stands) ∙ c.if-not-well_placed.true in
+    from_place g.file.now g.a g.places.now g.tree g.kind fs name fresh c.if-tree-ge64.false c.if-a-eq0.false before ∙ rw misplaced)
 
 pub returns-then-word_number-eq6 : goal.returns-then-word_number-eq6
 returns-then-word_number-eq6 c =
-    let start : tie.Start = c⟨After-is_name⟩ in
-    let start-2 : tie.Start = start in
-    let start-4 : tie.Start = start-2 in
-    let start-5 : tie.Start = start-4 in
-    let start-6 : tie.Start = start-5 in
-    let name-found : isNamed (start) ≡ c.is_name.result = sym (ap is_name c.name_field-name.ensures) ∙ sym c.is_name.ensures in
-    let known-found : isKnown (start-2) ≡ c.known_element.result = let args = (start-2).args in
-    sym (ap (λ n. among_names n (names_to args.file.now args.places.now args.tree.len)) c.name_field-name.ensures) ∙ sym c.known_element.ensures in
-    let place_found : (before : List Element) → Stands (start-5).args.tree before → is_placed (start-5) before ≡ c.well_placed.result = λ before stands. let depth = c.depth_of-depth.ensures.value ∙ ap depth_of c.depth_field.ensures in
-    sym (ap (λ d. well_placed (start-5).args.kind d before) depth) ∙ sym (c.well_placed.ensures before stands) in
-    let word-found : wordNumber (start-6) ≡ c.word_number.result = sym (ap (λ w. number_of_word (word_of (start-6).args.kind w)) c.word_field.ensures) ∙ sym c.word_number.ensures.value in
-    let named : isNamed (start) ≡ true = name-found ∙ c.if-not-is_name.false in
-    let fresh : isKnown (start-2) ≡ false = known-found ∙ c.if-known_element.false in
-    let from_place : (before : List Element) → found (start-4) before ≡ lowest ((6, not (is_placed (start-4) before)) ∷ (7, eqb (wordNumber (start-4)) 6) ∷ []) = λ before. rw (named, fresh, lt-leb 64 _ c.if-tree-ge64.false, ne_eqb _ 0 c.if-a-eq0.false) in
-    let from-word : (before : List Element) → Stands (start-5).args.tree before → found (start-5) before ≡ lowest ((7, eqb (wordNumber (start-5)) 6) ∷ []) = λ before stands. let placed = place_found before stands ∙ c.if-not-well_placed.false in
-    from_place before ∙ rw placed in
-    answer (start-6) 7 (λ before stands. from-word before stands ∙ rw (word-found ∙ c.if-word_number-eq6.true))
+    let g = c.args in
+    let fs = cut tab g.line.now in
+    let name = of_name c.name_field-name.ensures c.is_name.ensures ∙ c.if-not-is_name.false in
+    let fresh = of_known (names_to g.file.now g.places.now g.tree.len) c.name_field-name.ensures c.known_element.ensures ∙ c.if-known_element.false in
+    let word = of_word g.kind c.word_field.ensures c.word_number.ensures.value ∙ c.if-word_number-eq6.true in
+    answer g.file.now g.a g.places.now g.tree g.kind fs 7
+    (λ before stands.
+    let placed = of_place g.kind before c.depth_field.ensures c.depth_of-depth.ensures.value (c.well_placed.ensures before stands) ∙ c.if-not-well_placed.false in
+    from_place g.file.now g.a g.places.now g.tree g.kind fs name fresh c.if-tree-ge64.false c.if-a-eq0.false before ∙ rw (placed, word))
 
 pub returns : goal.returns
 returns c =
-    let start : tie.Start = c⟨After-is_name⟩ in
-    let start-2 : tie.Start = start in
-    let start-4 : tie.Start = start-2 in
-    let start-5 : tie.Start = start-4 in
-    let start-6 : tie.Start = start-5 in
-    let name-found : isNamed (start) ≡ c.is_name.result = sym (ap is_name c.name_field-name.ensures) ∙ sym c.is_name.ensures in
-    let known-found : isKnown (start-2) ≡ c.known_element.result = let args = (start-2).args in
-    sym (ap (λ n. among_names n (names_to args.file.now args.places.now args.tree.len)) c.name_field-name.ensures) ∙ sym c.known_element.ensures in
-    let place_found : (before : List Element) → Stands (start-5).args.tree before → is_placed (start-5) before ≡ c.well_placed.result = λ before stands. let depth = c.depth_of-depth.ensures.value ∙ ap depth_of c.depth_field.ensures in
-    sym (ap (λ d. well_placed (start-5).args.kind d before) depth) ∙ sym (c.well_placed.ensures before stands) in
-    let word-found : wordNumber (start-6) ≡ c.word_number.result = sym (ap (λ w. number_of_word (word_of (start-6).args.kind w)) c.word_field.ensures) ∙ sym c.word_number.ensures.value in
-    let named : isNamed (start) ≡ true = name-found ∙ c.if-not-is_name.false in
-    let fresh : isKnown (start-2) ≡ false = known-found ∙ c.if-known_element.false in
-    let from_place : (before : List Element) → found (start-4) before ≡ lowest ((6, not (is_placed (start-4) before)) ∷ (7, eqb (wordNumber (start-4)) 6) ∷ []) = λ before. rw (named, fresh, lt-leb 64 _ c.if-tree-ge64.false, ne_eqb _ 0 c.if-a-eq0.false) in
-    let from-word : (before : List Element) → Stands (start-5).args.tree before → found (start-5) before ≡ lowest ((7, eqb (wordNumber (start-5)) 6) ∷ []) = λ before stands. let placed = place_found before stands ∙ c.if-not-well_placed.false in
-    from_place before ∙ rw placed in
-    answer (start-6) 0 (λ before stands. from-word before stands ∙ rw (word-found, ne_eqb _ 6 c.if-word_number-eq6.false))
+    let g = c.args in
+    let fs = cut tab g.line.now in
+    let name = of_name c.name_field-name.ensures c.is_name.ensures ∙ c.if-not-is_name.false in
+    let fresh = of_known (names_to g.file.now g.places.now g.tree.len) c.name_field-name.ensures c.known_element.ensures ∙ c.if-known_element.false in
+    let word = of_word g.kind c.word_field.ensures c.word_number.ensures.value in
+    answer g.file.now g.a g.places.now g.tree g.kind fs 0
+    (λ before stands.
+    let placed = of_place g.kind before c.depth_field.ensures c.depth_of-depth.ensures.value (c.well_placed.ensures before stands) ∙ c.if-not-well_placed.false in
+    from_place g.file.now g.a g.places.now g.tree g.kind fs name fresh c.if-tree-ge64.false c.if-a-eq0.false before ∙ rw (placed, word, ne_eqb _ 6 c.if-word_number-eq6.false))

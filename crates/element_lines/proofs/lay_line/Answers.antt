@@ -7,7 +7,6 @@ use Rattle.meaning.specs.Reading.{depth_of, word_of}
 use Rattle.syntax.specs.Fields.{number_of_word}
 use Rattle.layout.specs.Nearest.{grown}
 use Rattle.element_lines.proofs.TreeLines.{same_row, same_end}
-use borrow.Author.Rules.{rules}
 use Rattle.element_lines.proofs.lay_line.Goals as goal
 
 pub overflow_add-at-2 : goal.overflow_add-at-2
@@ -28,4 +27,8 @@ returns c =
     let word = c.word_number-word.ensures.value ∙ ap (λ w. number_of_word (word_of args.kind w)) c.word_field.ensures in
     let laid = c.put_element.ensures in
     let tree = c.with_element-tree.ensures ∙ ap (grown args.st.tree args.kind) depth in
-    (rw tree, (laid.table_after ∙ same_row args.table.now args.st.tree.len word depth args.masks, laid.places_after ∙ same_end args.places.now (2 * args.st.tree.len) args.st.at c.name_field-name.ensures))
+    record {
+      value = rw tree;
+      table_after = laid.table_after ∙ same_row args.table.now args.st.tree.len word depth args.masks;
+      places_after = laid.places_after ∙ same_end args.places.now (2 * args.st.tree.len) args.st.at c.name_field-name.ensures;
+    }

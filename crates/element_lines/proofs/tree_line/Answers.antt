@@ -1,9 +1,8 @@
 -- `tree_line` meets its contract. Each answer is a step of `TreeSteps`, by what was found on the way to it.
-use Prim.Native.Nat.{ℕ, ◌<◌}
+use Prim.Native.Nat.{ℕ}
 use mathlib.Core.Path.{refl, sym, ◌∙◌}
 use mathlib.Core.List.{List}
 use native.Mathlib.Omega.{arith}
-use borrow.Author.Rules.{rules}
 use borrow.Author.Tests.{not-true, not-false}
 use Rattle.layout.proofs.Laws.{element_names}
 use Rattle.attribute_lines.specs.declared.State.{State}
@@ -23,49 +22,42 @@ returns-then-fields-attributes c =
 
 pub field_ends-e-requires : goal.field_ends-e-requires
 field_ends-e-requires c =
-    let start : tie.Start = c⟨Else1⟩ in
-    omega (arith, (start).requires.2.count)
+    omega (arith, c.requires.2.count)
 
 pub element_refusal-refusal-requires : goal.element_refusal-refusal-requires
 element_refusal-refusal-requires c =
-    let start : tie.Start = c⟨Else1⟩ in
-    let pre = (start).requires in
+    let pre = c.requires in
     (pre.0.rooms.named, pre.0.in_file.shallow, c.field_ends-e.ensures.headed, (_, behind pre.0))
 
 pub returns-then-refusal-ne0 : goal.returns-then-refusal-ne0
 returns-then-refusal-ne0 c =
-    let start : tie.Start = c⟨Else1⟩ in
-    let pre = (start).requires in
+    let pre = c.requires in
     let lowest = c.element_refusal-refusal.ensures _ (behind pre.0) in
     earlier_told _ _ _ _ _ _ _ pre.0 pre.1 pre.2 c.if-fields-attributes.false _ lowest c.if-refusal-ne0.true
 
 pub line_masks-m-requires : goal.line_masks-m-requires
 line_masks-m-requires c =
-    let start : tie.Start = c⟨Else1⟩ in
-    let pre = (start).requires in
+    let pre = c.requires in
     let lowest = c.element_refusal-refusal.ensures _ (behind pre.0) in
     let attributes = pre.0.in_file.attributes in
     (attributes.standing, attributes.few_values, some_attribute _ _ _ _ _ _ _ pre.0 pre.1 pre.2 c.if-fields-attributes.false _ lowest c.if-refusal-ne0.false, sym pre.2.count ∙ c.if-fields-attributes.false, c.field_ends-e.ensures.headed)
 
 pub returns-then-not-m : goal.returns-then-not-m
 returns-then-not-m c =
-    let start : tie.Start = c⟨Else1⟩ in
-    let pre = (start).requires in
+    let pre = c.requires in
     let lowest = c.element_refusal-refusal.ensures _ (behind pre.0) in
-    targets_told _ _ _ _ _ _ _ pre.0 pre.1 pre.2 c.if-fields-attributes.false _ lowest c.if-refusal-ne0.false c.line_masks-m.ensures (c.if-not-m.true)
+    targets_told _ _ _ _ _ _ _ pre.0 pre.1 pre.2 c.if-fields-attributes.false _ lowest c.if-refusal-ne0.false c.line_masks-m.ensures (not-true _ c.if-not-m.true)
 
 pub lay_line-state-requires : goal.lay_line-state-requires
 lay_line-state-requires c =
-    let start : tie.Start = c⟨Else1⟩ in
-    let pre = (start).requires in
+    let pre = c.requires in
     let lowest = c.element_refusal-refusal.ensures _ (behind pre.0) in
-    (room_there _ _ _ _ _ _ _ pre.0 pre.1 pre.2 c.if-fields-attributes.false _ lowest c.if-refusal-ne0.false (ends_low (start)), c.field_ends-e.ensures.headed)
+    (room_there _ _ _ _ _ _ _ pre.0 pre.1 pre.2 c.if-fields-attributes.false _ lowest c.if-refusal-ne0.false (omega (arith, pre.1.ends)), c.field_ends-e.ensures.headed)
 
 pub returns : goal.returns
 returns c =
-    let start : tie.Start = c⟨Else1⟩ in
-    let pre = (start).requires in
+    let pre = c.requires in
     let lowest = c.element_refusal-refusal.ensures _ (behind pre.0) in
-    let good = c.if-not-m.false in
+    let good = not-false _ c.if-not-m.false in
     let put = c.lay_line-state.ensures in
-    tree_told _ _ _ _ _ _ _ pre.0 pre.1 pre.2 c.if-fields-attributes.false _ lowest c.if-refusal-ne0.false c.line_masks-m.ensures _ _ _ good put.value put.table_after.0 put.table_after.1
+    tree_told _ _ _ _ _ _ _ pre.0 pre.1 pre.2 c.if-fields-attributes.false _ lowest c.if-refusal-ne0.false c.line_masks-m.ensures _ _ _ good put.value put.table_after put.places_after

@@ -1,6 +1,5 @@
 -- `fields::place_after` meets its contract.
 use borrow.Author.Tests.{lt-ltb, le-ltb}
-use borrow.Author.Rules.{rules}
 use Rattle.fields.proofs.place_after.Goals as goal
 
 pub returns-then-line-at : goal.returns-then-line-at

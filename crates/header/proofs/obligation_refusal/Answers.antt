@@ -1,10 +1,8 @@
 -- `obligation_refusal` meets its contract: the law of each of its refusals.
 use mathlib.Core.Path.{sym, ap, ◌∙◌}
 use lib.Dec.{lit≤}
-use borrow.Author.Tests.{not-true, not-false}
 use Rattle.meaning.specs.Text.{is_name}
 use Rattle.header.proofs.HeaderLines.{not_three_refused, bad_name_refused, no_element_refused}
-use borrow.Author.Rules.{rules}
 use Rattle.header.proofs.obligation_refusal.Goals as goal
 
 pub returns-then-fields-ne3 : goal.returns-then-fields-ne3

@@ -1,9 +1,6 @@
 -- `read_header` meets its contract. The loop keeps that the lines left, read behind what was read so far, are the whole; the measure is the bytes left.
-use Prim.Native.Nat.{◌-◌}
 use native.Mathlib.Omega.{arith}
-use lib.ListN.{length}
-use Rattle.header.proofs.HeaderLoop.{Keeps, too_long, keeps_first, left_over, all_read, refused_here, keeps_next}
-use borrow.Author.Rules.{rules}
+use Rattle.header.proofs.HeaderLoop.{too_long, keeps_first, left_over, all_read, refused_here, keeps_next}
 use Rattle.header.proofs.read_header.Goals as goal
 
 pub returns-then-header-gt16384 : goal.returns-then-header-gt16384

@@ -1,5 +1,4 @@
 -- `refuse` meets its contract: it has no attribute.
-use borrow.Author.Rules.{rules}
 use Rattle.header.proofs.refuse.Goals as goal
 
 pub returns : goal.returns

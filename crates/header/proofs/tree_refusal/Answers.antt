@@ -2,10 +2,8 @@
 use Prim.Native.Nat.{◌+◌}
 use mathlib.Core.Path.{sym, ap, ◌∙◌}
 use lib.Dec.{lit≤}
-use borrow.Author.Tests.{not-true, not-false}
 use Rattle.meaning.specs.Text.{is_name}
 use Rattle.header.proofs.HeaderLines.{count_refused, name_refused, place_refused}
-use borrow.Author.Rules.{rules}
 use Rattle.header.proofs.tree_refusal.Goals as goal
 
 pub returns-then-fields-attributes : goal.returns-then-fields-attributes

@@ -26,13 +26,13 @@ pub returns-then-several-i : goal.returns-then-several-i
 returns-then-several-i c =
     let a = attribute_at c.args.first.now c.args.a c.args.i in
     let b = attribute_at c.args.second.now c.args.b c.args.j in
-    let named = c.has_name.ensures ∙ ap (λ c. same_name c⟨Then2⟩ a.name) c.attribute_name.ensures in
+    let named = c.has_name.ensures ∙ ap (λ n. same_name n a.name) c.attribute_name.ensures in
     other_letter b a (sym named ∙ c.if-not-has_name.false) c.if-several-i.true
 
 pub returns : goal.returns
 returns c =
     let a = attribute_at c.args.first.now c.args.a c.args.i in
     let b = attribute_at c.args.second.now c.args.b c.args.j in
-    let named = c.has_name.ensures ∙ ap (λ c. same_name c⟨After-same⟩ a.name) c.attribute_name.ensures in
+    let named = c.has_name.ensures ∙ ap (λ n. same_name n a.name) c.attribute_name.ensures in
     ap not c.same.ensures ∙ by_values b a (sym named ∙ c.if-not-has_name.false) c.if-several-i.false
     (valuesIn c.args.first.now c.args.a c.args.i) (valuesIn c.args.second.now c.args.b c.args.j) refl refl

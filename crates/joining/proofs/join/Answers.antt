@@ -17,7 +17,8 @@ refusal-requires c = small_numbers _ _ _ _ c.read-reading.ensures.answer c.if-re
 pub returns-then-reading-ne0 : goal.returns-then-reading-ne0
 returns-then-reading-ne0 c =
     let args = c.args in
-    second_refused args.first.now args.second.now args.word.now args.out.now args.a args.from c.requires _ _ (file_refused _ _ _ _ c.read-reading.ensures.answer c.if-reading-ne0.true) c.refusal.ensures
+    let both = second_refused args.first.now args.second.now args.word.now args.out.now args.a args.from c.requires _ _ (file_refused _ _ _ _ c.read-reading.ensures.answer c.if-reading-ne0.true) c.refusal.ensures in
+    record { value = both.0; out_after = both.1 }
 
 pub join_both-requires : goal.join_both-requires
 join_both-requires c =

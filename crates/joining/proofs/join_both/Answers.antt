@@ -8,13 +8,14 @@ use Rattle.joining.proofs.join_both.Goals as goal
 pub returns-then-line-ne0 : goal.returns-then-line-ne0
 returns-then-line-ne0 c =
     let args = c.args in
-    differs_told args.word.now args.first.now args.second.now args.a args.b args.from args.other c.requires.0 c.requires.1 _ c.first_differing-line.ensures.value args.out.now c.if-line-ne0.true
+    let both = differs_told args.word.now args.first.now args.second.now args.a args.b args.from args.other c.requires.0 c.requires.1 _ c.first_differing-line.ensures.value args.out.now c.if-line-ne0.true in
+    record { value = both.0; out_after = both.1 }
 
 pub returns-then-word_number-eq6 : goal.returns-then-word_number-eq6
 returns-then-word_number-eq6 c =
     let args = c.args in
-    no_word_told args.word.now args.first.now args.second.now args.a args.b args.from args.other c.requires.0 c.requires.1 _ c.first_differing-line.ensures.value args.out.now c.if-line-ne0.false
-    _ c.word_number.ensures.value c.if-word_number-eq6.true _ c.places_in-joined.ensures.value
+    let both = no_word_told args.word.now args.first.now args.second.now args.a args.b args.from args.other c.requires.0 c.requires.1 _ c.first_differing-line.ensures.value args.out.now c.if-line-ne0.false _ c.word_number.ensures.value c.if-word_number-eq6.true _ c.places_in-joined.ensures.value in
+    record { value = both.0; out_after = both.1 }
 
 pub put_joined-needed-requires : goal.put_joined-needed-requires
 put_joined-needed-requires c =
@@ -23,8 +24,8 @@ put_joined-needed-requires c =
 pub returns-then-needed-gt16384 : goal.returns-then-needed-gt16384
 returns-then-needed-gt16384 c =
     let args = c.args in
-    too_long_told args.word.now args.first.now args.second.now args.a args.b args.from args.other c.requires.0 c.requires.1 _ c.first_differing-line.ensures.value args.out.now c.if-line-ne0.false
-    _ c.word_number.ensures.value c.if-word_number-eq6.false c.put_joined-needed.ensures c.if-needed-gt16384.true
+    let both = too_long_told args.word.now args.first.now args.second.now args.a args.b args.from args.other c.requires.0 c.requires.1 _ c.first_differing-line.ensures.value args.out.now c.if-line-ne0.false _ c.word_number.ensures.value c.if-word_number-eq6.false c.put_joined-needed.ensures c.if-needed-gt16384.true in
+    record { value = both.0; out_after = both.1 }
 
 pub slice_bounds-accept-end : goal.slice_bounds-accept-end
 slice_bounds-accept-end c = laid_part c.put_joined-needed.ensures (omega (arith, c.if-needed-gt16384.false))
@@ -35,5 +36,5 @@ accept-requires c = omega (arith, laid_part c.put_joined-needed.ensures (omega (
 pub returns : goal.returns
 returns c =
     let args = c.args in
-    text_joined args.word.now args.first.now args.second.now args.a args.b args.from args.other c.requires.0 c.requires.1 _ c.first_differing-line.ensures.value args.out.now c.if-line-ne0.false
-    _ c.word_number.ensures.value c.if-word_number-eq6.false c.put_joined-needed.ensures (omega (arith, c.if-needed-gt16384.false)) c.accept.ensures
+    let both = text_joined args.word.now args.first.now args.second.now args.a args.b args.from args.other c.requires.0 c.requires.1 _ c.first_differing-line.ensures.value args.out.now c.if-line-ne0.false _ c.word_number.ensures.value c.if-word_number-eq6.false c.put_joined-needed.ensures (omega (arith, c.if-needed-gt16384.false)) c.accept.ensures in
+    record { value = both.0; out_after = both.1 }

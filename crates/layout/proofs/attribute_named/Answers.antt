@@ -1,11 +1,10 @@
 -- `attribute_named` meets its contract. The loop keeps the answer: the attributes passed, and the place among those from `i` on.
-use Prim.Native.Nat.{◌+◌, ◌-◌, ◌≤◌}
+use Prim.Native.Nat.{◌+◌}
 use mathlib.Core.Path.{◌≡◌, sym, ap, ◌∙◌}
 use native.Mathlib.Nat.{sub-zero, add-zero}
 use native.Mathlib.Omega.{arith}
 use borrow.Author.Rules.{rules}
 use Rattle.meaning.specs.Joining.{place_in}
-use Rattle.layout.specs.Places.{attributes_of, attributes_from}
 use Rattle.layout.proofs.Names.{attributes_end, attributes_next}
 use Rattle.layout.proofs.attribute_named.Goals as goal
 

@@ -5,7 +5,6 @@ use native.Mathlib.Nat.{one-mul}
 use native.Mathlib.Omega.{arith}
 use lib.Dec.{lit<}
 use lib.Pow.{shl_exact, pow_pos}
-use borrow.Author.Rules.{rules}
 use Rattle.layout.proofs.choices.Goals as goal
 
 pub overflow_sub-result : goal.overflow_sub-result

@@ -1,6 +1,5 @@
 -- `has_name`: the name that stands there is compared. Assumes nothing.
 use mathlib.Core.Path.{ap, ◌∙◌}
-use borrow.Author.Rules.{rules}
 use Rattle.meaning.specs.Text.{same_name}
 use Rattle.layout.proofs.has_name.Goals as goal
 

@@ -1,24 +1,26 @@
 -- `has_obligation` meets its contract: the name lies in the file.
 use Prim.Native.Nat.{ℕ, zero, suc, ◌+◌, ◌≤◌, ◌<◌}
-use mathlib.Core.Path.{◌≡◌}
 use mathlib.Core.Logic.{◌≢◌}
 use native.Mathlib.Omega.{arith}
+use mathlib.Core.List.{List}
 use lib.ListN.{length}
 use borrow.Author.Rules.{rules}
-use Rattle.layout.specs.Places.{obligation_start, obligation_end}
+use Rattle.meaning.specs.Text.{Bytes}
+use Rattle.layout.specs.Places.{obligation_start, obligation_end, Obliged}
 use Rattle.layout.proofs.has_obligation.Goals as goal
 
+within : (end size : ℕ) → (end ≢ 0 → end + 1 < size) → end ≤ size
+within zero size h = omega arith
+within (suc end) size h = omega (arith, h (λ e. omega arith))
+
+lies : {f : Bytes} {places : List ℕ} {i : ℕ} (k : ℕ) → Obliged f places i → k < 2 → (obligation_start places i k ≤ obligation_end places i k) × (obligation_end places i k ≤ length f)
+lies k obliged place = (obliged.starts k place, within _ _ (obliged.ends k place))
+
 pub slice_bounds-same_name-count : goal.slice_bounds-same_name-count
-slice_bounds-same_name-count c =
-    let start : tie.Start = c⟨After-shared_slice_known5⟩ in
-    (lies (start)).0
+slice_bounds-same_name-count c = (lies c.args.k c.requires.0 c.requires.1).0
 
 pub slice_bounds-same_name-start : goal.slice_bounds-same_name-start
-slice_bounds-same_name-start c =
-    let start : tie.Start = c⟨After-shared_slice_known5⟩ in
-    let (starts, ends) = lies (start) in search rules
+slice_bounds-same_name-start c = let (starts, ends) = lies c.args.k c.requires.0 c.requires.1 in search rules
 
 pub slice_bounds-same_name-end : goal.slice_bounds-same_name-end
-slice_bounds-same_name-end c =
-    let start : tie.Start = c⟨After-shared_slice_known5⟩ in
-    let (starts, ends) = lies (start) in search rules
+slice_bounds-same_name-end c = let (starts, ends) = lies c.args.k c.requires.0 c.requires.1 in search rules

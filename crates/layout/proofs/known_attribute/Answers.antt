@@ -1,7 +1,6 @@
 -- `known_attribute`: a name is known if its place is one of the attributes. Assumes nothing.
-use mathlib.Core.Path.{ap, ap₂, sym, ◌∙◌}
+use mathlib.Core.Path.{ap₂, sym, ◌∙◌}
 use lib.Dec.{ltb}
-use borrow.Author.Rules.{rules}
 use Rattle.layout.specs.Places.{attributes_of}
 use Rattle.layout.proofs.Names.{declared_place}
 use Rattle.layout.proofs.Laws.{attributes_length}

@@ -1,7 +1,6 @@
 -- `known_element` meets its contract: a name is known if an element that has it is found.
 use mathlib.Core.Path.{ap, ◌∙◌}
 use lib.Dec.{ltb}
-use borrow.Author.Rules.{rules}
 use Rattle.layout.proofs.Names.{among_named}
 use Rattle.layout.proofs.known_element.Goals as goal
 

@@ -1,7 +1,6 @@
 -- `put_obligation` meets its contract: the two numbers go one after the other.
 use native.Mathlib.Omega.{arith}
 use native.Mathlib.Numerals.{add-one}
-use borrow.Author.Rules.{rules}
 use lib.ListN.{length-set}
 use Rattle.layout.proofs.put_obligation.Goals as goal
 

@@ -1,11 +1,10 @@
 -- `sizes`: those still to come, laid behind those that are there, are all.
-use Prim.Native.Nat.{◌+◌, ◌-◌, ◌≤◌}
-use mathlib.Core.Path.{◌≡◌, sym, ap, ◌∙◌}
+use Prim.Native.Nat.{◌+◌, ◌-◌}
+use mathlib.Core.Path.{sym, ap, ◌∙◌}
 use native.Mathlib.Omega.{arith}
-use lib.ListN.{length, set, length-set}
+use lib.ListN.{set, length-set}
 use lib.Seq.{sets}
 use borrow.Author.Rules.{rules}
-use Rattle.meaning.specs.Model.{padded}
 use Rattle.layout.specs.Places.{sizes_from, sizes_of}
 use Rattle.layout.proofs.Counts.{sizes_start, sizes_more, sizes_end}
 use Rattle.layout.proofs.sizes.Goals as goal

@@ -1,13 +1,10 @@
 -- `sizes`: those still to come, laid behind those that are there, are all.
-use Prim.Native.Nat.{◌+◌, ◌-◌, ◌≤◌}
-use mathlib.Core.Path.{◌≡◌, sym, ap, ◌∙◌}
-use native.Mathlib.Omega.{arith}
-use lib.ListN.{length, set, length-set}
+use Prim.Native.Nat.{◌-◌, ◌≤◌}
+use mathlib.Core.Path.{◌≡◌}
+use lib.ListN.{length}
 use lib.Seq.{sets}
-use borrow.Author.Rules.{rules}
 use Rattle.meaning.specs.Model.{padded}
-use Rattle.layout.specs.Places.{sizes_from, sizes_of}
-use Rattle.layout.proofs.Counts.{sizes_start, sizes_more, sizes_end}
+use Rattle.layout.specs.Places.{sizes_from}
 use Rattle.layout.proofs.sizes.Given as goal
 
 abbrev pub invariant-loop-i : goal.invariant-loop-i

@@ -1,7 +1,6 @@
 -- `well_placed` meets its contract: a law for each answer.
 use native.Mathlib.Omega.{arith}
 use Rattle.layout.proofs.Placing.{first_deep, first_top, later_top, later_deep, later_jump, later_held}
-use borrow.Author.Rules.{rules}
 use Rattle.layout.proofs.well_placed.Goals as goal
 
 pub returns-then-depth-ne0 : goal.returns-then-depth-ne0

@@ -1,5 +1,4 @@
 -- `with_element` meets its contract: the kind's number goes to its depth.
-use borrow.Author.Rules.{rules}
 use Rattle.layout.proofs.with_element.Goals as goal
 
 pub returns : goal.returns

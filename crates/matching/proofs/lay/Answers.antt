@@ -1,8 +1,7 @@
 -- `lay`: the words before w are laid, the others as they were. Assumes nothing.
-use Prim.Native.Nat.{◌-◌, ◌≤◌}
 use native.Mathlib.Omega.{arith}
 use borrow.Author.Rules.{rules}
-use Rattle.matching.proofs.Laying.{Lays, lays_none, lays_next, lays_all}
+use Rattle.matching.proofs.Laying.{lays_none, lays_next, lays_all}
 use Rattle.matching.proofs.lay.Goals as goal
 
 pub loop-w-init : goal.loop-w-init
@@ -11,7 +10,7 @@ loop-w-init c = (search rules, lays_none c.args.plane.now c.args.at c.args.to.no
 pub loop-w-preserved : goal.loop-w-preserved
 loop-w-preserved c =
     let turn = c.loop-w in
-    (search rules, lays_next c.args.plane.now c.args.at c.args.to.now turn.to turn.w c.word_Moved.result turn.invariant.1 turn.invariant.0 (omega arith) c.word_Moved.ensures)
+    (search rules, lays_next c.args.plane.now c.args.at c.args.to.now turn.to turn.w c.word_moved.result turn.invariant.1 turn.invariant.0 (omega arith) c.word_moved.ensures)
 
 pub returns : goal.returns
 returns c =

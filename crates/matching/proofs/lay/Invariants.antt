@@ -1,8 +1,6 @@
 -- `lay`: the words before w are laid, the others as they were. Assumes nothing.
 use Prim.Native.Nat.{◌-◌, ◌≤◌}
-use native.Mathlib.Omega.{arith}
-use borrow.Author.Rules.{rules}
-use Rattle.matching.proofs.Laying.{Lays, lays_none, lays_next, lays_all}
+use Rattle.matching.proofs.Laying.{Lays}
 use Rattle.matching.proofs.lay.Given as goal
 
 abbrev pub invariant-loop-w : goal.invariant-loop-w

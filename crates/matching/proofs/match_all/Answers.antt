@@ -1,11 +1,9 @@
 -- `match_all`: the words of the first i elements are right. Assumes nothing.
-use Prim.Native.Nat.{◌+◌, ◌-◌, ◌*◌, ◌/◌, ◌≤◌}
+use Prim.Native.Nat.{◌+◌, ◌*◌, ◌/◌}
 use mathlib.Core.Path.{◌≡◌, refl, ◌∙◌}
 use native.Mathlib.Omega.{arith}
 use borrow.Author.Rules.{rules}
 use lib.ListN.{length}
-use Rattle.table.specs.Shape.{hit_of}
-use Rattle.matching.specs.Hits.{Hits, Rest}
 use Rattle.matching.proofs.Copying.{copied_is, rest_none, rest_next}
 use Rattle.matching.proofs.Targets.{hits_none, hits_next}
 use Rattle.matching.proofs.match_all.Goals as goal
@@ -22,11 +20,11 @@ loop-i-preserved c =
     let own = c.masks_at in
     let masks = c.match_masks-plane in
     let wide : length masks.result ≡ 64 = search rules in
-    let copied = copied_is masks.result ((shape.space + 63) / 64) (64 * turn.i) turn.hits put.new.1.1.1.0 put.ensures (omega arith) (omega arith) in (
+    let copied = copied_is masks.result ((shape.space + 63) / 64) (64 * turn.i) turn.hits put.new.hits put.ensures (omega arith) (omega arith) in (
       omega arith,
-      put.auto.1.1.1.0 ∙ turn.invariant.1,
+      put.auto.hits ∙ turn.invariant.1,
       hits_next t shape (omega arith) (omega arith) turn.invariant.2 own.ensures (λ m l. masks.ensures.bits m (omega (arith, c.requires.counted.all))) copied,
-      rest_next shape.space c.args.hits.now c.requires.small (λ m a b. masks.ensures.clear m (omega (arith, c.requires.counted.all)) b) put.auto.1.1.1.0 copied turn.invariant.3,
+      rest_next shape.space c.args.hits.now c.requires.small (λ m a b. masks.ensures.clear m (omega (arith, c.requires.counted.all)) b) put.auto.hits copied turn.invariant.3,
     )
 
 pub returns : goal.returns

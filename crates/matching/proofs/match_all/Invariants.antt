@@ -1,13 +1,9 @@
 -- `match_all`: the words of the first i elements are right. Assumes nothing.
-use Prim.Native.Nat.{◌+◌, ◌-◌, ◌*◌, ◌/◌, ◌≤◌}
-use mathlib.Core.Path.{◌≡◌, refl, ◌∙◌}
-use native.Mathlib.Omega.{arith}
-use borrow.Author.Rules.{rules}
+use Prim.Native.Nat.{◌-◌, ◌≤◌}
+use mathlib.Core.Path.{◌≡◌}
 use lib.ListN.{length}
 use Rattle.table.specs.Shape.{hit_of}
 use Rattle.matching.specs.Hits.{Hits, Rest}
-use Rattle.matching.proofs.Copying.{copied_is, rest_none, rest_next}
-use Rattle.matching.proofs.Targets.{hits_none, hits_next}
 use Rattle.matching.proofs.match_all.Given as goal
 
 abbrev pub invariant-loop-i : goal.invariant-loop-i

@@ -4,7 +4,7 @@ use native.Mathlib.Omega.{arith}
 use mathlib.Core.Path.{◌≡◌}
 use lib.ListN.{length}
 use borrow.Author.Rules.{rules}
-use Rattle.matching.proofs.Targets.{Looks, looks_none, size_some, count_some, next_small, looks_next}
+use Rattle.matching.proofs.Targets.{looks_none, size_some, count_some, next_small, looks_next}
 use Rattle.matching.proofs.match_masks.Goals as goal
 
 pub loop-a-init : goal.loop-a-init

@@ -1,10 +1,7 @@
 -- `match_masks`: the plane has the requests of the attributes looked at. Assumes nothing.
-use Prim.Native.Nat.{◌-◌}
-use native.Mathlib.Omega.{arith}
 use mathlib.Core.Path.{◌≡◌}
 use lib.ListN.{length}
-use borrow.Author.Rules.{rules}
-use Rattle.matching.proofs.Targets.{Looks, looks_none, size_some, count_some, next_small, looks_next}
+use Rattle.matching.proofs.Targets.{Looks}
 use Rattle.matching.proofs.match_masks.Given as goal
 
 abbrev pub invariant-loop-a : goal.invariant-loop-a

@@ -1,5 +1,4 @@
 -- `moved`: the bits of the word come from below, those of the word before it from above. Assumes nothing.
-use borrow.Author.Rules.{rules}
 use Rattle.matching.proofs.Moving.{moved}
 use Rattle.matching.proofs.moved.Goals as goal
 

@@ -1,7 +1,6 @@
 -- `spread`: by values or by sets, as the attribute has them. Assumes nothing.
 use mathlib.Core.Path.{◌≡◌}
 use mathlib.Core.Bool.{true, false}
-use borrow.Author.Rules.{rules}
 use Rattle.matching.proofs.spread.Goals as goal
 
 pub returns-then-several : goal.returns-then-several

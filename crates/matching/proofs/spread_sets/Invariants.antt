@@ -1,10 +1,8 @@
 -- `spread_sets`: the sets of the values looked at are right, and the plane stands once for each of them and once more. Assumes nothing.
 use Prim.Native.Nat.{ℕ, ◌-◌}
 use mathlib.Core.Path.{◌≡◌}
-use native.Mathlib.Omega.{arith}
 use lib.ListN.{length}
-use borrow.Author.Rules.{rules}
-use Rattle.matching.proofs.Doubling.{Doubles, doubles_none, copies_some, copies_small, with_value_fits, next_sets, sets_all, copies_fit, doubles_next}
+use Rattle.matching.proofs.Doubling.{Doubles}
 use Rattle.matching.proofs.spread_sets.Given as goal
 
 abbrev pub invariant-loop-copies : goal.invariant-loop-copies

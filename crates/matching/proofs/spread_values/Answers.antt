@@ -1,11 +1,10 @@
 -- `spread_values`: the first v values are looked at, and no bit behind their requests is set. Assumes nothing.
-use Prim.Native.Nat.{◌-◌, ◌≤◌}
 use native.Mathlib.Omega.{arith}
 use borrow.Author.Rules.{rules}
-use mathlib.Core.Logic.{⊎_elim}
 use mathlib.Core.Path.{◌∙◌}
-use Rattle.matching.proofs.Spreading.{Spreads, spreads_none, next_room, spreads_set, spreads_skip, value_in, value_out, spreads_all}
+use Rattle.matching.proofs.Spreading.{spreads_none, next_room, spreads_set, spreads_skip, value_in, value_out, spreads_all}
 use Rattle.matching.proofs.spread_values.Goals as goal
+use Rattle.matching.proofs.spread_values.Goals.{then-rest-eq1, else-rest-eq1}
 
 pub loop-v-init : goal.loop-v-init
 loop-v-init c = (search rules, spreads_none _ _ _)
@@ -27,10 +26,10 @@ loop-v-preserved c =
     let so_far = turn.invariant.1 in
     let room = c.requires.1 in (
       omega arith,
-      ⊎_elim
-          (λ w. rw w.4 (spreads_set _ _ _ _ _ _ _ _ so_far more room _ (w.2.kept.1.1.1.0 ∙ so_far.words) c.requires.2 (value_in _ _ _ _ _ _ _ _ so_far more room w.0.taken) w.2.ensures))
-          (λ w. rw w.1 (spreads_skip _ _ _ _ _ _ _ _ so_far more room (value_out _ _ _ _ _ _ _ _ so_far more room w.0.left)))
-          c.if-rest-eq1.branch,
+      elim c.if-rest-eq1.branch [
+        | then-rest-eq1 w ↦ rw w.to-is (spreads_set _ _ _ _ _ _ _ _ so_far more room _ (w.lay.auto.to ∙ so_far.words) c.requires.2 (value_in _ _ _ _ _ _ _ _ so_far more room w.if-rest-eq1.true) w.lay.ensures)
+        | else-rest-eq1 w ↦ rw w.to-is (spreads_skip _ _ _ _ _ _ _ _ so_far more room (value_out _ _ _ _ _ _ _ _ so_far more room w.if-rest-eq1.false))
+      ],
     )
 
 pub returns : goal.returns

@@ -1,7 +1,6 @@
 -- `with_value`: one plane laid over another, as the value is in the mask or not. Assumes nothing.
 use mathlib.Core.Path.{◌≡◌}
 use mathlib.Core.Bool.{true, false}
-use borrow.Author.Rules.{rules}
 use Rattle.matching.proofs.with_value.Goals as goal
 
 pub returns-then-taken : goal.returns-then-taken

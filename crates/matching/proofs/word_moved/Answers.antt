@@ -1,5 +1,4 @@
 -- `word_moved`: the first word has none before it. Assumes nothing.
-use borrow.Author.Rules.{rules}
 use native.Mathlib.Omega.{arith}
 use Rattle.matching.proofs.Moving.{word_first, word_later}
 use Rattle.matching.proofs.word_moved.Goals as goal

@@ -1,7 +1,6 @@
 -- `child_replies`: a rule gives its effect where it matches. Assumes nothing.
 use mathlib.Core.Path.{sym, ap₂, ◌∙◌}
 use native.Mathlib.Omega.{arith}
-use borrow.Author.Rules.{rules}
 use Rattle.moves.specs.Moved.{effect_reply}
 use Rattle.moves.proofs.Rules.{rule_reply}
 use Rattle.moves.proofs.child_replies.Goals as goal

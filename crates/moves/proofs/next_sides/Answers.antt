@@ -1,5 +1,4 @@
 -- `next_sides`: a step without the rule, then one of the rule or of the other side. Assumes nothing.
-use borrow.Author.Rules.{rules}
 use Rattle.moves.proofs.next_sides.Goals as goal
 
 pub returns-then-earlier : goal.returns-then-earlier

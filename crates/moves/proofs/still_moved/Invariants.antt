@@ -1,21 +1,14 @@
 -- `still_moved`: each bit of the two sides says what the children passed give, as long as they are apart. Assumes nothing.
-use Prim.Native.Nat.{ℕ, ◌+◌, ◌-◌, ◌≤◌, ◌<◌}
-use mathlib.Core.Path.{◌≡◌, sym, ap, ap₂, ◌∙◌}
-use mathlib.Core.Bool.{Bool, true, ◌&&◌}
-use native.Mathlib.Omega.{arith}
+use Prim.Native.Nat.{ℕ, ◌-◌, ◌≤◌, ◌<◌}
+use mathlib.Core.Path.{◌≡◌}
+use mathlib.Core.Bool.{Bool}
 use lib.ListN.{length}
-use lib.Bits.{bit_and}
-use borrow.Author.Rules.{rules}
 use Rattle.meaning.specs.declared.Element.{Element}
 use Rattle.meaning.specs.Deciding.{bit}
-use Rattle.laws.proofs.Bits.{bit_and_lem, bit_zero}
-use Rattle.table.specs.Rows.{word_number, depth_of}
-use Rattle.decisions.proofs.Children.{children_none, replies_over}
+use Rattle.table.specs.Rows.{word_number}
 use Rattle.blocks.specs.Bits.{reply_bit, Answers}
-use Rattle.blocks.proofs.Replying.{none_reply}
-use Rattle.moves.specs.Moved.{effect_reply, Child}
-use Rattle.moves.proofs.Rules.{missed}
-use Rattle.moves.proofs.Turns.{behind_rule, So, so_first, so_struck, so_deeper, so_off, so_taken, so_ends}
+use Rattle.moves.specs.Moved.{Child}
+use Rattle.moves.proofs.Turns.{So}
 use Rattle.moves.proofs.still_moved.Given as goal
 
 abbrev pub invariant-loop-at : goal.invariant-loop-at

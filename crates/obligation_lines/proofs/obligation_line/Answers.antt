@@ -2,7 +2,6 @@
 use Prim.Native.Nat.{◌+◌, ◌-◌}
 use mathlib.Core.Path.{refl, ◌∙◌}
 use native.Mathlib.Omega.{arith}
-use borrow.Author.Rules.{rules}
 use Rattle.obligation_lines.proofs.ObligationSteps.{count_told, refused_told, read_told, same_slot}
 use Rattle.obligation_lines.proofs.obligation_line.Goals as goal
 

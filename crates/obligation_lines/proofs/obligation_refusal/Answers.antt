@@ -2,12 +2,10 @@
 use Prim.Native.Nat.{◌-◌}
 use mathlib.Core.Path.{◌≡◌, sym, ap, ◌∙◌}
 use mathlib.Core.Bool.{true}
-use mathlib.Core.List.{List, [], map}
+use mathlib.Core.List.{[], map}
 use native.Mathlib.Omega.{arith}
 use lib.ListN.{get_or}
-use borrow.Author.Rules.{rules}
-use borrow.Author.Tests.{not-true, not-false}
-use Rattle.meaning.specs.Text.{Bytes, among_names, cut, tab, is_name}
+use Rattle.meaning.specs.Text.{among_names, cut, tab, is_name}
 use Rattle.meaning.specs.Model.{obligation_name}
 use Rattle.meaning.specs.Reading.{word_of}
 use Rattle.laws.proofs.Types.{rule}
@@ -18,91 +16,64 @@ use Rattle.obligation_lines.proofs.obligation_refusal.Goals as goal
 
 pub returns-then-not-is_name : goal.returns-then-not-is_name
 returns-then-not-is_name c =
-    let start : tie.Start = c⟨After-is_name⟩ in
-    let name-found : is_name (get_or (fields (start)) 1 []) ≡ c.is_name.result = sym (ap is_name c.field-name.ensures) ∙ sym c.is_name.ensures in
-    bad_name_lem _ _ _ _ (name-found ∙ c.if-not-is_name.true)
+    let name_found : is_name (get_or (cut tab c.args.line.now) 1 []) ≡ c.is_name.result = sym (ap is_name c.field-name.ensures) ∙ sym c.is_name.ensures in
+    bad_name_lem _ _ _ _ (name_found ∙ c.if-not-is_name.true)
 
 pub returns-then-tree-eq0 : goal.returns-then-tree-eq0
 returns-then-tree-eq0 c =
-    let start : tie.Start = c⟨After-is_name⟩ in
-    let name-found : is_name (get_or (fields (start)) 1 []) ≡ c.is_name.result = sym (ap is_name c.field-name.ensures) ∙ sym c.is_name.ensures in
-    let named : is_name (get_or (fields (start)) 1 []) ≡ true = name-found ∙ c.if-not-is_name.false in
-    no_element _ _ _ _ (named) c.if-tree-eq0.true
+    let name_found : is_name (get_or (cut tab c.args.line.now) 1 []) ≡ c.is_name.result = sym (ap is_name c.field-name.ensures) ∙ sym c.is_name.ensures in
+    let named : is_name (get_or (cut tab c.args.line.now) 1 []) ≡ true = name_found ∙ c.if-not-is_name.false in
+    no_element _ _ _ _ named c.if-tree-eq0.true
 
 pub known_obligation-requires : goal.known_obligation-requires
 known_obligation-requires c =
-    let start : tie.Start = c⟨After-is_name⟩ in
-    let start-2 : tie.Start = start in
-    (start-2).requires.1 ((start-2).args.tree.len - 1) (omega arith)
+    c.requires.1 (c.args.tree.len - 1) (omega arith)
 
 pub returns-then-known_obligation : goal.returns-then-known_obligation
 returns-then-known_obligation c =
-    let start : tie.Start = c⟨After-is_name⟩ in
-    let start-2 : tie.Start = start in
-    let start-3 : tie.Start = start-2 in
-    let name-found : is_name (get_or (fields (start)) 1 []) ≡ c.is_name.result = sym (ap is_name c.field-name.ensures) ∙ sym c.is_name.ensures in
-    let named : is_name (get_or (fields (start)) 1 []) ≡ true = name-found ∙ c.if-not-is_name.false in
-    let known-found : let a = (start-3).args in among_names (get_or (fields (start-3)) 1 []) (map obligation_name (obligations_in a.file.now a.places.now (a.tree.len - 1))) ≡ c.known_obligation.result = let a = (start-3).args in
+    let name_found : is_name (get_or (cut tab c.args.line.now) 1 []) ≡ c.is_name.result = sym (ap is_name c.field-name.ensures) ∙ sym c.is_name.ensures in
+    let named : is_name (get_or (cut tab c.args.line.now) 1 []) ≡ true = name_found ∙ c.if-not-is_name.false in
+    let known_found : let a = c.args in among_names (get_or (cut tab c.args.line.now) 1 []) (map obligation_name (obligations_in a.file.now a.places.now (a.tree.len - 1))) ≡ c.known_obligation.result = let a = c.args in
     sym (ap (λ n. among_names n (map obligation_name (obligations_in a.file.now a.places.now (a.tree.len - 1)))) c.field-name.ensures) ∙ sym c.known_obligation.ensures in
-    known_name _ _ _ _ (named) c.if-tree-eq0.false (known-found ∙ c.if-known_obligation.true)
+    known_name _ _ _ _ named c.if-tree-eq0.false (known_found ∙ c.if-known_obligation.true)
 
 pub returns-then-kinds-depth-eq3 : goal.returns-then-kinds-depth-eq3
 returns-then-kinds-depth-eq3 c =
-    let start : tie.Start = c⟨After-is_name⟩ in
-    let start-2 : tie.Start = start in
-    let start-3 : tie.Start = start-2 in
-    let name-found : is_name (get_or (fields (start)) 1 []) ≡ c.is_name.result = sym (ap is_name c.field-name.ensures) ∙ sym c.is_name.ensures in
-    let named : is_name (get_or (fields (start)) 1 []) ≡ true = name-found ∙ c.if-not-is_name.false in
-    let known-found : let a = (start-3).args in among_names (get_or (fields (start-3)) 1 []) (map obligation_name (obligations_in a.file.now a.places.now (a.tree.len - 1))) ≡ c.known_obligation.result = let a = (start-3).args in
+    let name_found : is_name (get_or (cut tab c.args.line.now) 1 []) ≡ c.is_name.result = sym (ap is_name c.field-name.ensures) ∙ sym c.is_name.ensures in
+    let named : is_name (get_or (cut tab c.args.line.now) 1 []) ≡ true = name_found ∙ c.if-not-is_name.false in
+    let known_found : let a = c.args in among_names (get_or (cut tab c.args.line.now) 1 []) (map obligation_name (obligations_in a.file.now a.places.now (a.tree.len - 1))) ≡ c.known_obligation.result = let a = c.args in
     sym (ap (λ n. among_names n (map obligation_name (obligations_in a.file.now a.places.now (a.tree.len - 1)))) c.field-name.ensures) ∙ sym c.known_obligation.ensures in
-    behind_rule _ _ _ _ (named) c.if-tree-eq0.false (known-found ∙ c.if-known_obligation.false) (start-2).requires.0 c.if-kinds-depth-eq3.true
+    behind_rule _ _ _ _ named c.if-tree-eq0.false (known_found ∙ c.if-known_obligation.false) c.requires.0 c.if-kinds-depth-eq3.true
 
 pub obligation_count-requires : goal.obligation_count-requires
 obligation_count-requires c =
-    let start : tie.Start = c⟨After-is_name⟩ in
-    let start-2 : tie.Start = start in
-    let start-3 : tie.Start = start-2 in
-    let start-4 : tie.Start = start-3 in
-    ((start-4).requires.1 ((start-4).args.tree.len - 1) (omega arith)).room
+    (c.requires.1 (c.args.tree.len - 1) (omega arith)).room
 
 pub returns-then-obligation_count-ge2 : goal.returns-then-obligation_count-ge2
 returns-then-obligation_count-ge2 c =
-    let start : tie.Start = c⟨After-is_name⟩ in
-    let start-2 : tie.Start = start in
-    let start-3 : tie.Start = start-2 in
-    let name-found : is_name (get_or (fields (start)) 1 []) ≡ c.is_name.result = sym (ap is_name c.field-name.ensures) ∙ sym c.is_name.ensures in
-    let named : is_name (get_or (fields (start)) 1 []) ≡ true = name-found ∙ c.if-not-is_name.false in
-    let known-found : let a = (start-3).args in among_names (get_or (fields (start-3)) 1 []) (map obligation_name (obligations_in a.file.now a.places.now (a.tree.len - 1))) ≡ c.known_obligation.result = let a = (start-3).args in
+    let name_found : is_name (get_or (cut tab c.args.line.now) 1 []) ≡ c.is_name.result = sym (ap is_name c.field-name.ensures) ∙ sym c.is_name.ensures in
+    let named : is_name (get_or (cut tab c.args.line.now) 1 []) ≡ true = name_found ∙ c.if-not-is_name.false in
+    let known_found : let a = c.args in among_names (get_or (cut tab c.args.line.now) 1 []) (map obligation_name (obligations_in a.file.now a.places.now (a.tree.len - 1))) ≡ c.known_obligation.result = let a = c.args in
     sym (ap (λ n. among_names n (map obligation_name (obligations_in a.file.now a.places.now (a.tree.len - 1)))) c.field-name.ensures) ∙ sym c.known_obligation.ensures in
     let counted = c.obligation_count.ensures.value in
-    third _ _ _ _ (named) c.if-tree-eq0.false (known-found ∙ c.if-known_obligation.false) (start-2).requires.0 c.if-kinds-depth-eq3.false (omega (arith, counted, c.if-obligation_count-ge2.true))
+    third _ _ _ _ named c.if-tree-eq0.false (known_found ∙ c.if-known_obligation.false) c.requires.0 c.if-kinds-depth-eq3.false (omega (arith, counted, c.if-obligation_count-ge2.true))
 
 pub returns-then-word_number-eq6 : goal.returns-then-word_number-eq6
 returns-then-word_number-eq6 c =
-    let start : tie.Start = c⟨After-is_name⟩ in
-    let start-2 : tie.Start = start in
-    let start-3 : tie.Start = start-2 in
-    let start-4 : tie.Start = start-3 in
-    let start-5 : tie.Start = start-4 in
-    let name-found : is_name (get_or (fields (start)) 1 []) ≡ c.is_name.result = sym (ap is_name c.field-name.ensures) ∙ sym c.is_name.ensures in
-    let named : is_name (get_or (fields (start)) 1 []) ≡ true = name-found ∙ c.if-not-is_name.false in
-    let known-found : let a = (start-3).args in among_names (get_or (fields (start-3)) 1 []) (map obligation_name (obligations_in a.file.now a.places.now (a.tree.len - 1))) ≡ c.known_obligation.result = let a = (start-3).args in
+    let name_found : is_name (get_or (cut tab c.args.line.now) 1 []) ≡ c.is_name.result = sym (ap is_name c.field-name.ensures) ∙ sym c.is_name.ensures in
+    let named : is_name (get_or (cut tab c.args.line.now) 1 []) ≡ true = name_found ∙ c.if-not-is_name.false in
+    let known_found : let a = c.args in among_names (get_or (cut tab c.args.line.now) 1 []) (map obligation_name (obligations_in a.file.now a.places.now (a.tree.len - 1))) ≡ c.known_obligation.result = let a = c.args in
     sym (ap (λ n. among_names n (map obligation_name (obligations_in a.file.now a.places.now (a.tree.len - 1)))) c.field-name.ensures) ∙ sym c.known_obligation.ensures in
-    let word-found : number_of_word (word_of rule (get_or (fields (start-5)) 2 [])) ≡ c.word_number.result = sym (ap (λ w. number_of_word (word_of rule w)) c.field.ensures) ∙ sym c.word_number.ensures.value in
+    let word_found : number_of_word (word_of rule (get_or (cut tab c.args.line.now) 2 [])) ≡ c.word_number.result = sym (ap (λ w. number_of_word (word_of rule w)) c.field.ensures) ∙ sym c.word_number.ensures.value in
     let counted = c.obligation_count.ensures.value in
-    bad_word _ _ _ _ (named) c.if-tree-eq0.false (known-found ∙ c.if-known_obligation.false) (start-2).requires.0 c.if-kinds-depth-eq3.false (omega (arith, counted, c.if-obligation_count-ge2.false)) (word-found ∙ c.if-word_number-eq6.true)
+    bad_word _ _ _ _ named c.if-tree-eq0.false (known_found ∙ c.if-known_obligation.false) c.requires.0 c.if-kinds-depth-eq3.false (omega (arith, counted, c.if-obligation_count-ge2.false)) (word_found ∙ c.if-word_number-eq6.true)
 
 pub returns : goal.returns
 returns c =
-    let start : tie.Start = c⟨After-is_name⟩ in
-    let start-2 : tie.Start = start in
-    let start-3 : tie.Start = start-2 in
-    let start-4 : tie.Start = start-3 in
-    let start-5 : tie.Start = start-4 in
-    let name-found : is_name (get_or (fields (start)) 1 []) ≡ c.is_name.result = sym (ap is_name c.field-name.ensures) ∙ sym c.is_name.ensures in
-    let named : is_name (get_or (fields (start)) 1 []) ≡ true = name-found ∙ c.if-not-is_name.false in
-    let known-found : let a = (start-3).args in among_names (get_or (fields (start-3)) 1 []) (map obligation_name (obligations_in a.file.now a.places.now (a.tree.len - 1))) ≡ c.known_obligation.result = let a = (start-3).args in
+    let name_found : is_name (get_or (cut tab c.args.line.now) 1 []) ≡ c.is_name.result = sym (ap is_name c.field-name.ensures) ∙ sym c.is_name.ensures in
+    let named : is_name (get_or (cut tab c.args.line.now) 1 []) ≡ true = name_found ∙ c.if-not-is_name.false in
+    let known_found : let a = c.args in among_names (get_or (cut tab c.args.line.now) 1 []) (map obligation_name (obligations_in a.file.now a.places.now (a.tree.len - 1))) ≡ c.known_obligation.result = let a = c.args in
     sym (ap (λ n. among_names n (map obligation_name (obligations_in a.file.now a.places.now (a.tree.len - 1)))) c.field-name.ensures) ∙ sym c.known_obligation.ensures in
-    let word-found : number_of_word (word_of rule (get_or (fields (start-5)) 2 [])) ≡ c.word_number.result = sym (ap (λ w. number_of_word (word_of rule w)) c.field.ensures) ∙ sym c.word_number.ensures.value in
+    let word_found : number_of_word (word_of rule (get_or (cut tab c.args.line.now) 2 [])) ≡ c.word_number.result = sym (ap (λ w. number_of_word (word_of rule w)) c.field.ensures) ∙ sym c.word_number.ensures.value in
     let counted = c.obligation_count.ensures.value in
-    good_obligation _ _ _ _ (named) c.if-tree-eq0.false (known-found ∙ c.if-known_obligation.false) (start-2).requires.0 c.if-kinds-depth-eq3.false (omega (arith, counted, c.if-obligation_count-ge2.false)) (λ e. c.if-word_number-eq6.false (sym (word-found) ∙ e))
+    good_obligation _ _ _ _ named c.if-tree-eq0.false (known_found ∙ c.if-known_obligation.false) c.requires.0 c.if-kinds-depth-eq3.false (omega (arith, counted, c.if-obligation_count-ge2.false)) (λ e. c.if-word_number-eq6.false (sym word_found ∙ e))

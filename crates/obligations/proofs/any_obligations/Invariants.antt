@@ -1,10 +1,7 @@
 -- `any_obligations`: no element from i on has one.
-use mathlib.Core.Path.{◌≡◌, refl, sym, ap, ◌∙◌}
-use Prim.Native.Nat.{suc, ◌-◌, ◌≤◌}
-use native.Mathlib.Omega.{arith}
-use borrow.Author.Rules.{rules}
+use mathlib.Core.Path.{◌≡◌}
+use Prim.Native.Nat.{◌≤◌}
 use Rattle.obligations.specs.Given.{any_obliged}
-use Rattle.obligations.proofs.Texts.{any_here, any_before}
 use Rattle.obligations.proofs.any_obligations.Given as goal
 
 abbrev pub invariant-loop-i : goal.invariant-loop-i

@@ -1,10 +1,7 @@
 -- `put_given`: the obligations of the elements so far.
 use Prim.Native.Nat.{◌-◌, ◌≤◌}
-use native.Mathlib.Omega.{arith}
-use borrow.Author.Rules.{rules}
-use borrow.Author.Tests.{ne_eqb, eq-eqb}
-use Rattle.printing.proofs.Walks.{Sofar, begun, stored, passed_over, ended_all}
-use Rattle.obligations.specs.Given.{own_text, given_text, effect, marks_in}
+use Rattle.printing.proofs.Walks.{Sofar}
+use Rattle.obligations.specs.Given.{own_text, effect, marks_in}
 use Rattle.obligations.proofs.put_given.Given as goal
 
 abbrev pub invariant-loop-i : goal.invariant-loop-i

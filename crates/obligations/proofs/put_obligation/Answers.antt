@@ -1,8 +1,6 @@
 -- `put_obligation`: nothing, or the name and its newline.
 use mathlib.Core.Path.{sym, ◌∙◌}
 use native.Mathlib.Omega.{arith}
-use borrow.Author.Rules.{rules}
-use borrow.Author.Tests.{not-true, not-false}
 use Rattle.obligations.proofs.Texts.{name_length, no_slot, other_slot, name_slot}
 use Rattle.obligations.proofs.put_obligation.Goals as goal
 

@@ -1,6 +1,5 @@
 -- `put_own`: its two places, one behind the other.
 use native.Mathlib.Omega.{arith}
-use borrow.Author.Rules.{rules}
 use Rattle.printing.proofs.Laws.{then}
 use Rattle.obligations.specs.Given.{effect}
 use Rattle.obligations.proofs.Texts.{own_slots}

@@ -1,6 +1,5 @@
 -- `same_given`: what was laid down is each text whole.
 use mathlib.Core.Path.{ap₂, ◌∙◌}
-use borrow.Author.Rules.{rules}
 use Rattle.meaning.specs.Text.{same}
 use Rattle.obligations.proofs.Texts.{laid_whole}
 use Rattle.obligations.proofs.same_given.Goals as goal

@@ -1,7 +1,6 @@
 -- `change_in`: the words that are laid down are those of the block, or a bit tells where they are not. Assumes nothing.
 use native.Mathlib.Omega.{arith}
 use Rattle.outcomes.proofs.Blocks.{block_room, block_alike, block_other}
-use borrow.Author.Rules.{rules}
 use Rattle.outcomes.proofs.change_in.Goals as goal
 
 pub reply-reply-requires : goal.reply-reply-requires

@@ -1,11 +1,9 @@
 -- `decide_all`: up to the block looked at, the words tell what each request gets. Assumes nothing.
-use Prim.Native.Nat.{◌+◌, ◌-◌, ◌*◌, ◌<◌}
-use mathlib.Core.Path.{◌≡◌, refl}
+use mathlib.Core.Path.{refl}
 use native.Mathlib.Omega.{arith}
-use lib.ListN.{length, length-set}
-use Rattle.outcomes.proofs.Blocks.{outcome_up_to, block_room, given_outcome}
-use Rattle.outcomes.proofs.LayingOutcomes.{OutcomesTo, outcomes_none, outcomes_next, outcomes_laid, outcomes_rest}
-use borrow.Author.Rules.{rules}
+use lib.ListN.{length-set}
+use Rattle.outcomes.proofs.Blocks.{block_room, given_outcome}
+use Rattle.outcomes.proofs.LayingOutcomes.{outcomes_none, outcomes_next, outcomes_laid, outcomes_rest}
 use Rattle.outcomes.proofs.decide_all.Goals as goal
 
 pub loop-block-init : goal.loop-block-init

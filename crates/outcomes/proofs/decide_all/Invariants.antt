@@ -1,11 +1,9 @@
 -- `decide_all`: up to the block looked at, the words tell what each request gets. Assumes nothing.
 use Prim.Native.Nat.{◌+◌, ◌-◌, ◌*◌, ◌<◌}
-use mathlib.Core.Path.{◌≡◌, refl}
-use native.Mathlib.Omega.{arith}
-use lib.ListN.{length, length-set}
-use Rattle.outcomes.proofs.Blocks.{outcome_up_to, block_room, given_outcome}
-use Rattle.outcomes.proofs.LayingOutcomes.{OutcomesTo, outcomes_none, outcomes_next, outcomes_laid, outcomes_rest}
-use borrow.Author.Rules.{rules}
+use mathlib.Core.Path.{◌≡◌}
+use lib.ListN.{length}
+use Rattle.outcomes.proofs.Blocks.{outcome_up_to}
+use Rattle.outcomes.proofs.LayingOutcomes.{OutcomesTo}
 use Rattle.outcomes.proofs.decide_all.Given as goal
 
 abbrev pub invariant-loop-block : goal.invariant-loop-block

@@ -1,6 +1,5 @@
 -- `decide_requests`: the numbers of what the words laid down tell. Assumes nothing.
 use mathlib.Core.Path.{◌∙◌}
-use borrow.Author.Rules.{rules}
 use Rattle.outcomes.proofs.Laying.{numbers_laid}
 use Rattle.outcomes.proofs.decide_requests.Goals as goal
 

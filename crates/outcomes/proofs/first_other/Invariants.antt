@@ -1,12 +1,7 @@
 -- `first_other`: no place passed tells two decisions. Assumes nothing.
 use Prim.Native.Nat.{ℕ, ◌-◌, ◌≤◌, ◌<◌}
-use mathlib.Core.Path.{◌≡◌, refl, sym, ap, ◌∙◌}
-use native.Mathlib.Omega.{arith}
-use Rattle.meaning.specs.Deciding.{decision_number}
-use Rattle.laws.proofs.Outcomes.{same_number}
+use mathlib.Core.Path.{◌≡◌}
 use Rattle.blocks.specs.Bits.{decision_bit}
-use Rattle.outcomes.proofs.Searching.{up_to}
-use borrow.Author.Rules.{rules}
 use Rattle.outcomes.proofs.first_other.Given as goal
 
 abbrev pub invariant-loop-v : goal.invariant-loop-v

@@ -1,10 +1,6 @@
 -- `number_all`: the numbers laid down one after the other. Assumes nothing.
-use Prim.Native.Nat.{◌-◌, ◌≤◌}
 use native.Mathlib.Omega.{arith}
-use borrow.Author.Rules.{rules}
-use Rattle.meaning.specs.Deciding.{decision_number}
-use Rattle.outcomes.specs.Decided.{outcome_at}
-use Rattle.outcomes.proofs.Laying.{Lays, lays_none, lays_next, lays_all}
+use Rattle.outcomes.proofs.Laying.{lays_none, lays_next, lays_all}
 use Rattle.outcomes.proofs.number_all.Goals as goal
 
 pub loop-m-init : goal.loop-m-init

@@ -1,5 +1,4 @@
 -- `finish` meets its contract: bytes left over, no tree line, or the policy.
-use borrow.Author.Rules.{rules}
 use borrow.Author.Tests.{eq-eqb, ne_eqb}
 use Rattle.reader.proofs.finish.Goals as goal
 

@@ -1,5 +1,4 @@
 -- `policy_shape`: the choices of the attributes are the layout's. Assumes nothing.
-use borrow.Author.Rules.{rules}
 use Rattle.reader.proofs.policy_shape.Goals as goal
 
 pub returns : goal.returns

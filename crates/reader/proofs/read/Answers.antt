@@ -1,13 +1,12 @@
 -- `read` meets its contract. The loop keeps that the lines left, read behind what was read so far, are the whole file, and
 -- that they lay down the rest of it. The measure is the bytes left.
-use Prim.Native.Nat.{◌-◌, ◌≤◌, ◌<◌}
-use mathlib.Core.Path.{◌≡◌, refl}
+use Prim.Native.Nat.{◌≤◌, ◌<◌}
+use mathlib.Core.Path.{refl}
 use native.Mathlib.Omega.{arith}
 use borrow.Author.Rules.{rules}
 use lib.ListN.{length}
-use Rattle.attribute_lines.specs.Steps.{BeforeLine}
 use Rattle.attribute_lines.proofs.Beginning.{beginning_ready}
-use Rattle.reader.proofs.Loop.{Keeps, keeps_first, long_told, ended, refused_here, keeps_next}
+use Rattle.reader.proofs.Loop.{keeps_first, long_told, ended, refused_here, keeps_next}
 use Rattle.reader.proofs.read.Goals as goal
 
 pub returns-then-file-gt16384 : goal.returns-then-file-gt16384

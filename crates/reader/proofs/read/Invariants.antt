@@ -1,13 +1,10 @@
 -- `read` meets its contract. The loop keeps that the lines left, read behind what was read so far, are the whole file, and
 -- that they lay down the rest of it. The measure is the bytes left.
-use Prim.Native.Nat.{◌-◌, ◌≤◌, ◌<◌}
-use mathlib.Core.Path.{◌≡◌, refl}
-use native.Mathlib.Omega.{arith}
-use borrow.Author.Rules.{rules}
+use Prim.Native.Nat.{◌-◌, ◌≤◌}
+use mathlib.Core.Path.{◌≡◌}
 use lib.ListN.{length}
 use Rattle.attribute_lines.specs.Steps.{BeforeLine}
-use Rattle.attribute_lines.proofs.Beginning.{beginning_ready}
-use Rattle.reader.proofs.Loop.{Keeps, keeps_first, long_told, ended, refused_here, keeps_next}
+use Rattle.reader.proofs.Loop.{Keeps}
 use Rattle.reader.proofs.read.Given as goal
 
 abbrev pub invariant-loop-found : goal.invariant-loop-found

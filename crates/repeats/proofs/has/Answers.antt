@@ -12,12 +12,12 @@ pub returns-in-At : goal.returns-in-At
 returns-in-At c =
     let a = c.args in
     let fs = cut tab a.fields.now in
-    let told = sym c.find.ensures.value ∙ c.enum_told-1.given.1 in
+    let told = sym c.find.ensures.value ∙ c.in-At.is in
     sym (among_placed 0 a.name.now fs ∙ ap not (found_some (value_of 0 a.name.now fs) told))
 
 pub returns-in-Nothing : goal.returns-in-Nothing
 returns-in-Nothing c =
     let a = c.args in
     let fs = cut tab a.fields.now in
-    let told = sym c.find.ensures.value ∙ c.enum_told-in-Nothing-1.given.1 in
+    let told = sym c.find.ensures.value ∙ c.in-Nothing.is in
     sym (among_placed 0 a.name.now fs ∙ ap not (found_none (value_of 0 a.name.now fs) told))

@@ -7,7 +7,7 @@ use borrow.Author.Rules.{rules}
 use Rattle.report_lines.proofs.put_struck.Given as goal
 
 abbrev pub invariant-loop-k : goal.invariant-loop-k
-invariant-loop-k l = (l.k ≤ l.count) × Sofar (λ l.k. struck_line l.file l.places (get_or l.order l.k 0)) 500 0 l.initial.out l.at l.k l.out l.end
+invariant-loop-k l = (l.k ≤ l.count) × Sofar (λ k. struck_line l.file l.places (get_or l.order k 0)) 500 0 l.initial.out l.at l.k l.out l.end
 
 abbrev pub decreases-loop-k : goal.decreases-loop-k
 decreases-loop-k l = l.count - l.k

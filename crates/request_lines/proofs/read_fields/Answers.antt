@@ -71,7 +71,7 @@ refuse-requires c =
 pub returns-in_default : goal.returns-in_default
 returns-in_default c =
     let end = c.end_of-end.ensures in
-    walk_refused c.loop-v.invariant end.value end.within.1 c.choose.ensures c.enum_told-1.given.1 c.refuse.ensures
+    walk_refused c.loop-v.invariant end.value end.within.1 c.choose.ensures c.in_default.is c.refuse.ensures
 
 pub offset_bounds-values-i : goal.offset_bounds-values-i
 offset_bounds-values-i c =
@@ -91,9 +91,9 @@ overflow_add-i-in-loop-v c =
 pub returns-then-i-a : goal.returns-then-i-a
 returns-then-i-a c =
     let end = c.end_of-end.ensures in
-    walk_ends c.loop-v.invariant end.value end.within.1 c.choose.ensures c.v-1.given.1 c.if-i-a.true
+    walk_ends c.loop-v.invariant end.value end.within.1 c.choose.ensures c.in-At.is c.if-i-a.true
 
 pub loop-v-preserved : goal.loop-v-preserved
 loop-v-preserved c =
     let end = c.end_of-end.ensures in
-    walk_on c.loop-v.invariant end.value end.within.1 c.choose.ensures c.v-1.given.1 c.if-i-a.false
+    walk_on c.loop-v.invariant end.value end.within.1 c.choose.ensures c.in-At.is c.if-i-a.false

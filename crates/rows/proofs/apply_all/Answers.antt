@@ -1,10 +1,10 @@
 -- `apply_all`: the rows of the first i elements. Assumes nothing.
-use Prim.Native.Nat.{◌+◌, ◌-◌, ◌*◌, ◌/◌, ◌≤◌}
+use Prim.Native.Nat.{◌+◌, ◌*◌, ◌/◌}
 use mathlib.Core.Path.{◌≡◌, refl}
 use native.Mathlib.Omega.{arith}
 use lib.ListN.{length}
 use Rattle.matching.proofs.Copying.{copied_is}
-use Rattle.rows.proofs.Rows.{applying, Filled, filled_none, filled_row, applied_all, applied_rest}
+use Rattle.rows.proofs.Rows.{filled_none, filled_row, applied_all, applied_rest}
 use borrow.Author.Rules.{rules}
 use Rattle.rows.proofs.apply_all.Goals as goal
 
@@ -26,8 +26,8 @@ loop-i-preserved c =
     let made = c.row_of-row in
     let put = c.copy_plane in
     let wide : length made.result ≡ 64 = search rules in
-    let copied = copied_is made.result ((c.args.shape.space + 63) / 64) (64 * turn.i) turn.applied put.new.1.1.1.0 put.ensures (omega (arith, c.requires.0.few, turn.invariant.2.size)) (omega (arith, turn.invariant.1)) in
-    (search rules, turn.invariant.1, filled_row _ _ _ _ _ turn.invariant.2 turn.invariant.1 made.result _ refl put.auto.1.1.1.0 made.ensures copied)
+    let copied = copied_is made.result ((c.args.shape.space + 63) / 64) (64 * turn.i) turn.applied put.new.hits put.ensures (omega (arith, c.requires.0.few, turn.invariant.2.size)) (omega (arith, turn.invariant.1)) in
+    (search rules, turn.invariant.1, filled_row _ _ _ _ _ turn.invariant.2 turn.invariant.1 made.result _ refl put.auto.hits made.ensures copied)
 
 pub returns : goal.returns
 returns c =

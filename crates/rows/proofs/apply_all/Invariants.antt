@@ -1,11 +1,6 @@
 -- `apply_all`: the rows of the first i elements. Assumes nothing.
-use Prim.Native.Nat.{◌+◌, ◌-◌, ◌*◌, ◌/◌, ◌≤◌}
-use mathlib.Core.Path.{◌≡◌, refl}
-use native.Mathlib.Omega.{arith}
-use lib.ListN.{length}
-use Rattle.matching.proofs.Copying.{copied_is}
-use Rattle.rows.proofs.Rows.{applying, Filled, filled_none, filled_row, applied_all, applied_rest}
-use borrow.Author.Rules.{rules}
+use Prim.Native.Nat.{◌-◌, ◌*◌, ◌≤◌}
+use Rattle.rows.proofs.Rows.{applying, Filled}
 use Rattle.rows.proofs.apply_all.Given as goal
 
 abbrev pub invariant-loop-i : goal.invariant-loop-i

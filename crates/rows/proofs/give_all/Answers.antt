@@ -1,10 +1,9 @@
 -- `give_all`: the words before k are laid down. Assumes nothing.
-use Prim.Native.Nat.{◌-◌, ◌*◌, ◌≤◌}
+use Prim.Native.Nat.{◌*◌, ◌≤◌}
 use mathlib.Core.Path.{◌≡◌, refl}
 use native.Mathlib.Omega.{arith}
 use Rattle.meaning.specs.declared.Decision.{Decision}
-use Rattle.rows.proofs.Rows.{giving, Filled, filled_none, filled_skip, filled_next, given_all, given_rest, permits_alone, denies_alone}
-use borrow.Author.Rules.{rules}
+use Rattle.rows.proofs.Rows.{filled_none, filled_skip, filled_next, given_all, given_rest, permits_alone, denies_alone}
 use Rattle.rows.proofs.give_all.Goals as goal
 
 pub loop-k-init : goal.loop-k-init

@@ -1,7 +1,6 @@
 -- `narrow`: the words before b are narrowed, the others as they were. Assumes nothing.
-use Prim.Native.Nat.{◌-◌, ◌≤◌}
 use native.Mathlib.Omega.{arith}
-use Rattle.rows.proofs.Rows.{Narrows, narrows_none, narrows_next}
+use Rattle.rows.proofs.Rows.{narrows_none, narrows_next}
 use borrow.Author.Rules.{rules}
 use Rattle.rows.proofs.narrow.Goals as goal
 

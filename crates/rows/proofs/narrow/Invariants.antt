@@ -1,8 +1,6 @@
 -- `narrow`: the words before b are narrowed, the others as they were. Assumes nothing.
 use Prim.Native.Nat.{◌-◌, ◌≤◌}
-use native.Mathlib.Omega.{arith}
-use Rattle.rows.proofs.Rows.{Narrows, narrows_none, narrows_next}
-use borrow.Author.Rules.{rules}
+use Rattle.rows.proofs.Rows.{Narrows}
 use Rattle.rows.proofs.narrow.Given as goal
 
 abbrev pub invariant-loop-b : goal.invariant-loop-b

@@ -1,9 +1,6 @@
 -- `parent_all`: the parents, laid down one after the other. Assumes nothing.
-use Prim.Native.Nat.{◌-◌, ◌≤◌}
 use native.Mathlib.Omega.{arith}
-use borrow.Author.Rules.{rules}
-use Rattle.table.specs.Tree.{parent_of, place_or}
-use Rattle.outcomes.proofs.Laying.{Lays, lays_none, lays_next, lays_all}
+use Rattle.outcomes.proofs.Laying.{lays_none, lays_next, lays_all}
 use Rattle.rows.proofs.parent_all.Goals as goal
 
 pub loop-child-init : goal.loop-child-init

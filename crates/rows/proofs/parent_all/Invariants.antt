@@ -1,9 +1,7 @@
 -- `parent_all`: the parents, laid down one after the other. Assumes nothing.
 use Prim.Native.Nat.{◌-◌, ◌≤◌}
-use native.Mathlib.Omega.{arith}
-use borrow.Author.Rules.{rules}
 use Rattle.table.specs.Tree.{parent_of, place_or}
-use Rattle.outcomes.proofs.Laying.{Lays, lays_none, lays_next, lays_all}
+use Rattle.outcomes.proofs.Laying.{Lays}
 use Rattle.rows.proofs.parent_all.Given as goal
 
 abbrev pub invariant-loop-child : goal.invariant-loop-child

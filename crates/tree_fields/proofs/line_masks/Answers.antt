@@ -1,12 +1,12 @@
 -- `line_masks` meets its contract. The loop walks the attributes and the target fields in step: the masks before `i` are laid, and
 -- none of them is bad.
-use Prim.Native.Nat.{◌-◌, ◌<◌}
+use Prim.Native.Nat.{◌<◌}
 use native.Mathlib.Omega.{arith}
 use borrow.Author.Rules.{rules}
-use lib.ListN.{drop, length-drop}
+use lib.ListN.{length-drop}
 use Rattle.meaning.specs.Text.{cut, tab}
 use Rattle.layout.specs.Places.{Standing}
-use Rattle.tree_fields.proofs.TargetWalk.{Walked, walk_starts, walk_on, walk_bad, walk_ends}
+use Rattle.tree_fields.proofs.TargetWalk.{walk_starts, walk_on, walk_bad, walk_ends}
 use Rattle.tree_fields.proofs.line_masks.Goals as goal
 
 pub loop-targets-init : goal.loop-targets-init

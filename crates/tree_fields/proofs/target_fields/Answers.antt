@@ -2,7 +2,6 @@
 use Prim.Native.Nat.{◌+◌}
 use mathlib.Core.Path.{ap, ◌∙◌}
 use native.Mathlib.Omega.{arith}
-use borrow.Author.Rules.{rules}
 use Rattle.meaning.specs.Text.{cut, tab}
 use Rattle.text.proofs.Pieces.{rest_of}
 use Rattle.tree_fields.proofs.target_fields.Goals as goal

@@ -3,7 +3,6 @@ use Rattle.meaning.specs.Model.{kind_text, name_of, word_text}
 use Rattle.meaning.specs.Writing.{target_texts}
 use Rattle.layout.specs.Places.{attributes_of}
 use Rattle.treelines.proofs.ElementLines.{tree_line_lem}
-use borrow.Author.Rules.{rules}
 use Rattle.treelines.proofs.put_element.Goals as goal
 
 pub returns : goal.returns

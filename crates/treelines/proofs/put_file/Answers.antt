@@ -1,11 +1,10 @@
 -- `put_file` meets its contract. The loop keeps the lines of the elements before `i`, behind the attribute lines.
 use mathlib.Core.Path.{◌≡◌}
 use lib.ListN.{length}
-use Prim.Native.Nat.{◌-◌, ◌≤◌}
 use native.Mathlib.Omega.{arith}
 use borrow.Author.Rules.{rules}
 use Rattle.elements.proofs.Listing.{mapped_length}
-use Rattle.printing.proofs.Walks.{Sofar, begun, stored, ended_all}
+use Rattle.printing.proofs.Walks.{begun, stored, ended_all}
 use Rattle.treelines.proofs.ElementLines.{lines_at, small_at, file_text}
 use Rattle.treelines.proofs.put_file.Goals as goal
 

@@ -1,7 +1,6 @@
 -- `put_lines` meets its contract: its own line, then those of its obligations.
 use native.Mathlib.Omega.{arith}
 use Rattle.printing.proofs.Laws.{then}
-use borrow.Author.Rules.{rules}
 use Rattle.treelines.proofs.put_lines.Goals as goal
 
 pub returns : goal.returns

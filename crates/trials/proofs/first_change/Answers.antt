@@ -1,10 +1,6 @@
 -- `first_change`: no request of the blocks passed gets anything else. Assumes nothing.
-use Prim.Native.Nat.{◌+◌, ◌-◌, ◌*◌, ◌<◌}
 use native.Mathlib.Omega.{arith}
-use borrow.Author.Rules.{rules}
-use Rattle.table.specs.Shape.{hit_of}
-use Rattle.differences.proofs.Blocks.{NoneBelow, block_passed, block_searched, block_found, none_found_at_all}
-use Rattle.trials.specs.Decided.{apart_at}
+use Rattle.differences.proofs.Blocks.{block_passed, block_searched, block_found, none_found_at_all}
 use Rattle.trials.proofs.Moving.{block_off}
 use Rattle.trials.proofs.first_change.Goals as goal
 

@@ -1,5 +1,4 @@
 -- `is_needless`: what is laid down is what trying a rule asks for. Assumes nothing.
-use borrow.Author.Rules.{rules}
 use Rattle.trials.proofs.Trying.{obligation_room}
 use Rattle.trials.proofs.is_needless.Goals as goal
 

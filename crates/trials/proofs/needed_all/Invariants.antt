@@ -1,13 +1,9 @@
 -- `needed_all`: the requests shown, laid down one after the other under flags that stay. Assumes nothing.
 use Prim.Native.Nat.{◌-◌, ◌≤◌}
-use mathlib.Core.Path.{◌≡◌, refl, ap, ◌∙◌}
-use native.Mathlib.Omega.{arith}
-use borrow.Author.Rules.{rules}
-use lib.ListN.{length}
+use mathlib.Core.Path.{◌≡◌}
 use Rattle.table.specs.Shape.{hit_of}
-use Rattle.outcomes.proofs.Laying.{Lays, lays_none, lays_next, lays_all}
+use Rattle.outcomes.proofs.Laying.{Lays}
 use Rattle.trials.specs.Decided.{shown_at}
-use Rattle.trials.proofs.Trying.{asks, obligation_room}
 use Rattle.trials.proofs.needed_all.Given as goal
 
 abbrev pub invariant-loop-i : goal.invariant-loop-i

@@ -2,7 +2,6 @@
 use native.Mathlib.Omega.{arith}
 use lib.ListN.{length-set}
 use Rattle.trials.proofs.Trying.{set_back, first_change_is, rule_flag, trial}
-use borrow.Author.Rules.{rules}
 use Rattle.trials.proofs.needed_by.Goals as goal
 
 pub group_over-up-requires : goal.group_over-up-requires

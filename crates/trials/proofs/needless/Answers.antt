@@ -1,11 +1,9 @@
 -- `needless`: the flag is set for the comparison, and set back. Assumes nothing.
 use mathlib.Core.Path.{refl, sym, ◌∙◌}
 use native.Mathlib.Omega.{arith}
-use borrow.Author.Tests.{not-true, not-false}
 use lib.ListN.{length-set}
 use Rattle.laws.proofs.Bools.{contradiction}
 use Rattle.trials.proofs.Trying.{set_back, apart_changes, needless_rule, rule_flag, trial, needless_other}
-use borrow.Author.Rules.{rules}
 use Rattle.trials.proofs.needless.Goals as goal
 
 pub returns-then-not-is_left : goal.returns-then-not-is_left

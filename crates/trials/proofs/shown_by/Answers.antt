@@ -1,7 +1,5 @@
 -- `shown_by`: what `needed_by` gives for a rule that is left. Assumes nothing.
 use mathlib.Core.Path.{refl, sym, ◌∙◌}
-use borrow.Author.Tests.{not-true, not-false}
-use borrow.Author.Rules.{rules}
 use Rattle.trials.proofs.Trying.{shown_rule, shown_other}
 use Rattle.trials.proofs.shown_by.Goals as goal
 

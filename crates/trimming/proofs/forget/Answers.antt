@@ -1,10 +1,7 @@
 -- `forget`: place by place. Assumes nothing.
-use Prim.Native.Nat.{◌-◌, ◌≤◌}
 use mathlib.Core.Path.{sym, ◌∙◌}
 use native.Mathlib.Omega.{arith}
-use borrow.Author.Rules.{rules}
-use borrow.Author.Tests.{not-true}
-use Rattle.trimming.proofs.Knowing.{Forgetting, forgets_none, forgets_keep, forgets_drop}
+use Rattle.trimming.proofs.Knowing.{forgets_none, forgets_keep, forgets_drop}
 use Rattle.trimming.proofs.forget.Goals as goal
 
 pub loop-i-init : goal.loop-i-init

@@ -1,14 +1,10 @@
 -- `next_rule`: the last needless rule below the place looked at is the last of all. Assumes nothing.
-use Prim.Native.Nat.{◌-◌, ◌≤◌}
-use mathlib.Core.Path.{◌≡◌, refl, sym, ap, ◌∙◌}
+use Prim.Native.Nat.{◌-◌}
+use mathlib.Core.Path.{refl, sym, ap, ◌∙◌}
 use native.Mathlib.Omega.{arith}
-use borrow.Author.Rules.{rules}
-use lib.ListN.{length, length-set}
-use Rattle.meaning.specs.Text.{last_below}
+use lib.ListN.{length-set}
 use Rattle.table.specs.Tree.{place_or}
-use Rattle.table.specs.Shape.{hit_of}
-use Rattle.trimming.specs.Decided.{needlessAt, next_at}
-use Rattle.trimming.specs.Known.{Known}
+use Rattle.trimming.specs.Decided.{next_at}
 use Rattle.laws.proofs.Search.{last_here, last_earlier, last_nowhere}
 use Rattle.trials.proofs.Trying.{asks, tested}
 use Rattle.trimming.proofs.Knowing.{known_needed, known_more}

@@ -1,13 +1,11 @@
 -- `strike_rules`: what is to come completes what striking from the start gives. Assumes nothing.
-use Prim.Native.Nat.{◌-◌, ◌≤◌}
-use mathlib.Core.Path.{◌≡◌, refl, ap, ◌∙◌}
+use Prim.Native.Nat.{◌-◌}
+use mathlib.Core.Path.{refl, ap, ◌∙◌}
 use native.Mathlib.Omega.{arith}
 use borrow.Author.Rules.{rules}
 use lib.ListN.{length, length-set}
 use Rattle.table.specs.Shape.{hit_of}
-use Rattle.trials.specs.Trial.{Laid}
-use Rattle.trimming.specs.Known.{Known}
-use Rattle.trimming.proofs.Strikes.{Next, next_found, next_none, trimming_stops, laid_next, Strikes, strikes_none, strikes_next, strikes_end, strikes_all}
+use Rattle.trimming.proofs.Strikes.{Next, next_found, next_none, trimming_stops, laid_next, strikes_none, strikes_next, strikes_end, strikes_all}
 use Rattle.trimming.proofs.Knowing.{known_next}
 use Rattle.trimming.proofs.strike_rules.Goals as goal
 

@@ -1,11 +1,8 @@
 -- `choices_from`: the product of the sizes from `i` on. Assumes nothing.
-use Prim.Native.Nat.{◌+◌, ◌-◌, ◌*◌, ◌≤◌}
-use mathlib.Core.Path.{◌≡◌, sym, ap, ◌∙◌}
-use native.Mathlib.Omega.{arith}
-use lib.ListN.{length, take, drop, get_or}
-use borrow.Author.Rules.{rules}
+use Prim.Native.Nat.{◌≤◌}
+use mathlib.Core.Path.{◌≡◌}
+use lib.ListN.{take, drop}
 use Rattle.meaning.specs.Model.{product}
-use Rattle.value_pairs.proofs.Finding.{product_drop, product_next, product_none}
 use Rattle.value_pairs.proofs.choices_from.Given as goal
 
 abbrev pub invariant-loop-i : goal.invariant-loop-i

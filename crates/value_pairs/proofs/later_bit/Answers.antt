@@ -1,6 +1,5 @@
 -- `later_bit`: a set's mask without its lowest bit. Assumes nothing.
 use mathlib.Core.Path.{refl}
-use borrow.Author.Rules.{rules}
 use Rattle.value_pairs.proofs.SetBits.{none_later, several_later, one_later}
 use Rattle.value_pairs.proofs.later_bit.Goals as goal
 

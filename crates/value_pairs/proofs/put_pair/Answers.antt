@@ -1,6 +1,5 @@
 -- `put_pair`: no line, or its five fields. Assumes nothing.
 use mathlib.Core.Path.{sym, ◌∙◌}
-use borrow.Author.Rules.{rules}
 use borrow.Author.Tests.{not-true, not-false}
 use Rattle.value_pairs.proofs.PairTexts.{no_line, a_line}
 use Rattle.value_pairs.proofs.put_pair.Goals as goal

@@ -1,10 +1,10 @@
 -- `put_pairs`: the lines of the runs so far. Assumes nothing.
 use mathlib.Core.Path.{sym, ◌∙◌}
-use Prim.Native.Nat.{◌-◌, ◌*◌, ◌%◌, ◌≤◌}
+use Prim.Native.Nat.{◌*◌, ◌%◌}
 use native.Mathlib.Nat.{mod-lt}
 use native.Mathlib.Omega.{arith}
 use borrow.Author.Rules.{rules}
-use Rattle.printing.proofs.Walks.{Sofar, begun, stored, passed_over, ended_all}
+use Rattle.printing.proofs.Walks.{begun, stored, passed_over, ended_all}
 use Rattle.value_pairs.specs.Lines.{run_lines, pair_lines}
 use Rattle.value_pairs.proofs.SetBits.{this_set}
 use Rattle.value_pairs.proofs.PairTexts.{no_pair, a_pair, text_room, pair_room}

@@ -1,13 +1,7 @@
 -- `put_pairs`: the lines of the runs so far. Assumes nothing.
-use mathlib.Core.Path.{sym, ◌∙◌}
-use Prim.Native.Nat.{◌-◌, ◌*◌, ◌%◌, ◌≤◌}
-use native.Mathlib.Nat.{mod-lt}
-use native.Mathlib.Omega.{arith}
-use borrow.Author.Rules.{rules}
-use Rattle.printing.proofs.Walks.{Sofar, begun, stored, passed_over, ended_all}
-use Rattle.value_pairs.specs.Lines.{run_lines, pair_lines}
-use Rattle.value_pairs.proofs.SetBits.{this_set}
-use Rattle.value_pairs.proofs.PairTexts.{no_pair, a_pair, text_room, pair_room}
+use Prim.Native.Nat.{◌-◌, ◌*◌, ◌≤◌}
+use Rattle.printing.proofs.Walks.{Sofar}
+use Rattle.value_pairs.specs.Lines.{run_lines}
 use Rattle.value_pairs.proofs.put_pairs.Given as goal
 
 abbrev pub invariant-loop-run : goal.invariant-loop-run

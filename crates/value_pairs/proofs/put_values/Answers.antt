@@ -1,8 +1,8 @@
 -- `put_values`: the lines of the requests so far. Assumes nothing.
-use Prim.Native.Nat.{◌+◌, ◌-◌, ◌≤◌}
+use Prim.Native.Nat.{◌+◌}
 use native.Mathlib.Omega.{arith}
 use borrow.Author.Rules.{rules}
-use Rattle.printing.proofs.Walks.{Sofar, begun, stored, ended_all}
+use Rattle.printing.proofs.Walks.{begun, stored, ended_all}
 use Rattle.value_pairs.specs.Lines.{pair_line, value_lines}
 use Rattle.value_pairs.proofs.put_values.Goals as goal
 

@@ -1,12 +1,8 @@
 -- `several_at`: the search goes on with the attributes from `i` on. Assumes nothing.
-use Prim.Native.Nat.{◌-◌, ◌≤◌}
-use mathlib.Core.Path.{◌≡◌, sym, ◌∙◌}
+use mathlib.Core.Path.{sym, ◌∙◌}
 use native.Mathlib.Nat.{sub-zero}
 use native.Mathlib.Omega.{arith}
 use borrow.Author.Rules.{rules}
-use borrow.Author.Tests.{not-true, not-false}
-use Rattle.meaning.specs.ValuePairs.{several_at}
-use Rattle.layout.specs.Places.{attributes_from, attributes_of}
 use Rattle.value_pairs.proofs.Finding.{found, not_several, other_name, none_found}
 use Rattle.value_pairs.proofs.several_at.Goals as goal
 

@@ -4,7 +4,6 @@ use mathlib.Core.Logic.{◌≢◌}
 use Prim.Native.Nat.{ℕ, ◌≤◌, ◌<◌}
 use native.Mathlib.Omega.{arith}
 use lib.Seq.{length-take-le}
-use borrow.Author.Rules.{rules}
 use Rattle.printing.proofs.Fitting.{written}
 use Rattle.value_pairs.proofs.Told.{sizes_positive, few_requests, no_attribute, some_set, few_sets, some_behind, runs_small, pairs_fitted}
 use Rattle.value_pairs.proofs.tell.Goals as goal
@@ -15,7 +14,8 @@ here place len l other = omega (arith, l, other)
 
 pub returns-then-place-attributes : goal.returns-then-place-attributes
 returns-then-place-attributes c =
-    no_attribute c.args.file.now c.args.attributes c.args.table.now c.args.shape c.requires c.args.name.now _ c.several_at-place.ensures.1 c.if-place-attributes.true c.args.out.now
+    let told = no_attribute c.args.file.now c.args.attributes c.args.table.now c.args.shape c.requires c.args.name.now _ c.several_at-place.ensures.1 c.if-place-attributes.true c.args.out.now in
+    record { value = told.0; out_after = told.1 }
 
 pub decide_requests-requires : goal.decide_requests-requires
 decide_requests-requires c = let held = c.requires in (held.ready, omega (arith, held.ready.small))
@@ -63,5 +63,6 @@ pub returns : goal.returns
 returns c =
     let found = c.several_at-place.ensures in
     let inside = here _ _ found.0 c.if-place-attributes.false in
-    pairs_fitted c.args.file.now c.args.attributes c.args.table.now c.args.shape c.requires c.args.name.now _ found.1 inside _ c.choices_from-behind.ensures _ _ c.decide_requests.ensures
-    (written c.put_pairs-needed.ensures.0 c.args.out.now _ c.lend-part.ensures.value c.put_pairs.ensures.0 c.text_answer.ensures)
+    let told = pairs_fitted c.args.file.now c.args.attributes c.args.table.now c.args.shape c.requires c.args.name.now _ found.1 inside _ c.choices_from-behind.ensures _ _ c.decide_requests.ensures
+    (written c.put_pairs-needed.ensures.0 c.args.out.now _ c.lend-part.ensures.value c.put_pairs.ensures.0 c.text_answer.ensures) in
+    record { value = told.0; out_after = told.1 }

@@ -17,7 +17,9 @@ pub overflow_cast-result-then-read-ne0 : goal.overflow_cast-result-then-read-ne0
 overflow_cast-result-then-read-ne0 c = let small = small_header c.args.header.now c.read_header-read.result c.read_header-read.ensures [] c.if-read-ne0.true in omega (arith, small.0, small.1)
 
 pub returns-then-read-ne0 : goal.returns-then-read-ne0
-returns-then-read-ne0 c = header_refused c.args.header.now c.read_header-read.result c.read_header-read.ensures _ _ c.if-read-ne0.true
+returns-then-read-ne0 c =
+    let (value, after) = header_refused c.args.header.now c.read_header-read.result c.read_header-read.ensures c.args.out.now (elements_of c.args.list) c.if-read-ne0.true in
+    record { value = value; out_after = after }
 
 pub check_elements-checked-requires : goal.check_elements-checked-requires
 check_elements-checked-requires c =
@@ -48,7 +50,8 @@ returns-then-checked-ne0 c =
     let few : c.held-held.result.len ≤ 65 = omega (arith, ap (λ l. l.len) c.held-held.ensures) in
     let same_elements : elements_of c.held-held.result ≡ elements_of c.args.list = ap elements_of c.held-held.ensures ∙ held_elements c.args.list (places) in
     let out = c.args.out.now in
-    of_held c.args.header.now out (same_elements) (element_refused c.args.header.now c.read_header-read.result c.read_header-read.ensures out c.if-read-ne0.false _ (room) (few) c.check_elements-checked.result c.check_elements-checked.ensures c.if-checked-ne0.true)
+    let (value, after) = of_held c.args.header.now out (same_elements) (element_refused c.args.header.now c.read_header-read.result c.read_header-read.ensures out c.if-read-ne0.false _ (room) (few) c.check_elements-checked.result c.check_elements-checked.ensures c.if-checked-ne0.true) in
+    record { value = value; out_after = after }
 
 pub returns-then-held-eq0 : goal.returns-then-held-eq0
 returns-then-held-eq0 c =
@@ -57,7 +60,8 @@ returns-then-held-eq0 c =
     let few : c.held-held.result.len ≤ 65 = omega (arith, ap (λ l. l.len) c.held-held.ensures) in
     let same_elements : elements_of c.held-held.result ≡ elements_of c.args.list = ap elements_of c.held-held.ensures ∙ held_elements c.args.list (places) in
     let out = c.args.out.now in
-    of_held c.args.header.now out (same_elements) (none_given c.args.header.now c.read_header-read.result c.read_header-read.ensures out c.if-read-ne0.false _ (room) (few) c.check_elements-checked.result c.check_elements-checked.ensures c.if-held-eq0.true)
+    let (value, after) = of_held c.args.header.now out (same_elements) (none_given c.args.header.now c.read_header-read.result c.read_header-read.ensures out c.if-read-ne0.false _ (room) (few) c.check_elements-checked.result c.check_elements-checked.ensures c.if-held-eq0.true) in
+    record { value = value; out_after = after }
 
 pub write_text-requires : goal.write_text-requires
 write_text-requires c =
@@ -73,4 +77,5 @@ returns c =
     let few : c.held-held.result.len ≤ 65 = omega (arith, ap (λ l. l.len) c.held-held.ensures) in
     let same_elements : elements_of c.held-held.result ≡ elements_of c.args.list = ap elements_of c.held-held.ensures ∙ held_elements c.args.list (places) in
     let out = c.args.out.now in
-    of_held c.args.header.now out (same_elements) (text_written c.args.header.now c.read_header-read.result c.read_header-read.ensures out c.if-read-ne0.false _ (room) (few) c.check_elements-checked.result c.check_elements-checked.ensures c.if-checked-ne0.false c.if-held-eq0.false c.write_text.ensures)
+    let (value, after) = of_held c.args.header.now out (same_elements) (text_written c.args.header.now c.read_header-read.result c.read_header-read.ensures out c.if-read-ne0.false _ (room) (few) c.check_elements-checked.result c.check_elements-checked.ensures c.if-checked-ne0.false c.if-held-eq0.false (c.write_text.ensures.value, c.write_text.ensures.out_after)) in
+    record { value = value; out_after = after }

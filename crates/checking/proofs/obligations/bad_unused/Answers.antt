@@ -6,7 +6,6 @@ use mathlib.Core.Logic.{⊎_elim}
 use native.Mathlib.Nat.{eq-or-lt_of_le}
 use native.Mathlib.Omega.{arith}
 use lib.ListN.{drop_of_length-le}
-use borrow.Author.Rules.{rules}
 use Rattle.meaning.specs.Model.{places_of}
 use Rattle.meaning.specs.Reading.{other_content, bad_unused}
 use Rattle.laws.proofs.Types.{Element}

@@ -3,7 +3,6 @@ use mathlib.Core.Path.{◌≡◌, refl, sym, ◌∙◌}
 use mathlib.Core.List.{[], ◌∷◌}
 use native.Mathlib.Omega.{arith}
 use lib.Dec.{lit≤}
-use borrow.Author.Rules.{rules}
 use Rattle.meaning.specs.Model.{word_text}
 use Rattle.meaning.specs.Reading.{obligation_tests}
 use Rattle.laws.proofs.Bools.{contradiction}

@@ -1,7 +1,6 @@
 -- `known` meets its contract.
 use mathlib.Core.Path.{sym}
 use mathlib.Core.Bool.{or-false}
-use borrow.Author.Tests.{not-true, not-false}
 use Rattle.checking.proofs.obligations.known.Goals as goal
 
 pub returns-then-not-later : goal.returns-then-not-later

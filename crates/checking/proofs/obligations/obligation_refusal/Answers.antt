@@ -4,7 +4,6 @@ use mathlib.Core.Path.{◌≡◌, sym, ◌∙◌}
 use mathlib.Core.Bool.{false, cond}
 use mathlib.Core.List.{[], ◌∷◌, map}
 use lib.ListN.{drop}
-use borrow.Author.Rules.{rules}
 use borrow.Author.Tests.{not-true, not-false}
 use Rattle.meaning.specs.Text.{is_none, among_names}
 use Rattle.meaning.specs.Model.{obligation_name, word_text}

@@ -1,6 +1,5 @@
 -- `other_content` meets its contract: the length, the name's bytes, the word.
 use mathlib.Core.Path.{sym, ◌∙◌}
-use borrow.Author.Rules.{rules}
 use borrow.Author.Tests.{eq-eqb, ne_eqb}
 use Rattle.checking.proofs.obligations.other_content.Goals as goal
 

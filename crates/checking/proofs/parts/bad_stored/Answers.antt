@@ -3,8 +3,6 @@ use mathlib.Core.Path.{◌≡◌, sym, ◌∙◌}
 use native.Mathlib.Nat.{sub-zero}
 use native.Mathlib.Omega.{arith}
 use lib.ListN.{take}
-use borrow.Author.Rules.{rules}
-use borrow.Author.Tests.{not-true, not-false}
 use Rattle.meaning.specs.Text.{is_name}
 use Rattle.checking.proofs.Names.{name_empty, name_long, name_wrong, name_right}
 use Rattle.checking.proofs.parts.bad_stored.Goals as goal
@@ -24,4 +22,4 @@ pub returns : goal.returns
 returns c =
     let found : is_name (take c.args.stored c.args.name) ≡ c.is_name.result = sym (simp sub-zero at c.is_name.ensures) in
     let a = c.args in
-    c.non_zero.ensures ∙ sym (name_right a.stored a.t1 (omega arith) (omega arith) (found ∙ c.if-not-is_name.false))
+    c.non_zero.ensures ∙ sym (name_right a.stored a.name (omega arith) (omega arith) (found ∙ c.if-not-is_name.false))

@@ -1,10 +1,8 @@
 -- `non_zero` meets its contract. The loop keeps the answer: a byte from `i` on is not zero.
-use Prim.Native.Nat.{◌-◌, ◌≤◌}
 use mathlib.Core.Path.{◌≡◌, refl, sym, ◌∙◌}
 use native.Mathlib.Omega.{arith}
-use lib.ListN.{length, drop}
+use lib.ListN.{length}
 use borrow.Author.Rules.{rules}
-use Rattle.meaning.specs.Reading.{non_zero}
 use Rattle.checking.proofs.Zeros.{zeros_end, zeros_stop, zeros_next}
 use Rattle.checking.proofs.parts.non_zero.Goals as goal
 

@@ -14,7 +14,7 @@ use Rattle.joined_text.proofs.Targets.{room_for}
 use Rattle.joined_text.proofs.lines.put_targets.Given as goal
 
 abbrev pub invariant-loop-i : goal.invariant-loop-i
-invariant-loop-i l = (l.i ≤ l.len) × Sofar (λ l.i. tab ∷ placed_target l.n (cut tab l.targets) (get_or l.places l.i 0)) (length l.targets + 2) 0 l.initial.out l.at l.i l.out l.end
+invariant-loop-i l = (l.i ≤ l.len) × Sofar (λ i. tab ∷ placed_target l.n (cut tab l.targets) (get_or l.places i 0)) (length l.targets + 2) 0 l.initial.out l.at l.i l.out l.end
 
 abbrev pub decreases-loop-i : goal.decreases-loop-i
 decreases-loop-i l = l.len - l.i

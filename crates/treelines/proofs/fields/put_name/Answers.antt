@@ -9,5 +9,5 @@ use Rattle.treelines.proofs.fields.put_name.Goals as goal
 pub returns : goal.returns
 returns c =
     let a = c.args in
-    let size : length a.t1 ≡ 16 = search rules in
-    name_put a.t1 a.len (omega arith) c.requires.0 c.put_field.ensures
+    let size : length a.name ≡ 16 = search rules in
+    name_put a.name a.len (omega arith) c.requires.0 c.put_field.ensures

@@ -1,7 +1,6 @@
 -- `put_obligation` meets its contract: the law of an obligation's line.
 use Rattle.meaning.specs.Model.{obligation_name, word_text}
 use Rattle.treelines.proofs.ObligationLines.{obligation_line_lem}
-use borrow.Author.Rules.{rules}
 use Rattle.treelines.proofs.obligations.put_obligation.Goals as goal
 
 pub returns : goal.returns

@@ -1,7 +1,6 @@
 -- `put_obligations` meets its contract: none, one or two lines.
 use native.Mathlib.Omega.{arith}
 use Rattle.treelines.proofs.ObligationLines.{first_short, second_short, no_lines, one_line, two_lines}
-use borrow.Author.Rules.{rules}
 use Rattle.treelines.proofs.obligations.put_obligations.Goals as goal
 
 pub returns-then-e-eq0 : goal.returns-then-e-eq0

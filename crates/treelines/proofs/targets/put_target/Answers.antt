@@ -1,7 +1,6 @@
 -- `put_target` meets its contract: the two cases of a target's text.
 use Rattle.meaning.specs.Text.{cut, tab}
 use Rattle.treelines.proofs.TargetTexts.{star, not_star}
-use borrow.Author.Rules.{rules}
 use Rattle.treelines.proofs.targets.put_target.Goals as goal
 
 pub returns-then-mask-full_mask : goal.returns-then-mask-full_mask

@@ -1,11 +1,11 @@
 -- `put_targets` meets its contract. The loop keeps the targets of the attributes before `i`, each with its tab.
 use mathlib.Core.Path.{◌≡◌}
-use Prim.Native.Nat.{◌-◌, ◌≤◌, ◌<◌}
+use Prim.Native.Nat.{◌<◌}
 use native.Mathlib.Omega.{arith}
 use borrow.Author.Rules.{rules}
 use lib.ListN.{length}
 use Rattle.layout.specs.Places.{Standing}
-use Rattle.printing.proofs.Walks.{Sofar, begun, stored, ended_all}
+use Rattle.printing.proofs.Walks.{begun, stored, ended_all}
 use Rattle.treelines.proofs.TargetTexts.{values_short, tab_target, tab_put, all_targets}
 use Rattle.treelines.proofs.targets.put_targets.Goals as goal
 
@@ -15,67 +15,53 @@ loop-i-init c =
     (omega arith, begun (tab_target args.header.now args.a.values args.a.ends args.e.masks) 16386 0 args.out.now args.at)
 
 pub offset_bounds-values-i : goal.offset_bounds-values-i
-offset_bounds-values-i c = let small = below-six (c) in search rules
+offset_bounds-values-i c = let small : c.loop-i.i < 6 = omega (arith, c.requires.0.standing.few) in search rules
 
 pub bounds-values-i : goal.bounds-values-i
-bounds-values-i c = let small = below-six (c) in search rules
+bounds-values-i c = let small : c.loop-i.i < 6 = omega (arith, c.requires.0.standing.few) in search rules
 
 pub offset_bounds-ends-i : goal.offset_bounds-ends-i
-offset_bounds-ends-i c = let small = below-six (c) in search rules
+offset_bounds-ends-i c = let small : c.loop-i.i < 6 = omega (arith, c.requires.0.standing.few) in search rules
 
 pub bounds-ends-i : goal.bounds-ends-i
-bounds-ends-i c = let small = below-six (c) in search rules
+bounds-ends-i c = let small : c.loop-i.i < 6 = omega (arith, c.requires.0.standing.few) in search rules
 
 pub put-target-requires : goal.put-target-requires
 put-target-requires c = omega (arith, c.loop-i.invariant.1.within, c.requires.0.standing.few)
 
 pub slice_bounds-put_target-count : goal.slice_bounds-put_target-count
 slice_bounds-put_target-count c =
-    let standing : let args = c.args in Standing args.header.now args.a c.loop-i.i = c.requires.0.standing.each c.loop-i.i (omega arith) in
-    let here = standing in search rules
+    let here : Standing c.args.header.now c.args.a c.loop-i.i = c.requires.0.standing.each c.loop-i.i (omega arith) in search rules
 
 pub slice_bounds-put_target-start : goal.slice_bounds-put_target-start
 slice_bounds-put_target-start c =
-    let standing : let args = c.args in Standing args.header.now args.a c.loop-i.i = c.requires.0.standing.each c.loop-i.i (omega arith) in
-    let here = standing in search rules
+    let here : Standing c.args.header.now c.args.a c.loop-i.i = c.requires.0.standing.each c.loop-i.i (omega arith) in search rules
 
 pub slice_bounds-put_target-end : goal.slice_bounds-put_target-end
 slice_bounds-put_target-end c =
-    let standing : let args = c.args in Standing args.header.now args.a c.loop-i.i = c.requires.0.standing.each c.loop-i.i (omega arith) in
-    let here = standing in search rules
+    let here : Standing c.args.header.now c.args.a c.loop-i.i = c.requires.0.standing.each c.loop-i.i (omega arith) in search rules
 
 pub offset_bounds-counts-i : goal.offset_bounds-counts-i
-offset_bounds-counts-i c =
-    let below-six : c.loop-i.i < 6 = omega (arith, c.requires.0.standing.few) in
-    let small = below-six in search rules
+offset_bounds-counts-i c = let small : c.loop-i.i < 6 = omega (arith, c.requires.0.standing.few) in search rules
 
 pub bounds-counts-i : goal.bounds-counts-i
-bounds-counts-i c =
-    let below-six : c.loop-i.i < 6 = omega (arith, c.requires.0.standing.few) in
-    let small = below-six in search rules
+bounds-counts-i c = let small : c.loop-i.i < 6 = omega (arith, c.requires.0.standing.few) in search rules
 
 pub offset_bounds-masks-i : goal.offset_bounds-masks-i
-offset_bounds-masks-i c =
-    let below-six : c.loop-i.i < 6 = omega (arith, c.requires.0.standing.few) in
-    let small = below-six in search rules
+offset_bounds-masks-i c = let small : c.loop-i.i < 6 = omega (arith, c.requires.0.standing.few) in search rules
 
 pub bounds-masks-i : goal.bounds-masks-i
-bounds-masks-i c =
-    let below-six : c.loop-i.i < 6 = omega (arith, c.requires.0.standing.few) in
-    let small = below-six in search rules
+bounds-masks-i c = let small : c.loop-i.i < 6 = omega (arith, c.requires.0.standing.few) in search rules
 
 pub put_target-end-requires : goal.put_target-end-requires
 put_target-end-requires c =
-    let standing : let args = c.args in Standing args.header.now args.a c.loop-i.i = c.requires.0.standing.each c.loop-i.i (omega arith) in
     let pre = c.requires in
     let l = c.loop-i in
-    let here = standing in
+    let here : Standing c.args.header.now c.args.a l.i = pre.0.standing.each l.i (omega arith) in
     (here.count, pre.0.few_values l.i (omega arith), values_short here pre.0.short, omega (arith, l.invariant.1.within, pre.0.standing.few, c.put-target.ensures.moved))
 
 pub overflow_add-i : goal.overflow_add-i
-overflow_add-i c =
-    let below-six : c.loop-i.i < 6 = omega (arith, c.requires.0.standing.few) in
-    let small = below-six in search rules
+overflow_add-i c = let small : c.loop-i.i < 6 = omega (arith, c.requires.0.standing.few) in search rules
 
 pub loop-i-preserved : goal.loop-i-preserved
 loop-i-preserved c =

@@ -1,12 +1,7 @@
 -- `put_targets` meets its contract. The loop keeps the targets of the attributes before `i`, each with its tab.
-use mathlib.Core.Path.{◌≡◌}
-use Prim.Native.Nat.{◌-◌, ◌≤◌, ◌<◌}
-use native.Mathlib.Omega.{arith}
-use borrow.Author.Rules.{rules}
-use lib.ListN.{length}
-use Rattle.layout.specs.Places.{Standing}
-use Rattle.printing.proofs.Walks.{Sofar, begun, stored, ended_all}
-use Rattle.treelines.proofs.TargetTexts.{values_short, tab_target, tab_put, all_targets}
+use Prim.Native.Nat.{◌-◌, ◌≤◌}
+use Rattle.printing.proofs.Walks.{Sofar}
+use Rattle.treelines.proofs.TargetTexts.{tab_target}
 use Rattle.treelines.proofs.targets.put_targets.Given as goal
 
 abbrev pub invariant-loop-i : goal.invariant-loop-i

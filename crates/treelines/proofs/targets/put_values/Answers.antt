@@ -1,9 +1,6 @@
 -- `put_values` meets its contract. The invariant is `Walked`: the names stored and those left are all names. The measure is what is left of the values.
-use Prim.Native.Nat.{◌+◌, ◌-◌}
 use native.Mathlib.Omega.{arith}
-use borrow.Author.Rules.{rules}
-use lib.ListN.{length}
-use Rattle.treelines.proofs.Values.{Walked, walk_starts, walk_names, walk_names_last, walk_passes, walk_passes_last}
+use Rattle.treelines.proofs.Values.{walk_starts, walk_names, walk_names_last, walk_passes, walk_passes_last}
 use Rattle.treelines.proofs.targets.put_values.Goals as goal
 
 pub loop-left-init : goal.loop-left-init

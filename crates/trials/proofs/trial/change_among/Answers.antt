@@ -3,8 +3,6 @@ use Prim.Native.Nat.{◌≤◌}
 use mathlib.Core.Path.{refl, sym, ◌∙◌}
 use native.Mathlib.Omega.{arith}
 use lib.ListN.{length}
-use borrow.Author.Tests.{not-true}
-use borrow.Author.Rules.{rules}
 use Rattle.moves.specs.Moved.{kept}
 use Rattle.differences.proofs.Marking.{first_decided}
 use Rattle.trials.proofs.Comparing.{compared, suspects_copied, found_copied}
@@ -23,7 +21,7 @@ difference_in-requires c =
     let args = c.args in
     let pre = c.requires in
     let copying = c.copy_flags in
-    let copy = copying.new.1.1.0 in
+    let copy = copying.new.copy in
     let room : args.shape.n ≤ length copy = omega (arith, copying.ensures.1, pre.0.aside.ready.few) in
     (compared args.file.now args.places.now args.table.now args.struck.now args.hits.now args.outcomes.now args.shape args.rule pre.0 copy room copying.ensures.0, pre.1, pre.2, suspects_copied args.file.now args.places.now args.table.now args.struck.now args.hits.now args.outcomes.now args.shape args.rule pre.0 copy room copying.ensures.0 args.block args.on pre.3)
 
@@ -32,6 +30,6 @@ returns c =
     let args = c.args in
     let pre = c.requires in
     let copying = c.copy_flags in
-    let copy = copying.new.1.1.0 in
+    let copy = copying.new.copy in
     let room : args.shape.n ≤ length copy = omega (arith, copying.ensures.1, pre.0.aside.ready.few) in
     found_copied args.file.now args.places.now args.table.now args.struck.now args.hits.now args.outcomes.now args.shape args.rule pre.0 copy room copying.ensures.0 args.block _ c.difference_in.ensures

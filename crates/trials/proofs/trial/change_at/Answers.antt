@@ -1,6 +1,5 @@
 -- `change_at`: what the rule moves tells where a request can get something else. Assumes nothing.
 use native.Mathlib.Omega.{arith}
-use borrow.Author.Rules.{rules}
 use Rattle.trials.proofs.Moving.{child, block_ready, suspects, none_moved, first_moved}
 use Rattle.trials.proofs.trial.change_at.Goals as goal
 

@@ -1,10 +1,7 @@
 -- `copy_flags`: one flag more. Assumes nothing.
-use Prim.Native.Nat.{◌-◌, ◌≤◌}
-use mathlib.Core.Path.{◌≡◌, refl, ◌∙◌}
+use mathlib.Core.Path.{refl, ◌∙◌}
 use native.Mathlib.Omega.{arith}
-use borrow.Author.Rules.{rules}
-use lib.ListN.{length, length-set}
-use Rattle.trials.specs.Trial.{Copied}
+use lib.ListN.{length-set}
 use Rattle.trials.proofs.Copying.{copied_next}
 use Rattle.trials.proofs.trial.copy_flags.Goals as goal
 

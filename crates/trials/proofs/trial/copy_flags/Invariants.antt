@@ -1,11 +1,8 @@
 -- `copy_flags`: one flag more. Assumes nothing.
 use Prim.Native.Nat.{◌-◌, ◌≤◌}
-use mathlib.Core.Path.{◌≡◌, refl, ◌∙◌}
-use native.Mathlib.Omega.{arith}
-use borrow.Author.Rules.{rules}
-use lib.ListN.{length, length-set}
+use mathlib.Core.Path.{◌≡◌}
+use lib.ListN.{length}
 use Rattle.trials.specs.Trial.{Copied}
-use Rattle.trials.proofs.Copying.{copied_next}
 use Rattle.trials.proofs.trial.copy_flags.Given as goal
 
 abbrev pub invariant-loop-i : goal.invariant-loop-i

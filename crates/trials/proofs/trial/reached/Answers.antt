@@ -1,7 +1,6 @@
 -- `reached`: what `moved` tells, or the word of those that match. Assumes nothing.
 use mathlib.Core.Path.{refl}
 use native.Mathlib.Omega.{arith}
-use borrow.Author.Rules.{rules}
 use Rattle.trials.proofs.trial.reached.Goals as goal
 
 pub moved-requires : goal.moved-requires

@@ -1,0 +1,23 @@
+-- `decide_at` and `fold` call each other, and what is left of the table falls. `fold` keeps a reply that stands for the children passed.
+use Rattle.std.proofs.Common.{◌-◌, ◌≡◌, ◌+◌, ◌≤◌, ◌*◌, ◌∷◌}
+use Rattle.meaning.specs.Deciding.{matches, combined}
+use Rattle.requests.specs.Values.{values_of, severals_of}
+use Rattle.table.specs.Rows.{algorithm_at}
+use Rattle.decisions.specs.Replies.{reply_of, replies_from}
+use Rattle.decisions.proofs.Combining.{Settled}
+use Rattle.decisions.proofs.+decide_at_fold.Given as goal
+
+abbrev pub decreases-decide_at : goal.decreases-decide_at
+decreases-decide_at l = 2 * (l.n - l.at)
+
+abbrev pub decreases-fold : goal.decreases-fold
+decreases-fold l = 2 * (l.n - l.from) + 1
+
+abbrev pub invariant-fold-loop-at : goal.invariant-fold-loop-at
+invariant-fold-loop-at l =
+    (l.from ≤ l.at) × (l.at ≤ l.n) × Settled l.algorithm (reply_of l.so_far)
+    × (combined (algorithm_at l.algorithm) (replies_from (matches (severals_of l.q) (values_of l.q)) l.table l.struck l.n l.depth l.from)
+    ≡ combined (algorithm_at l.algorithm) (reply_of l.so_far ∷ replies_from (matches (severals_of l.q) (values_of l.q)) l.table l.struck l.n l.depth l.at))
+
+abbrev pub decreases-fold-loop-at : goal.decreases-fold-loop-at
+decreases-fold-loop-at l = l.n - l.at
