@@ -108,7 +108,11 @@ fn print_argument<R: Files + Print + Eprint>(rt: &R, argument: &[u8]) -> io::Res
     match str::from_utf8(argument) {
         Ok(name) => print_file(rt, name),
         Err(_) => {
-            fail(rt, "argument", &io::Error::from(io::ErrorKind::InvalidFilename));
+            fail(
+                rt,
+                "argument",
+                &io::Error::from(io::ErrorKind::InvalidFilename),
+            );
             Ok(())
         }
     }
@@ -120,7 +124,11 @@ fn main(rt: HostRuntime) -> io::Result<()> {
         match rt.arg(i, &mut argument) {
             Ok(n) => print_argument(&rt, &argument[..n])?,
             Err(FillError::TooLong) => {
-                fail(&rt, "argument", &io::Error::from_raw_os_error(NAME_TOO_LONG));
+                fail(
+                    &rt,
+                    "argument",
+                    &io::Error::from_raw_os_error(NAME_TOO_LONG),
+                );
             }
             Err(FillError::NotPresent) => break,
         }
