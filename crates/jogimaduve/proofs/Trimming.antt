@@ -34,7 +34,7 @@ small_text f p h needed l = omega (arith, (accepted f p h).size)
 
 -- The flags that striking leaves
 module _ (f table places : List ℕ) (r : Reading) (p : Policy) (h : read f ≡ given p) (holds : ReadPolicy f table places r p) (s : Shape) (shaped : s ≡ policy_shape r)
-    (flags : List ℕ) (struck : flags ≡ (table-level.trimmingAt f places table s.n (hit_of s) s.space s.n none_struck).flags) where
+    (flags : List ℕ) (struck : flags ≡ (table-level.trimming_at f places table s.n (hit_of s) s.space s.n none_struck).flags) where
   abbrev text : Bytes
   text = copied f places flags r.elements
 
@@ -43,7 +43,7 @@ module _ (f table places : List ℕ) (r : Reading) (p : Policy) (h : read f ≡ 
   text_is =
       let n = r.elements in
       let size = elements_are f table places r p h holds in
-      let here = subst (λ s. flags ≡ (table-level.trimmingAt f places table s.n (hit_of s) s.space s.n none_struck).flags) shaped struck in
+      let here = subst (λ s. flags ≡ (table-level.trimming_at f places table s.n (hit_of s) s.space s.n none_struck).flags) shaped struck in
       let same_flags = ap (λ t. t.flags) (trimming_is f p h table places n holds.elements size (hit_of (policy_shape r)) r.space (hits_are f table places r p h holds) (space_is f table places r p h holds) n none_struck refl) in
       ap (λ t. t.text) (trimmed_flags f p h n none_struck none_clear (omega (arith, size, few f table places r p h holds)) (omega (arith, size)))
       ∙ ap (text_left f p) (sym same_flags ∙ sym here)

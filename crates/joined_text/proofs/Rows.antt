@@ -1,12 +1,12 @@
 -- Lines one deeper, field by field.
-use mathlib.Core.Path.{◌≡◌, refl, sym, ap, ◌∙◌, subst}
-use mathlib.Core.Logic.{◌⊎◌, inl, inr}
+use mathlib.Core.Path.{◌≡◌, sym, ap, ◌∙◌, subst}
+use mathlib.Core.Logic.{inl, inr}
 use mathlib.Core.Bool.{true, false}
 use mathlib.Core.List.{List, [], ◌∷◌, ◌++◌, map, append_assoc}
-use Prim.Native.Nat.{ℕ, suc, ◌+◌, ◌-◌, ◌*◌, ◌/◌, ◌≤◌, ◌<◌}
+use Prim.Native.Nat.{ℕ, suc, ◌+◌, ◌-◌, ◌*◌, ◌/◌, ◌≤◌}
 use native.Mathlib.Omega.{arith}
 use lib.ListN.{length, take, drop, get_or, length-append}
-use Rattle.meaning.specs.Text.{Bytes, gathered, cut, join, tab, newline, line, decimal}
+use Rattle.meaning.specs.Text.{Bytes, gathered, cut, tab, newline, line, decimal}
 use Rattle.meaning.specs.Reading.{obligation_letter, depth_of}
 use Rattle.laws.proofs.Bools.{contradiction}
 use Rattle.laws.proofs.Text.{join_cut}

@@ -1,5 +1,5 @@
 -- A line one deeper, by the places of the joined attributes among a file's own; and what is asked of a file and of its lines.
-use Rattle.std.specs.Prelude.{ℕ, suc, ◌≤◌, ◌<◌, ◌≡◌, ◌⊎◌, true, cond, List, [], ◌∷◌, ◌++◌, map, ltb, length, drop, get_or}
+use Rattle.std.specs.Prelude.{ℕ, suc, ◌≤◌, ◌≡◌, ◌⊎◌, true, cond, List, [], ◌∷◌, ◌++◌, map, ltb, length, drop, get_or}
 use Rattle.meaning.specs.Text.{Bytes, bytes, counting, cut, tab, line, decimal}
 use Rattle.meaning.specs.Reading.{obligation_letter, depth_of}
 use Rattle.meaning.specs.Trimming.{file_lines}

@@ -8,9 +8,9 @@ use lib.ListN.{length, take, drop, take-append-drop, length-drop}
 use lib.Seq.{length-take-le}
 use borrow.Author.Tests.{le-leb, eq-eqb}
 use Rattle.laws.proofs.Types.{Element, Obligation, rule}
-use Rattle.meaning.specs.Text.{Bytes, is_none, between, cut, join, tab, line, decimal, all, is_field, bytes}
+use Rattle.meaning.specs.Text.{Bytes, is_none, between, cut, join, tab, decimal, all, is_field, bytes}
 use Rattle.meaning.specs.Model.{Attribute, padded, name_of, kind_text, word_text, obligations_of, with_obligations, places_of, unused, obligation_name}
-use Rattle.meaning.specs.Reading.{Line, tree_line, line_of, depth_of, word_of, masks_of, or_permit, element_of, Sofar, non_zero, bad_masks, element_tests, line_tests, wrong_fields, with_element, extended, read_lines, short, obligation_tests, obligation_of, with_obligation, obligation_line}
+use Rattle.meaning.specs.Reading.{Line, tree_line, line_of, depth_of, word_of, masks_of, or_permit, element_of, Sofar, non_zero, bad_masks, element_tests, line_tests, wrong_fields, with_element, extended, read_lines, obligation_tests, obligation_of, with_obligation, obligation_line}
 use Rattle.meaning.specs.Writing.{target_texts, element_fields, obligation_fields}
 use Rattle.meaning.specs.Claims.Writing.{Shaped}
 use Rattle.meaning.specs.Claims.Texts.{All}

@@ -5,7 +5,7 @@ use native.Mathlib.Omega.{arith}
 use mathlib.Core.Bool.{false}
 use mathlib.Core.List.{List, [], ◌∷◌, ◌++◌, map}
 use lib.ListN.{length, get_or, replicate}
-use lib.Seq.{length-take-le, take-append_seam}
+use lib.Seq.{length-take-le}
 use Rattle.meaning.specs.Text.{Bytes, bytes, gathered}
 use Rattle.meaning.specs.Model.{Attribute, obligation_name, unused, places_of, obligations_of, with_obligations, word_text}
 use Rattle.meaning.specs.Reading.{may_have_obligations}

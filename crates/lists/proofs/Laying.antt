@@ -4,15 +4,12 @@ use Prim.Native.Nat.{ℕ, zero, suc, ◌+◌, ◌-◌, ◌≤◌, ◌<◌}
 use native.Mathlib.Numerals.{add-one}
 use native.Mathlib.Omega.{arith}
 use mathlib.Core.List.{List, [], ◌∷◌, ◌++◌, append_assoc}
-use lib.ListN.{length, take, drop, get_or, set, replicate, length-append, length-drop, length-replicate, replicate-append-replicate}
+use lib.ListN.{length, take, drop, get_or, set, replicate, length-replicate, replicate-append-replicate}
 use lib.Seq.{take-suc, drop-cons, set_at, length-take-le, take-length, drop_at}
 
 module _ {X : Type 0} where
   abbrev pub laid : List X → ℕ → List X → List X
   laid xs n ys = take n xs ++ drop n ys
-
-  pub laid_length : (xs ys : List X) (n : ℕ) → n ≤ length xs → n ≤ length ys → length (laid xs n ys) ≡ length ys
-  laid_length xs ys n l m = length-append (take n xs) (drop n ys) ∙ omega (arith, length-take-le n xs l, length-drop n ys)
 
   -- one more
   pub laid_next : (xs ys : List X) (n : ℕ) (d : X) → n < length xs → n < length ys → set (laid xs n ys) n (get_or xs n d) ≡ laid xs (n + 1) ys

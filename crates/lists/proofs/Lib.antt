@@ -1,4 +1,4 @@
--- Laws that the proofs of lists cite, what the walks by hand share, and demand 2.
+-- Laws that the proofs of lists cite, what walks by hand in crates above share, and demand 2.
 mod Laying
 mod Parts
 mod Reading

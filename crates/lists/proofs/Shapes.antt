@@ -1,8 +1,7 @@
 -- What its Rattle type says of an element: 16 name bytes and six masks. So has each element of a list by value.
-use mathlib.Core.Path.{sym, ◌∙◌}
 use Prim.Native.Nat.{ℕ, zero, suc}
-use mathlib.Core.List.{List, [], ◌∷◌, map}
-use lib.ListN.{take, length-map}
+use mathlib.Core.List.{List, [], ◌∷◌}
+use lib.ListN.{take}
 use mir.Val.{Val}
 use denote.Shadow.{shadow}
 use denote.Laws.{Is}
@@ -18,9 +17,9 @@ use Rattle.elements.specs.contracts.Elements as B
 element_shaped : (e : Element) (vs : List Val) → Is T.the_row e vs → Shaped e
 element_shaped e vs is =
     let are = is.1.1 in
-    record { name_size = sym (length-map e.name (λ x. x)) ∙ are.1.1.0.1.0.1; masks_size = sym (length-map e.masks (λ x. x)) ∙ are.1.1.1.1.1.0.1.0.1; places_size = (sym (length-map e.first.name (λ x. x)) ∙ are.1.1.1.1.1.1.1.0.1.1.0.1.0.1, (sym (length-map e.second.name (λ x. x)) ∙ are.1.1.1.1.1.1.1.1.0.1.1.0.1.0.1, tt)) }
+    record { name_size = are.1.1.0.1.0.1; masks_size = are.1.1.1.1.1.0.1.0.1; places_size = (are.1.1.1.1.1.1.1.0.1.1.0.1.0.1, (are.1.1.1.1.1.1.1.1.0.1.1.0.1.0.1, tt)) }
 
-each_shaped : (es : List Element) (us : List Val) → shadow (each (T.the_field).row.Denot (T.the_field).row.own_val (map (T.the_field).into es) us) → All Shaped es
+each_shaped : (es : List Element) (us : List Val) → shadow (each (T.the_row).Denot (T.the_row).own_val es us) → All Shaped es
 each_shaped [] [] s = tt
 each_shaped [] (u ∷ us) s = tt
 each_shaped (e ∷ es) [] s = absurd s

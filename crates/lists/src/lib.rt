@@ -1,5 +1,4 @@
 // Lists of elements that the caller lends: a file read into one, and one written as a file.
-// The borrow checker covers no function that takes a slice of structs: `fill`, `read_list`, `elements_of` and `write_list` are proved by hand.
 #![tactic(auto)]
 
 mod element;

@@ -2,7 +2,7 @@
 use Rattle.std.specs.Prelude.{ℕ, suc, Bool, not, cond, ◌&&◌, List, [], ◌∷◌, ◌++◌, map, length, drop, get_or}
 use Rattle.std.proofs.Math.Option.{Option, none, some}
 use Rattle.meaning.specs.Text.{Bytes, bytes, is_none, any, keep, gathered, same, same_name, among_names, cut, join, tab, line, decimal}
-use Rattle.meaning.specs.Model.{set, Attribute, Policy, Result, given, ◌then◌, unless, unless_found, fitted, letter_text, attribute_fields}
+use Rattle.meaning.specs.Model.{set, Attribute, Result, given, ◌then◌, unless, unless_found, fitted, letter_text, attribute_fields}
 use Rattle.meaning.specs.Reading.{obligation_letter, depth_of, word_of, lowest, read}
 use Rattle.meaning.specs.Trimming.{file_lines}
 

@@ -18,7 +18,7 @@ use Rattle.matching.specs.Hits.{HitsLaid}
 use Rattle.outcomes.specs.Decided.{none_struck, outcome_at}
 use Rattle.outcomes.specs.PolicyTable.{OutcomesLaid}
 use Rattle.outcomes.proofs.Laying.{laid_at_lem}
-use Rattle.trimming.specs.Decided.{onward, shownAt, next_at, trimming_at}
+use Rattle.trimming.specs.Decided.{onward, shown_at, next_at, trimming_at}
 use Rattle.trials.specs.Trial.{Laid}
 use Rattle.trimming.specs.Trims.{Trims}
 use Rattle.trimmed_text.proofs.Steadying.{steady}
@@ -47,7 +47,7 @@ order_few f places t n hit space (suc k) struck = go (next_at f places t n hit s
 module _ (t : List ℕ) (s : Shape) where
   -- the rules, from the flags that striking left
   module _ (f : Bytes) (places outcomes flags old order behind shown : List ℕ) (count : ℕ) (trims : Trims f places t outcomes s none_struck flags old order count) where
-    pub rules_found : shown ≡ map (shownAt f places t s.n (hit_of s) s.space flags) (counting 0 s.n) ++ behind → RulesFound f places t s.n (hit_of s) s.space order shown count
+    pub rules_found : shown ≡ map (shown_at f places t s.n (hit_of s) s.space flags) (counting 0 s.n) ++ behind → RulesFound f places t s.n (hit_of s) s.space order shown count
     rules_found e =
         let end = trimmed_at f places t s.n (hit_of s) s.space in
         record {
@@ -55,7 +55,7 @@ module _ (t : List ℕ) (s : Shape) where
           counted = trims.count_is;
           few = omega (arith, trims.count_is, order_few f places t s.n (hit_of s) s.space s.n none_struck);
           stays = subst (λ fs. get_or fs 0 0 ≡ 0) trims.flags_are trims.ready.stays;
-          needed = λ i l. laid_at_lem (shownAt f places t s.n (hit_of s) s.space flags) s.n behind e i l ∙ ap (λ fs. shownAt f places t s.n (hit_of s) s.space fs i) trims.flags_are;
+          needed = λ i l. laid_at_lem (shown_at f places t s.n (hit_of s) s.space flags) s.n behind e i l ∙ ap (λ fs. shown_at f places t s.n (hit_of s) s.space fs i) trims.flags_are;
         }
 
   -- segments, from the words of all requests

@@ -40,16 +40,16 @@ module _ (f : Bytes) (places table : List ℕ) (n : ℕ) (hit : ℕ → Element 
   -- the next one
   next_below : (struck : List ℕ) (i : ℕ) → table-level.next_at f places table n hit space struck ≡ some i → i < n
   unfolding table-level.next_at
-  next_below struck i e = (last_some (table-level.needlessAt f places table n hit space struck) n i e).below
+  next_below struck i e = (last_some (table-level.needless_at f places table n hit space struck) n i e).below
 
   -- all of them
-  pub struck_below : (fuel : ℕ) (struck : List ℕ) (i : ℕ) → Memᴰ i (table-level.trimmingAt f places table n hit space fuel struck).order → i < n
-  unfolding table-level.trimmingAt
+  pub struck_below : (fuel : ℕ) (struck : List ℕ) (i : ℕ) → Memᴰ i (table-level.trimming_at f places table n hit space fuel struck).order → i < n
+  unfolding table-level.trimming_at
   struck_below zero struck i m = absurd (Memᴰ.not-nil m)
   struck_below (suc fuel) struck i m = go (table-level.next_at f places table n hit space struck) refl m (λ j. struck_below fuel (set struck j 1) i)
     where
       later : ℕ → table-level.Struck
-      later j = table-level.trimmingAt f places table n hit space fuel (set struck j 1)
+      later j = table-level.trimming_at f places table n hit space fuel (set struck j 1)
 
       either : (j : ℕ) → table-level.next_at f places table n hit space struck ≡ some j → (i ≡ j) ⊎ Memᴰ i (later j).order → (Memᴰ i (later j).order → i < n) → i < n
       either j e (inl same) behind = omega (arith, next_below struck j e)
@@ -94,17 +94,17 @@ module _ (f : Bytes) (p : Policy) (h : read f ≡ given p) (table places : List 
       ∙ ap (gathered (λ m. line (struck_fields m))) (sym struck_names)
 
   -- Requests that show the rules that flags leave
-  module _ (struck shown : List ℕ) (stays : get_or struck 0 0 ≡ 0) (needed : (i : ℕ) → i < n → get_or shown i 0 ≡ table-level.shownAt f places table n hit space struck i) where
+  module _ (struck shown : List ℕ) (stays : get_or struck 0 0 ≡ 0) (needed : (i : ℕ) → i < n → get_or shown i 0 ≡ table-level.shown_at f places table n hit space struck i) where
     -- the line of an element
     kept_line_is : (i : ℕ) → i < n → kept_line f places shown space i ≡ cond (kept_at p struck i) (kept_line_at p struck i) []
-    unfolding kept_line table-level.shownAt table-level.firstChangeAt
+    unfolding kept_line table-level.shown_at table-level.first_change_at
     kept_line_is i l = go (test (kept_at p struck i)) (needed i l)
       where
         s : ℕ
         s = space
 
         change : Option ℕ
-        change = table-level.firstChangeAt f places table n hit space struck i
+        change = table-level.first_change_at f places table n hit space struck i
 
         rule : rule_left table struck i ≡ kept_at p struck i
         rule = rule_is f p h table places n is size hit space hits_are space_is struck i l
@@ -116,7 +116,7 @@ module _ (f : Bytes) (p : Policy) (h : read f ≡ given p) (table places : List 
         go (passed e) found =
             let here : get_or shown i 0 ≡ place_or s change = found ∙ ap (λ b. cond b (place_or s change) s) (rule ∙ e) in
             ap (λ m. cond (ltb m s) (line_for (name_in f places i) m) []) here
-            ∙ first_or (table-level.changesAt f places table n hit struck i) s (line_for (name_in f places i))
+            ∙ first_or (table-level.changes_at f places table n hit struck i) s (line_for (name_in f places i))
             ∙ (λ t. if_some (first_change_is f p h table places n is size hit space hits_are space_is struck stays i e t) (line_for (name i l t)))
             ∙ ap (λ b. cond b (kept_line_at p struck i) []) (sym e)
         go (failed e) found =
@@ -131,7 +131,7 @@ module _ (f : Bytes) (p : Policy) (h : read f ≡ given p) (table places : List 
         ∙ ap (λ k. gathered (λ i. cond (kept_at p struck i) (kept_line_at p struck i) []) (counting 0 k)) (sym size)
 
   -- the `K` lines
-  pub kept_are : (shown : List ℕ) → get_or (trimmed_at f places table n hit space).flags 0 0 ≡ 0 → ((i : ℕ) → i < n → get_or shown i 0 ≡ table-level.shownAt f places table n hit space (trimmed_at f places table n hit space).flags i)
+  pub kept_are : (shown : List ℕ) → get_or (trimmed_at f places table n hit space).flags 0 0 ≡ 0 → ((i : ℕ) → i < n → get_or shown i 0 ≡ table-level.shown_at f places table n hit space (trimmed_at f places table n hit space).flags i)
       → kept_text f places n shown space ≡ gathered (kept_line_of (trimmed f).text) (rule_lines (trimmed f).text)
   kept_are shown stays needed =
       let end = (trimmed_at f places table n hit space).flags in

@@ -5,7 +5,7 @@ use Rattle.meaning.specs.Deciding.{decision_number}
 use Rattle.meaning.specs.declared.Element.{Element}
 use Rattle.table.specs.Tree.{parent_of, place_or}
 use Rattle.outcomes.specs.Decided.{none_struck, decided_at}
-use Rattle.trimming.specs.Decided.{Struck, shownAt, trimming_at}
+use Rattle.trimming.specs.Decided.{Struck, shown_at, trimming_at}
 use Rattle.rows.specs.Words.{applying_at}
 use Rattle.segments.specs.Sizes.{size_at}
 use Rattle.conflicts.specs.Pairs.{shows_at, Pairs}
@@ -36,4 +36,4 @@ pub record RulesFound (f : Bytes) (places table : List ℕ) (n : ℕ) (hit : ℕ
   pub counted : count ≡ length (trimmed_at f places table n hit space).order
   pub few : count ≤ n
   pub stays : get_or (trimmed_at f places table n hit space).flags 0 0 ≡ 0
-  pub needed : (i : ℕ) → i < n → get_or shown i 0 ≡ shownAt f places table n hit space (trimmed_at f places table n hit space).flags i
+  pub needed : (i : ℕ) → i < n → get_or shown i 0 ≡ shown_at f places table n hit space (trimmed_at f places table n hit space).flags i

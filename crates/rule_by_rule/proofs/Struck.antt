@@ -115,7 +115,7 @@ module _ (f table places : List ℕ) (s : Shape) (held : PolicyHeld f table plac
         own_rule = record {
           place = line_of f p h i;
           is_needless = needless_rule f p h (line_of f p h i) (needless_line f p h i rule);
-          has_name_lem = (equal_names name (name_at f (line_of f p h i))).holds (ap (same_name name) (line_name i here.0) ∙ sym (has_name_lem i here.0) ∙ here.1);
+          has_name = (equal_names name (name_at f (line_of f p h i))).holds (ap (same_name name) (line_name i here.0) ∙ sym (has_name_lem i here.0) ∙ here.1);
         }
 
         text_is : strike_named f name ≡ given (copied f places (set none_struck i 1) s.n)

@@ -1,7 +1,7 @@
 -- Words turned round: digit s of the words' numbers exchanged with that of the bits' numbers, for each of six digits.
 use Prim.Native.Nat.{ℕ, zero, suc, ◌+◌, ◌-◌, ◌*◌, ◌/◌, ◌%◌, ◌^◌, ◌≤◌, ◌<◌, zero-le}
 use mathlib.Core.Path.{◌≡◌, refl, sym, ap, ap₂, ◌∙◌}
-use mathlib.Core.Bool.{Bool, true, false, not, ◌&&◌, ◌||◌, and_true, and-false, or-false}
+use mathlib.Core.Bool.{Bool, true, false, not, ◌&&◌, ◌||◌, and-true, and-false, or-false}
 use mathlib.Core.List.{List}
 use mathlib.Core.Option.{none}
 use native.Mathlib.Omega.{arith}
@@ -67,7 +67,7 @@ module _ (old : List ℕ) (s k mask : ℕ) (ls : s < 6) (lk : k < 64) (masked : 
       let (high, off) = (digits s ls).down v (eqb-true (v / 2 ^ s % 2) 1 e) in
       up_high (bit_and x mask) (2 ^ s) v l high
       ∙ bit_and_lem x mask (v - 2 ^ s)
-      ∙ rw (masked (v - 2 ^ s) (omega arith), off_digit (v - 2 ^ s) s off) (and_true (bit x (v - 2 ^ s)))
+      ∙ rw (masked (v - 2 ^ s) (omega arith), off_digit (v - 2 ^ s) s off) (and-true (bit x (v - 2 ^ s)))
 
   raised_off : (x v : ℕ) → v < 64 → bit v s ≡ false → bit (bit_and x mask * 2 ^ (2 ^ s) % 2 ^ 64) v ≡ false
   raised_off x v l e = go (test (leb (2 ^ s) v))
@@ -90,7 +90,7 @@ module _ (old : List ℕ) (s k mask : ℕ) (ls : s < 6) (lk : k < 64) (masked : 
 
       go : Test (bit v s) → bit (low_word (2 ^ s)) v ≡ bit (get_or old (mixed s k v) 0) (mixed s v k)
       go (passed e) = bits ∙ rw (raised_on (get_or old (k + 2 ^ s) 0) v l e, e, off_digit k s off, and-false)
-      go (failed e) = bits ∙ rw (raised_off (get_or old (k + 2 ^ s) 0) v l e, e, off_digit k s off, and_true, or-false)
+      go (failed e) = bits ∙ rw (raised_off (get_or old (k + 2 ^ s) 0) v l e, e, off_digit k s off, and-true, or-false)
 
   pub exchange_high : (j : ℕ) → j ≡ 2 ^ s → (k / 2 ^ s % 2 ≡ 0 → ⊥) → (v : ℕ) → v < 64 → bit (high_word j) v ≡ bit (get_or old (mixed s k v) 0) (mixed s v k)
   exchange_high j power on v l = rw power (go (test (bit v s)))
@@ -105,8 +105,8 @@ module _ (old : List ℕ) (s k mask : ℕ) (ls : s < 6) (lk : k < 64) (masked : 
           (bit_without (get_or old k 0) mask v ∙ ap (λ x. bit (get_or old k 0) v && not x) (masked v l))
 
       go : Test (bit v s) → bit (high_word (2 ^ s)) v ≡ bit (get_or old (mixed s k v) 0) (mixed s v k)
-      go (passed e) = bits ∙ rw (e, set_digit, and-false, and_true)
-      go (failed e) = let at : 2 ^ s + v ≡ v + 2 ^ s = omega arith in bits ∙ rw (at, e, set_digit, and_true, and-false, or-false)
+      go (passed e) = bits ∙ rw (e, set_digit, and-false, and-true)
+      go (failed e) = let at : 2 ^ s + v ≡ v + 2 ^ s = omega arith in bits ∙ rw (at, e, set_digit, and-true, and-false, or-false)
 
 -- The masks
 pub record Masks : Type 0 where

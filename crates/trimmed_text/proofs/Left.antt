@@ -109,7 +109,7 @@ module _ {A : Type 0} where
         let here : at ≡ i = omega arith in
         let left : is_left struck i ≡ true = rw (← here) e in
         let gone : get_or (set struck i 1) i 0 ≡ 1 = get_or-set_same struck i 1 0 (omega arith) in
-        rw (here, left, gone, left_agree (set struck i 1) struck (i + 1) xs (λ j low. get_or-set_other struck i j 1 0 (omega arith)))
+        rw (here, left, gone) (sym (left_agree (set struck at 1) struck (i + 1) xs (λ j low. get_or-set_other struck at j 1 0 (omega arith))))
     left_without i (suc m) at (x ∷ xs) a l b e =
         let other : get_or (set struck at 1) i 0 ≡ get_or struck i 0 = get_or-set_other struck at i 1 0 (omega arith) in
         go other (test (is_left struck i)) (left_without (i + 1) m at xs (omega arith) (omega arith) b e)

@@ -75,12 +75,12 @@ module _ (f : Bytes) (p : Policy) (h : read f ≡ given p) (table places : List 
   next_is struck live = last_alike (table-level.needless_at f places table n hit space struck) (needless_at p struck) n (needless_is struck live) ∙ ap (last_below (needless_at p struck)) (sym size)
 
   -- the same flags at the end, and the same places struck
-  pub trimming_is : (k : ℕ) (struck : List ℕ) → get_or struck 0 0 ≡ 0 → table-level.trimmingAt f places table n hit space k struck ≡ trimming_at k p struck
-  unfolding table-level.trimmingAt trimming_at
+  pub trimming_is : (k : ℕ) (struck : List ℕ) → get_or struck 0 0 ≡ 0 → table-level.trimming_at f places table n hit space k struck ≡ trimming_at k p struck
+  unfolding table-level.trimming_at trimming_at
   trimming_is zero struck live = refl
   trimming_is (suc k) struck live = rw (next_is struck live) (go (next_at p struck) refl (λ i. trimming_is k (set struck i 1)))
     where
-      go : (o : Option ℕ) → next_at p struck ≡ o → ((i : ℕ) → get_or (set struck i 1) 0 0 ≡ 0 → table-level.trimmingAt f places table n hit space k (set struck i 1) ≡ trimming_at k p (set struck i 1))
-          → table-level.onward o struck (λ i. table-level.trimmingAt f places table n hit space k (set struck i 1)) ≡ table-level.onward o struck (λ i. trimming_at k p (set struck i 1))
+      go : (o : Option ℕ) → next_at p struck ≡ o → ((i : ℕ) → get_or (set struck i 1) 0 0 ≡ 0 → table-level.trimming_at f places table n hit space k (set struck i 1) ≡ trimming_at k p (set struck i 1))
+          → table-level.onward o struck (λ i. table-level.trimming_at f places table n hit space k (set struck i 1)) ≡ table-level.onward o struck (λ i. trimming_at k p (set struck i 1))
       go none e later = refl
-      go (some i) e later = ap (table-level.struckFirst i) (later i (first_stays struck i (next_kept p struck i e) live))
+      go (some i) e later = ap (table-level.struck_first i) (later i (first_stays struck i (next_kept p struck i e) live))

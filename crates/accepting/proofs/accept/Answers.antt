@@ -1,6 +1,5 @@
 -- `accept`: the flags of the rules left out stand for the proposal, or it leaves out more. Assumes nothing.
 use mathlib.Core.Path.{sym, ◌∙◌}
-use borrow.Author.Rules.{rules}
 use Rattle.laws.proofs.Bools.{contradiction}
 use Rattle.outcomes.specs.Decided.{none_struck}
 use Rattle.trimmed_text.proofs.Placed.{copies_lined}

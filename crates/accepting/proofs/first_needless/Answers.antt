@@ -1,10 +1,7 @@
 -- `first_needless`: the topmost needless rule from the place looked at on is the topmost of all. Assumes nothing.
-use mathlib.Core.Path.{◌≡◌, refl, sym, ap, ◌∙◌}
-use Prim.Native.Nat.{◌-◌, ◌≤◌}
+use mathlib.Core.Path.{refl, sym, ap, ◌∙◌}
 use native.Mathlib.Nat.{sub-zero}
 use native.Mathlib.Omega.{arith}
-use lib.ListN.{length}
-use borrow.Author.Rules.{rules}
 use Rattle.meaning.specs.Text.{first_from}
 use Rattle.table.specs.Tree.{place_or}
 use Rattle.table.specs.Shape.{hit_of}

@@ -1,17 +1,9 @@
 -- `first_needless`: the topmost needless rule from the place looked at on is the topmost of all. Assumes nothing.
-use mathlib.Core.Path.{◌≡◌, refl, sym, ap, ◌∙◌}
+use mathlib.Core.Path.{◌≡◌}
 use Prim.Native.Nat.{◌-◌, ◌≤◌}
-use native.Mathlib.Nat.{sub-zero}
-use native.Mathlib.Omega.{arith}
-use lib.ListN.{length}
-use borrow.Author.Rules.{rules}
 use Rattle.meaning.specs.Text.{first_from}
-use Rattle.table.specs.Tree.{place_or}
 use Rattle.table.specs.Shape.{hit_of}
 use Rattle.trials.specs.Decided.{needless_at}
-use Rattle.differences.proofs.Apart.{obligation_room}
-use Rattle.trials.proofs.Trying.{asks, tested}
-use Rattle.accepting.proofs.Judging.{first_here, first_later, first_nowhere}
 use Rattle.accepting.proofs.first_needless.Given as goal
 
 abbrev pub invariant-loop-i : goal.invariant-loop-i

@@ -1,9 +1,7 @@
 -- `line_of`: the lines so far, and those of the elements that come before it, are all. Assumes nothing.
-use mathlib.Core.Path.{◌≡◌, ap}
-use Prim.Native.Nat.{suc, ◌+◌, ◌-◌, ◌*◌, ◌≤◌}
+use mathlib.Core.Path.{ap}
 use native.Mathlib.Nat.{sub-zero}
 use native.Mathlib.Omega.{arith}
-use borrow.Author.Rules.{rules}
 use Rattle.accepting.specs.Judged.{lines_from}
 use Rattle.accepting.proofs.Lines.{line_struck, lines_left_lem, no_more}
 use Rattle.accepting.proofs.line_of.Goals as goal

@@ -1,6 +1,5 @@
 -- `comparing::same` meets its contract: by lengths, or by what compares texts of one length.
 use mathlib.Core.Path.{sym}
-use borrow.Author.Rules.{rules}
 use Rattle.laws.proofs.Text.{same_length}
 use Rattle.comparing.proofs.same.Goals as goal
 

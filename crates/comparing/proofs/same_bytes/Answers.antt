@@ -1,9 +1,9 @@
 -- `comparing::same_bytes` meets its contract. The loop keeps that the bytes from i on are equal.
-use Prim.Native.Nat.{ℕ, ◌-◌, ◌≤◌, ◌<◌}
-use mathlib.Core.Path.{◌≡◌, sym, ap}
+use Prim.Native.Nat.{◌-◌}
+use mathlib.Core.Path.{sym, ap}
 use native.Mathlib.Omega.{arith}
 use borrow.Author.Rules.{rules}
-use lib.ListN.{length, get_or}
+use lib.ListN.{get_or}
 use Rattle.laws.proofs.Text.{same_apart, same_bytes, from_less}
 use Rattle.comparing.proofs.same_bytes.Goals as goal
 

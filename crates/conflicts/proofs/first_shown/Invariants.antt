@@ -1,10 +1,6 @@
 -- `first_shown`: no request of the blocks before b shows the conflict. Assumes nothing.
 use Prim.Native.Nat.{◌-◌, ◌≤◌}
-use mathlib.Core.Path.{sym, ap}
-use native.Mathlib.Omega.{arith}
-use Rattle.table.specs.Tree.{place_or}
-use Rattle.conflicts.proofs.Showing.{Unshown, unshown_next, shown_first, shown_past, shown_none}
-use borrow.Author.Rules.{rules}
+use Rattle.conflicts.proofs.Showing.{Unshown}
 use Rattle.conflicts.proofs.first_shown.Given as goal
 
 abbrev pub invariant-loop-b : goal.invariant-loop-b

@@ -1,9 +1,7 @@
-use mathlib.Core.Path.{◌≡◌, refl}
-use Prim.Native.Nat.{ℕ, ◌-◌, ◌≤◌, ◌<◌}
+use mathlib.Core.Path.{refl}
 use native.Mathlib.Omega.{arith}
-use lib.ListN.{length}
 use borrow.Author.Rules.{rules}
-use Rattle.conflicts.specs.Pairs.{shown_by, PairsOf, OthersStay}
+use Rattle.conflicts.specs.Pairs.{shown_by}
 use Rattle.conflicts.proofs.PairSteps.{pairs_more, others_more}
 use Rattle.conflicts.proofs.pair_all.Goals as goal
 
@@ -22,7 +20,7 @@ loop-j-preserved c =
     let l = c.loop-j in
     let few = c.requires.few in
     let call = c.pair_later in
-    let new = call.new.1.1.1.1.1.1.1.0 in (
+    let new = call.new.pairs in (
       omega arith,
       pairs_more args.parents.now (shown_by args.applied.now args.permits.now args.denies.now) args.n args.space few l.j l.pairs new l.invariant.1 call.ensures.0 call.ensures.1,
       search rules,

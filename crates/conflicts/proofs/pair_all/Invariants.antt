@@ -1,10 +1,7 @@
-use mathlib.Core.Path.{◌≡◌, refl}
+use mathlib.Core.Path.{◌≡◌}
 use Prim.Native.Nat.{ℕ, ◌-◌, ◌≤◌, ◌<◌}
-use native.Mathlib.Omega.{arith}
 use lib.ListN.{length}
-use borrow.Author.Rules.{rules}
 use Rattle.conflicts.specs.Pairs.{shown_by, PairsOf, OthersStay}
-use Rattle.conflicts.proofs.PairSteps.{pairs_more, others_more}
 use Rattle.conflicts.proofs.pair_all.Given as goal
 
 abbrev pub invariant-loop-j : goal.invariant-loop-j

@@ -1,10 +1,10 @@
-use mathlib.Core.Path.{◌≡◌, refl, sym}
-use Prim.Native.Nat.{◌+◌, ◌-◌, ◌*◌, ◌≤◌, ◌<◌}
+use mathlib.Core.Path.{refl, sym}
+use Prim.Native.Nat.{◌+◌, ◌*◌, ◌<◌}
 use native.Mathlib.Omega.{arith}
 use lib.ListN.{length}
 use borrow.Author.Rules.{rules}
 use Rattle.conflicts.specs.Pairs.{shown_by, Later}
-use Rattle.conflicts.proofs.PairSteps.{PairedTo, pairs_begun, pair_skipped, pair_laid, pairs_ended, no_pair}
+use Rattle.conflicts.proofs.PairSteps.{pairs_begun, pair_skipped, pair_laid, pairs_ended, no_pair}
 use Rattle.conflicts.proofs.pair_later.Goals as goal
 
 pub returns-then-n-parent : goal.returns-then-n-parent

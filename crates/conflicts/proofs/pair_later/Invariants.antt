@@ -1,10 +1,8 @@
-use mathlib.Core.Path.{◌≡◌, refl, sym}
-use Prim.Native.Nat.{◌+◌, ◌-◌, ◌*◌, ◌≤◌, ◌<◌}
-use native.Mathlib.Omega.{arith}
+use mathlib.Core.Path.{◌≡◌}
+use Prim.Native.Nat.{◌-◌, ◌≤◌, ◌<◌}
 use lib.ListN.{length}
-use borrow.Author.Rules.{rules}
-use Rattle.conflicts.specs.Pairs.{shown_by, Later}
-use Rattle.conflicts.proofs.PairSteps.{PairedTo, pairs_begun, pair_skipped, pair_laid, pairs_ended, no_pair}
+use Rattle.conflicts.specs.Pairs.{shown_by}
+use Rattle.conflicts.proofs.PairSteps.{PairedTo}
 use Rattle.conflicts.proofs.pair_later.Given as goal
 
 abbrev pub invariant-loop-k : goal.invariant-loop-k

@@ -5,7 +5,6 @@ use native.Mathlib.Nat.{one-mul}
 use native.Mathlib.Omega.{arith}
 use lib.Dec.{lit<}
 use lib.Pow.{shl_exact, pow_pos, pow_mono}
-use borrow.Author.Rules.{rules}
 use Rattle.elements.proofs.full_mask.Goals as goal
 
 pub overflow_sub-result : goal.overflow_sub-result

@@ -1,5 +1,4 @@
 -- `none` meets its contract: both places of the blank element are unused.
-use borrow.Author.Rules.{rules}
 use Rattle.elements.proofs.none.Goals as goal
 
 pub returns : goal.returns

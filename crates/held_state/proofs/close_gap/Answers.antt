@@ -1,10 +1,8 @@
 -- `close_gap`: after j turns j bytes are moved, and the next one still stands where it stood. Assumes nothing.
-use mathlib.Core.Path.{◌≡◌, refl, ◌∙◌}
-use Prim.Native.Nat.{◌-◌, ◌≤◌}
+use mathlib.Core.Path.{refl, ◌∙◌}
 use native.Mathlib.Omega.{arith}
-use lib.ListN.{length, drop, length-set}
-use lib.Seq.{paste, paste-zero}
-use borrow.Author.Rules.{rules}
+use lib.ListN.{drop, length-set}
+use lib.Seq.{paste-zero}
 use Rattle.held_state.proofs.Moving.{one_more, all_moved}
 use Rattle.held_state.proofs.close_gap.Goals as goal
 

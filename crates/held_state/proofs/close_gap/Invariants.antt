@@ -1,11 +1,8 @@
 -- `close_gap`: after j turns j bytes are moved, and the next one still stands where it stood. Assumes nothing.
-use mathlib.Core.Path.{◌≡◌, refl, ◌∙◌}
+use mathlib.Core.Path.{◌≡◌}
 use Prim.Native.Nat.{◌-◌, ◌≤◌}
-use native.Mathlib.Omega.{arith}
-use lib.ListN.{length, drop, length-set}
-use lib.Seq.{paste, paste-zero}
-use borrow.Author.Rules.{rules}
-use Rattle.held_state.proofs.Moving.{one_more, all_moved}
+use lib.ListN.{length, drop}
+use lib.Seq.{paste}
 use Rattle.held_state.proofs.close_gap.Given as goal
 
 abbrev pub invariant-loop-j : goal.invariant-loop-j

@@ -1,6 +1,5 @@
 -- `step`: nothing changes where no rule is found, else the rule's line is closed up. Assumes nothing.
 use native.Mathlib.Omega.{arith}
-use borrow.Author.Rules.{rules}
 use Rattle.trimmed_text.proofs.Held.{places_room, steady_held, small_part}
 use Rattle.held_state.proofs.Stepping.{none_left, here, gap_lies, struck_so}
 use Rattle.held_state.proofs.step.Goals as goal
@@ -12,7 +11,9 @@ pub overflow_cast-result : goal.overflow_cast-result
 overflow_cast-result c = record { fits = small_part _ _ _ _ c.requires _ (omega arith) }
 
 pub returns-then-next-n : goal.returns-then-next-n
-returns-then-next-n c = none_left _ _ _ _ c.requires _ c.next_struck-next.ensures.0 c.if-next-n.true
+returns-then-next-n c =
+    let both = none_left _ _ _ _ c.requires _ c.next_struck-next.ensures.0 c.if-next-n.true in
+    record { value = both.0; text_after = both.1 }
 
 pub overflow_mul-start : goal.overflow_mul-start
 overflow_mul-start c =
@@ -48,4 +49,5 @@ overflow_cast-result-2 c =
 
 pub returns : goal.returns
 returns c =
-    struck_so _ _ _ _ c.requires _ c.next_struck-next.ensures.0 c.if-next-n.false _ c.lines_end-end.ensures c.close_gap.ensures
+    let both = struck_so _ _ _ _ c.requires _ c.next_struck-next.ensures.0 c.if-next-n.false _ c.lines_end-end.ensures c.close_gap.ensures in
+    record { value = both.0; text_after = both.1 }

@@ -1,12 +1,11 @@
 -- `differ_any`: the loop keeps the answer, that of the attributes from `i` on. Assumes nothing.
-use Prim.Native.Nat.{◌-◌, ◌≤◌}
-use mathlib.Core.Path.{◌≡◌, sym, ap, ◌∙◌}
+use mathlib.Core.Path.{sym, ap, ◌∙◌}
 use native.Mathlib.Nat.{sub-zero}
 use native.Mathlib.Omega.{arith}
 use borrow.Author.Rules.{rules}
 use Rattle.meaning.specs.Text.{any}
 use Rattle.meaning.specs.Joining.{differs}
-use Rattle.layout.specs.Places.{attribute_at, attributes_from, attributes_of}
+use Rattle.layout.specs.Places.{attribute_at}
 use Rattle.layout.proofs.Names.{attributes_end, attributes_next}
 use Rattle.joined_attributes.proofs.differ_any.Goals as goal
 

@@ -1,6 +1,6 @@
 -- `first_differing`: the loop keeps the answer, that of the second file's attributes from `j` on. Assumes nothing.
-use Prim.Native.Nat.{◌+◌, ◌-◌, ◌≤◌}
-use mathlib.Core.Path.{◌≡◌, sym, ap, ◌∙◌}
+use Prim.Native.Nat.{◌+◌, ◌-◌}
+use mathlib.Core.Path.{sym, ap, ◌∙◌}
 use native.Mathlib.Nat.{sub-zero}
 use native.Mathlib.Numerals.{add-one}
 use native.Mathlib.Omega.{arith}
@@ -23,8 +23,11 @@ pub returns-then-differ_any : goal.returns-then-differ_any
 returns-then-differ_any c =
     let l = c.loop-j in
     let own = attributes_of c.args.first.now c.args.a in
-    let next = attributes_next c.args.second.now c.args.b l.j (omega arith) in record { value = found own (l.j + 1) (attribute_at c.args.second.now c.args.b l.j) (attributes_from c.args.second.now c.args.b (l.j + 1) (c.args.b.len - (l.j + 1))) (sym c.differ_any.ensures ∙ c.if-differ_any.true)
-          ∙ sym (ap (place_or 0) (l.invariant.1 ∙ ap (first_differing own (l.j + 1)) next)); within = omega (arith, c.requires.1.few) }
+    let next = attributes_next c.args.second.now c.args.b l.j (omega arith) in record {
+      value = found own (l.j + 1) (attribute_at c.args.second.now c.args.b l.j) (attributes_from c.args.second.now c.args.b (l.j + 1) (c.args.b.len - (l.j + 1))) (sym c.differ_any.ensures ∙ c.if-differ_any.true)
+          ∙ sym (ap (place_or 0) (l.invariant.1 ∙ ap (first_differing own (l.j + 1)) next));
+      within = omega (arith, c.requires.1.few);
+    }
 
 pub loop-j-preserved : goal.loop-j-preserved
 loop-j-preserved c =

@@ -1,15 +1,8 @@
 -- `first_differing`: the loop keeps the answer, that of the second file's attributes from `j` on. Assumes nothing.
 use Prim.Native.Nat.{◌+◌, ◌-◌, ◌≤◌}
-use mathlib.Core.Path.{◌≡◌, sym, ap, ◌∙◌}
-use native.Mathlib.Nat.{sub-zero}
-use native.Mathlib.Numerals.{add-one}
-use native.Mathlib.Omega.{arith}
-use borrow.Author.Rules.{rules}
+use mathlib.Core.Path.{◌≡◌}
 use Rattle.meaning.specs.Joining.{first_differing}
-use Rattle.table.specs.Tree.{place_or}
-use Rattle.layout.specs.Places.{attribute_at, attributes_from, attributes_of}
-use Rattle.layout.proofs.Names.{attributes_end, attributes_next}
-use Rattle.joined_attributes.proofs.Differing.{found, passed_over}
+use Rattle.layout.specs.Places.{attributes_from, attributes_of}
 use Rattle.joined_attributes.proofs.first_differing.Given as goal
 
 abbrev pub invariant-loop-j : goal.invariant-loop-j

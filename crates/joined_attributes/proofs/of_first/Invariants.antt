@@ -1,12 +1,8 @@
 -- `of_first`: the loop keeps the list of the places so far. Assumes nothing.
 use Prim.Native.Nat.{◌-◌, ◌≤◌}
-use mathlib.Core.Path.{◌≡◌, sym, ap, ◌∙◌}
-use native.Mathlib.Omega.{arith}
-use borrow.Author.Rules.{rules}
-use Rattle.meaning.specs.Joining.{place_in}
+use mathlib.Core.Path.{◌≡◌}
 use Rattle.layout.specs.Places.{attributes_from, attributes_of}
 use Rattle.joined_attributes.specs.Placing.{listed, places_in}
-use Rattle.joined_attributes.proofs.Listing.{none_listed, attribute_listed, places_count}
 use Rattle.joined_attributes.proofs.of_first.Given as goal
 
 abbrev pub invariant-loop-i : goal.invariant-loop-i

@@ -1,6 +1,5 @@
 -- `places_in`: the loop keeps the list of the places so far: of the first file's attributes, and of those alone behind them.
 -- Assumes nothing.
-use Prim.Native.Nat.{◌-◌, ◌≤◌}
 use mathlib.Core.Path.{◌≡◌, sym, ap, ◌∙◌}
 use native.Mathlib.Omega.{arith}
 use borrow.Author.Rules.{rules}

@@ -1,6 +1,5 @@
 -- `put_joined`: attribute lines, the set's line, and the lines of both files. Assumes nothing.
 use native.Mathlib.Omega.{arith}
-use borrow.Author.Rules.{rules}
 use Rattle.joined_text.proofs.Joined.{whole_text}
 use Rattle.joined_text.proofs.put_joined.Goals as goal
 

@@ -1,10 +1,8 @@
 -- `put_tree`: each turn stores one line. Assumes nothing.
 use Prim.Native.Nat.{◌-◌}
-use native.Mathlib.Omega.{arith}
 use lib.ListN.{length}
-use borrow.Author.Rules.{rules}
 use Rattle.joined_text.specs.Lines.{places_of, deeper_placed}
-use Rattle.joined_text.proofs.Walk.{Walked, begun, all_stored, next_fits, next_length, next_inside, one_more}
+use Rattle.joined_text.proofs.Walk.{Walked}
 use Rattle.joined_text.proofs.put_tree.Given as goal
 
 abbrev pub invariant-loop-start : goal.invariant-loop-start

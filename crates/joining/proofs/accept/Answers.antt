@@ -1,8 +1,7 @@
 -- `accept`: the text's refusal, or the text where it fits. Assumes nothing.
-use mathlib.Core.Path.{sym, ◌∙◌}
+use mathlib.Core.Path.{sym}
 use native.Mathlib.Omega.{arith}
 use lib.Seq.{length-take-le}
-use borrow.Author.Rules.{rules}
 use Rattle.layout.proofs.Slots.{zeros_clear}
 use Rattle.reader.proofs.FileRead.{small_numbers, file_refused, file_read}
 use Rattle.printing.proofs.Fitting.{written}

@@ -1,7 +1,5 @@
 -- `join`: the second file's refusal, or what joining both gives. Assumes nothing.
-use mathlib.Core.Path.{refl}
 use native.Mathlib.Omega.{arith}
-use borrow.Author.Rules.{rules}
 use Rattle.layout.proofs.Slots.{zeros_clear}
 use Rattle.reader.proofs.FileRead.{small_numbers, file_refused, file_read}
 use Rattle.joining.proofs.Starts.{file_held}

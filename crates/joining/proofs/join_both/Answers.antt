@@ -1,6 +1,5 @@
 -- `join_both`: the first line that differs, a bad word, a text that is too long, or what reading it and the buffer say. Assumes nothing.
 use native.Mathlib.Omega.{arith}
-use borrow.Author.Rules.{rules}
 use Rattle.joining.proofs.Starts.{joinable}
 use Rattle.joining.proofs.Told.{laid_part, short_word, differs_told, no_word_told, too_long_told, text_joined}
 use Rattle.joining.proofs.join_both.Goals as goal

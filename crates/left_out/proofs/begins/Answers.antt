@@ -1,5 +1,4 @@
 -- `begins`: too few bytes, or as many that are compared. Assumes nothing.
-use borrow.Author.Rules.{rules}
 use Rattle.left_out.proofs.Turns.{too_few}
 use Rattle.left_out.proofs.begins.Goals as goal
 

@@ -1,11 +1,8 @@
 -- `leave_out`: what is left to match tells what the whole does. Assumes nothing.
-use mathlib.Core.Path.{◌≡◌, refl, sym, ap, ◌∙◌}
-use Prim.Native.Nat.{◌-◌, ◌≤◌}
+use mathlib.Core.Path.{refl, sym, ap, ◌∙◌}
 use native.Mathlib.Nat.{sub-zero}
 use native.Mathlib.Omega.{arith}
-use lib.ListN.{length, length-set}
-use borrow.Author.Tests.{not-true, not-false}
-use borrow.Author.Rules.{rules}
+use lib.ListN.{length-set}
 use Rattle.layout.specs.Places.{start_of}
 use Rattle.trimmed_text.proofs.Copying.{lines_lie}
 use Rattle.left_out.specs.Leaving.{leaving_from}

@@ -1,15 +1,9 @@
 -- `leave_out`: what is left to match tells what the whole does. Assumes nothing.
-use mathlib.Core.Path.{◌≡◌, refl, sym, ap, ◌∙◌}
+use mathlib.Core.Path.{◌≡◌}
 use Prim.Native.Nat.{◌-◌, ◌≤◌}
-use native.Mathlib.Nat.{sub-zero}
-use native.Mathlib.Omega.{arith}
-use lib.ListN.{length, length-set}
-use borrow.Author.Tests.{not-true, not-false}
-use borrow.Author.Rules.{rules}
+use lib.ListN.{length}
 use Rattle.layout.specs.Places.{start_of}
-use Rattle.trimmed_text.proofs.Copying.{lines_lie}
 use Rattle.left_out.specs.Leaving.{leaving_from}
-use Rattle.left_out.proofs.Turns.{enough, other_start, start_matched, at_end, matched_next, struck_next, other_next}
 use Rattle.left_out.proofs.leave_out.Given as goal
 
 abbrev pub invariant-loop-i : goal.invariant-loop-i

@@ -1,8 +1,8 @@
 -- `all_elements` meets its contract: before turn i, the first i elements stand in the array.
 use mathlib.Core.Path.{refl}
-use Prim.Native.Nat.{◌-◌, ◌≤◌, ◌<◌}
+use Prim.Native.Nat.{◌<◌}
 use native.Mathlib.Omega.{arith}
-use Rattle.lists.proofs.Reading.{Upto, upto_none, upto_next, upto_all}
+use Rattle.lists.proofs.Reading.{upto_none, upto_next, upto_all}
 use borrow.Author.Rules.{rules}
 use Rattle.lists.proofs.all_elements.Goals as goal
 
@@ -17,18 +17,14 @@ element_at-requires c =
 
 pub offset_bounds-all-i : goal.offset_bounds-all-i
 offset_bounds-all-i c =
-    let below : c.loop-i.i < 65 = omega (arith, c.requires.naming.few) in
-    let few = below in search rules
+    let below : c.loop-i.i < 65 = omega (arith, c.requires.naming.few) in search rules
 
 pub bounds-all-i : goal.bounds-all-i
-bounds-all-i c =
-    let below : c.loop-i.i < 65 = omega (arith, c.requires.naming.few) in
-    below
+bounds-all-i c = omega (arith, c.requires.naming.few)
 
 pub loop-i-preserved : goal.loop-i-preserved
 loop-i-preserved c =
-    let below : c.loop-i.i < 65 = omega (arith, c.requires.naming.few) in
-    (search rules, upto_next _ _ _ _ _ c.loop-i.invariant.1 (below) _ c.element_at.ensures)
+    (search rules, upto_next _ _ _ _ _ c.loop-i.invariant.1 (omega (arith, c.requires.naming.few)) _ c.element_at.ensures)
 
 pub returns : goal.returns
 returns c = (upto_all _ _ _ _ _ _ c.loop-i.invariant.1 c.loop-i.invariant.0 c.loop-i-test.false, refl)

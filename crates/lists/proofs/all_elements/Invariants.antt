@@ -1,9 +1,6 @@
 -- `all_elements` meets its contract: before turn i, the first i elements stand in the array.
-use mathlib.Core.Path.{refl}
-use Prim.Native.Nat.{◌-◌, ◌≤◌, ◌<◌}
-use native.Mathlib.Omega.{arith}
-use Rattle.lists.proofs.Reading.{Upto, upto_none, upto_next, upto_all}
-use borrow.Author.Rules.{rules}
+use Prim.Native.Nat.{◌-◌, ◌≤◌}
+use Rattle.lists.proofs.Reading.{Upto}
 use Rattle.lists.proofs.all_elements.Given as goal
 
 abbrev pub invariant-loop-i : goal.invariant-loop-i

@@ -4,7 +4,6 @@ use lib.Dec.{lit≤}
 use Rattle.layout.proofs.Slots.{zeros_clear}
 use Rattle.reader.proofs.FileRead.{small_numbers, file_read, few}
 use Rattle.lists.proofs.Reading.{refusal_listed, short_listed, filled, whole_listed}
-use borrow.Author.Rules.{rules}
 use Rattle.lists.proofs.read_elements.Goals as goal
 
 pub read-reading-requires : goal.read-reading-requires

@@ -1,6 +1,6 @@
 -- Segments and conflicts, of what a tool lists.
 use Rattle.std.specs.Prelude.{◌≡◌, ◌≢◌, ◌⊎◌, ◌↔◌, ℕ, ◌<◌, true, false, length, get_or}
-use mathlib.Core.List.{List, [], ◌∷◌, map, Memᴰ}
+use mathlib.Core.List.{List, map, Memᴰ}
 use Rattle.std.proofs.Math.Option.{some}
 use Rattle.meaning.specs.Model.{Decision, Policy, space}
 use Rattle.meaning.specs.Deciding.{outcome}

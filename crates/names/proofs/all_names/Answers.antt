@@ -1,11 +1,8 @@
 -- `names::all_names` meets its contract. The loop keeps the answer: that of the fields from `at` on.
-use Prim.Native.Nat.{◌+◌, ◌-◌, ◌≤◌}
-use mathlib.Core.Path.{◌≡◌, refl, sym, ◌∙◌}
+use mathlib.Core.Path.{refl, sym, ◌∙◌}
 use native.Mathlib.Omega.{arith}
 use borrow.Author.Rules.{rules}
-use borrow.Author.Tests.{not-true, not-false}
-use lib.ListN.{length, drop}
-use Rattle.meaning.specs.Text.{all, cut, tab, is_name}
+use Rattle.meaning.specs.Text.{is_name}
 use Rattle.names.proofs.Fields.{every_bad, every_end, every_more}
 use Rattle.names.proofs.all_names.Goals as goal
 

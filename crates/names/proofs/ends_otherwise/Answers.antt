@@ -1,5 +1,4 @@
 -- `names::ends_otherwise` meets its contract.
-use borrow.Author.Rules.{rules}
 use borrow.Author.Tests.{eq-eqb, ne_eqb}
 use Rattle.names.proofs.ends_otherwise.Goals as goal
 

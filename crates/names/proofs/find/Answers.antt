@@ -1,11 +1,8 @@
 -- `names::find` meets its contract. The loop keeps the answer: that of the fields from `at` on, counted from n.
-use Prim.Native.Nat.{◌+◌, ◌-◌, ◌≤◌}
-use mathlib.Core.Path.{◌≡◌, refl, sym, ap, ◌∙◌}
+use mathlib.Core.Path.{refl, sym, ap, ◌∙◌}
 use native.Mathlib.Omega.{arith}
 use borrow.Author.Rules.{rules}
-use lib.ListN.{length, drop}
 use Rattle.meaning.specs.Text.{cut, tab}
-use Rattle.meaning.specs.Deciding.{value_of}
 use Rattle.names.specs.Places.{found_of}
 use Rattle.names.specs.declared.Found.TheVariants.{At, Nothing}
 use Rattle.names.proofs.Fields.{place_hit, place_end, place_more, found_within}

@@ -1,11 +1,8 @@
 -- `names::is_name` meets its contract. The loop keeps the answer: a text that its length and first byte allow is a name if the bytes from i on are those of names.
 use Prim.Native.Nat.{◌-◌, ◌≤◌}
-use mathlib.Core.Path.{◌≡◌, sym, ◌∙◌}
-use borrow.Author.Rules.{rules}
-use borrow.Author.Tests.{not-true, not-false}
+use mathlib.Core.Path.{◌≡◌}
 use lib.ListN.{length, drop}
 use Rattle.meaning.specs.Text.{all, name_byte, is_name}
-use Rattle.names.proofs.Bytes.{all_end, all_fail, all_pass, name_short, name_long, name_hyphen, name_by_bytes}
 use Rattle.names.proofs.is_name.Given as goal
 
 abbrev pub invariant-loop-i : goal.invariant-loop-i

@@ -1,7 +1,6 @@
 -- `names::same_letter` meets its contract.
 use mathlib.Core.Path.{sym, ap, ap₂}
 use lib.Dec.{eqb}
-use borrow.Author.Rules.{rules}
 use borrow.Author.Tests.{eq-eqb, ne_eqb}
 use Rattle.meaning.specs.Text.{folded}
 use Rattle.names.proofs.Letters.{other_caseless}

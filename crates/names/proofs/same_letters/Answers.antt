@@ -1,10 +1,9 @@
 -- `names::same_letters` meets its contract. The loop keeps that the letters from i on are the same.
-use Prim.Native.Nat.{ℕ, ◌-◌, ◌≤◌, ◌<◌}
+use Prim.Native.Nat.{◌-◌}
 use mathlib.Core.Path.{◌≡◌, sym, ◌∙◌}
 use native.Mathlib.Omega.{arith}
 use borrow.Author.Rules.{rules}
-use borrow.Author.Tests.{not-true, not-false}
-use lib.ListN.{length, get_or}
+use lib.ListN.{length}
 use Rattle.meaning.specs.Text.{lower}
 use Rattle.laws.proofs.Text.{same_bytes, from_less}
 use Rattle.names.proofs.Letters.{lower_length, one_letter, other_letter}

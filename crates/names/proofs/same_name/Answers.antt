@@ -1,6 +1,5 @@
 -- `names::same_name` meets its contract: by lengths, or letter by letter.
 use mathlib.Core.Path.{sym}
-use borrow.Author.Rules.{rules}
 use Rattle.names.proofs.Letters.{other_length}
 use Rattle.names.proofs.same_name.Goals as goal
 

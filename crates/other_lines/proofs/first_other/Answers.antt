@@ -1,11 +1,8 @@
 -- `first_other`: each turn passes a line of the original, and what is left gives what the whole gives. Assumes nothing.
 use mathlib.Core.Path.{refl, sym, ◌∙◌}
-use Prim.Native.Nat.{◌-◌}
 use native.Mathlib.Omega.{arith}
-use lib.ListN.{length}
 use borrow.Author.Rules.{rules}
-use borrow.Author.Tests.{not-true, not-false}
-use Rattle.other_lines.proofs.Walking.{Kept, all_match, none_left, taken, skipped, found}
+use Rattle.other_lines.proofs.Walking.{all_match, none_left, taken, skipped, found}
 use Rattle.other_lines.proofs.first_other.Goals as goal
 
 pub loop-from-init : goal.loop-from-init

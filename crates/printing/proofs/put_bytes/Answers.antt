@@ -1,9 +1,8 @@
 -- The loop keeps the bytes so far laid over the buffer as it was at entry.
-use mathlib.Core.Path.{◌≡◌, sym, ap, ◌∙◌}
-use Prim.Native.Nat.{◌+◌, ◌-◌, ◌≤◌}
+use mathlib.Core.Path.{sym, ap, ◌∙◌}
+use Prim.Native.Nat.{◌+◌}
 use native.Mathlib.Omega.{arith}
-use lib.ListN.{length, take, get_or, set, length-set}
-use lib.Seq.{sets}
+use lib.ListN.{get_or, set, length-set}
 use borrow.Author.Rules.{rules}
 use Rattle.printing.proofs.Laws.{sets_out, sets_next, sets_fit}
 use Rattle.printing.proofs.put_bytes.Goals as goal

@@ -1,5 +1,4 @@
 use mathlib.Core.Path.{ap}
-use borrow.Author.Rules.{rules}
 use Rattle.printing.specs.Decisions.{decision_from}
 use Rattle.printing.proofs.Decisions.{no_other, decision_put}
 use Rattle.printing.proofs.put_decision.Goals as goal

@@ -1,4 +1,3 @@
-use borrow.Author.Rules.{rules}
 use Rattle.printing.proofs.Laws.{then}
 use Rattle.printing.proofs.put_field.Goals as goal
 

@@ -1,5 +1,4 @@
 use native.Mathlib.Omega.{arith}
-use borrow.Author.Rules.{rules}
 use Rattle.printing.proofs.Laws.{then}
 use Rattle.printing.proofs.put_number.Goals as goal
 

@@ -1,6 +1,5 @@
 -- `text_answer`: the text fits, or it does not. Assumes nothing.
 use borrow.Author.Tests.{lt-ltb, le-ltb}
-use borrow.Author.Rules.{rules}
 use Rattle.printing.proofs.text_answer.Goals as goal
 
 pub returns-then-needed-room : goal.returns-then-needed-room

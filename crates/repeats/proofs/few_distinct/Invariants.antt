@@ -1,12 +1,8 @@
 -- `repeats::few_distinct` meets its contract. The loop keeps the answer: that of the fields from `at` on.
 use Prim.Native.Nat.{◌+◌, ◌-◌, ◌≤◌}
-use mathlib.Core.Path.{◌≡◌, refl, sym, ap, ◌∙◌}
-use mathlib.Core.Bool.{not}
-use native.Mathlib.Omega.{arith}
-use borrow.Author.Rules.{rules}
+use mathlib.Core.Path.{◌≡◌}
 use lib.ListN.{length, drop}
 use Rattle.meaning.specs.Text.{repeated, cut, tab}
-use Rattle.repeats.proofs.Fields.{repeated_end, repeated_hit, repeated_more}
 use Rattle.repeats.proofs.few_distinct.Given as goal
 
 abbrev pub invariant-loop-at : goal.invariant-loop-at

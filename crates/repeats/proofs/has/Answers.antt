@@ -1,7 +1,6 @@
 -- `repeats::has` meets its contract: a name that has a place is among the names.
 use mathlib.Core.Path.{sym, ap, ◌∙◌}
 use mathlib.Core.Bool.{not}
-use borrow.Author.Rules.{rules}
 use Rattle.meaning.specs.Text.{cut, tab}
 use Rattle.meaning.specs.Deciding.{value_of}
 use Rattle.laws.proofs.Names.{among_placed}

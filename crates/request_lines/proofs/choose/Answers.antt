@@ -1,7 +1,6 @@
 -- `choose`: a set by its mask, or a value by its place. Assumes nothing.
 use mathlib.Core.Path.{◌≡◌}
 use mathlib.Core.Bool.{true, false}
-use borrow.Author.Rules.{rules}
 use Rattle.meaning.specs.Text.{cut, tab}
 use Rattle.request_lines.proofs.FieldWalk.{no_set, some_set}
 use Rattle.request_lines.proofs.choose.Goals as goal

@@ -1,9 +1,9 @@
 -- `read_fields` meets its contract. The loop walks the attributes and the fields in step: the values before `i` are found.
-use Prim.Native.Nat.{◌-◌, ◌<◌}
+use Prim.Native.Nat.{◌<◌}
 use native.Mathlib.Omega.{arith}
 use borrow.Author.Rules.{rules}
 use Rattle.layout.specs.Places.{Standing}
-use Rattle.request_lines.proofs.FieldWalk.{Walked, walk_starts, walk_refused, walk_on, walk_ends}
+use Rattle.request_lines.proofs.FieldWalk.{walk_starts, walk_refused, walk_on, walk_ends}
 use Rattle.request_lines.proofs.read_fields.Goals as goal
 
 pub loop-v-init : goal.loop-v-init

@@ -1,6 +1,5 @@
 -- `request_line` meets its contract: a line of another count of fields is refused, and any other is what its fields give.
 use mathlib.Core.Path.{subst}
-use borrow.Author.Rules.{rules}
 use Rattle.request_lines.specs.Asked.{AskedAs}
 use Rattle.request_lines.proofs.FieldWalk.{wrong_count_lem, right_count}
 use Rattle.request_lines.proofs.request_line.Goals as goal

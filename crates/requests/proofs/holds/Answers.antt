@@ -1,6 +1,5 @@
 -- `holds`: a mask has no bit from 16 on. Assumes nothing.
 use mathlib.Core.Path.{sym}
-use borrow.Author.Rules.{rules}
 use Rattle.requests.proofs.Targets.{no_high_bit}
 use Rattle.requests.proofs.holds.Goals as goal
 

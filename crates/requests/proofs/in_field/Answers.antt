@@ -3,7 +3,6 @@ use mathlib.Core.Path.{◌≡◌, sym, ap, ◌∙◌}
 use mathlib.Core.Bool.{true, false, not}
 use lib.Bits.{bit_and}
 use lib.Dec.{eqb}
-use borrow.Author.Rules.{rules}
 use Rattle.laws.proofs.Sets.{shares_and}
 use Rattle.requests.proofs.Targets.{set_mask}
 use Rattle.requests.proofs.in_field.Goals as goal

@@ -4,9 +4,9 @@ use mathlib.Core.Path.{◌≡◌, refl, ◌∙◌}
 use native.Mathlib.Nat.{mod-lt}
 use native.Mathlib.Omega.{arith}
 use borrow.Author.Rules.{rules}
-use lib.ListN.{length, take, drop, get_or, length-set, replicate}
+use lib.ListN.{length, take, get_or, length-set}
 use lib.Seq.{drop-set-lt}
-use Rattle.requests.proofs.Laws.{Below, fits, set_below, counts_positive, positive_at, weighed, weighed_all}
+use Rattle.requests.proofs.Laws.{Below, fits, set_below, counts_positive, positive_at, weighed_all}
 use Rattle.requests.proofs.Laid.{laid}
 use Rattle.requests.proofs.Steps.{divided, settled}
 use Rattle.requests.proofs.request_of.Goals as goal

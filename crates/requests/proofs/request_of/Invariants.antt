@@ -1,14 +1,8 @@
 -- `request_of`: the values from the place looked at on, with what is left of the number, weigh the number. Assumes nothing.
-use Prim.Native.Nat.{ℕ, ◌-◌, ◌%◌, ◌≤◌, ◌<◌}
-use mathlib.Core.Path.{◌≡◌, refl, ◌∙◌}
-use native.Mathlib.Nat.{mod-lt}
-use native.Mathlib.Omega.{arith}
-use borrow.Author.Rules.{rules}
-use lib.ListN.{length, take, drop, get_or, length-set, replicate}
-use lib.Seq.{drop-set-lt}
-use Rattle.requests.proofs.Laws.{Below, fits, set_below, counts_positive, positive_at, weighed, weighed_all}
-use Rattle.requests.proofs.Laid.{laid}
-use Rattle.requests.proofs.Steps.{divided, settled}
+use Prim.Native.Nat.{ℕ, ◌≤◌, ◌<◌}
+use mathlib.Core.Path.{◌≡◌}
+use lib.ListN.{length, drop, get_or, replicate}
+use Rattle.requests.proofs.Laws.{weighed}
 use Rattle.requests.proofs.request_of.Given as goal
 
 abbrev pub invariant-loop-i : goal.invariant-loop-i

@@ -1,6 +1,5 @@
 -- `put_name`: a name, or nothing behind the last element. Assumes nothing.
 use native.Mathlib.Omega.{arith}
-use borrow.Author.Rules.{rules}
 use Rattle.rule_by_rule.proofs.Shown.{no_name, own_name}
 use Rattle.rule_by_rule.proofs.put_name.Goals as goal
 

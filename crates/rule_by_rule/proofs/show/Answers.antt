@@ -2,7 +2,6 @@
 use mathlib.Core.Path.{sym}
 use native.Mathlib.Omega.{arith}
 use lib.Seq.{length-take-le}
-use borrow.Author.Rules.{rules}
 use Rattle.printing.proofs.Fitting.{written}
 use Rattle.trimmed_text.proofs.Held.{steady_held, next_within}
 use Rattle.rule_by_rule.proofs.Shown.{show_fitted}
@@ -22,5 +21,6 @@ put_name-requires c = let held = c.requires in (held.naming, omega (arith, next_
 
 pub returns : goal.returns
 returns c =
-    show_fitted _ _ _ _ c.requires _ c.next_struck-next.ensures.0
-    (written c.put_name-needed.ensures.0 c.args.out.now _ c.lend-part.ensures.value c.put_name.ensures.0 c.text_answer.ensures)
+    let both = show_fitted _ _ _ _ c.requires _ c.next_struck-next.ensures.0
+    (written c.put_name-needed.ensures.0 c.args.out.now _ c.lend-part.ensures.value c.put_name.ensures.0 c.text_answer.ensures) in
+    record { value = both.0; out_after = both.1 }

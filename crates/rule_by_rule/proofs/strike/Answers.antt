@@ -2,8 +2,6 @@
 use mathlib.Core.Path.{sym, ◌∙◌}
 use native.Mathlib.Omega.{arith}
 use lib.Seq.{length-take-le}
-use borrow.Author.Rules.{rules}
-use borrow.Author.Tests.{not-true, not-false}
 use Rattle.printing.proofs.Fitting.{written}
 use Rattle.trimmed_text.proofs.Held.{steady_held, named_held, copies_held, small_part}
 use Rattle.rule_by_rule.proofs.Struck.{no_element, here, needed, strike_fitted}
@@ -14,7 +12,8 @@ element_named-i-requires c = named_held _ _ _ _ c.requires
 
 pub returns-then-i-n : goal.returns-then-i-n
 returns-then-i-n c =
-    no_element _ _ _ _ c.requires c.args.rule.now _ c.element_named-i.ensures c.if-i-n.true c.args.out.now
+    let both = no_element _ _ _ _ c.requires c.args.rule.now _ c.element_named-i.ensures c.if-i-n.true c.args.out.now in
+    record { value = both.0; out_after = both.1 }
 
 pub is_needless-requires : goal.is_needless-requires
 is_needless-requires c =
@@ -22,7 +21,8 @@ is_needless-requires c =
 
 pub returns-then-not-is_needless : goal.returns-then-not-is_needless
 returns-then-not-is_needless c =
-    needed _ _ _ _ c.requires c.args.rule.now _ c.element_named-i.ensures c.if-i-n.false (sym c.is_needless.ensures.0 ∙ c.if-not-is_needless.true) c.args.out.now
+    let both = needed _ _ _ _ c.requires c.args.rule.now _ c.element_named-i.ensures c.if-i-n.false (sym c.is_needless.ensures.0 ∙ c.if-not-is_needless.true) c.args.out.now in
+    record { value = both.0; out_after = both.1 }
 
 pub bounds-struck-i : goal.bounds-struck-i
 bounds-struck-i c =
@@ -42,5 +42,6 @@ text_answer-requires c = small_part _ _ _ _ c.requires _ c.put_text-needed.ensur
 
 pub returns : goal.returns
 returns c =
-    strike_fitted _ _ _ _ c.requires c.args.rule.now _ c.element_named-i.ensures c.if-i-n.false (sym c.is_needless.ensures.0 ∙ c.if-not-is_needless.false) _ c.is_needless.ensures.1
-    (written c.put_text-needed.ensures.0 c.args.out.now _ c.lend-part.ensures.value c.put_text.ensures.0 c.text_answer.ensures)
+    let both = strike_fitted _ _ _ _ c.requires c.args.rule.now _ c.element_named-i.ensures c.if-i-n.false (sym c.is_needless.ensures.0 ∙ c.if-not-is_needless.false) _ c.is_needless.ensures.1
+    (written c.put_text-needed.ensures.0 c.args.out.now _ c.lend-part.ensures.value c.put_text.ensures.0 c.text_answer.ensures) in
+    record { value = both.0; out_after = both.1 }

@@ -1,9 +1,6 @@
 -- `column`: the words of the first i elements. Assumes nothing.
 use Prim.Native.Nat.{◌-◌, ◌≤◌}
-use mathlib.Core.Path.{◌≡◌}
-use native.Mathlib.Omega.{arith}
-use Rattle.segments.proofs.Columns.{Columned, columned_none, columned_next}
-use borrow.Author.Rules.{rules}
+use Rattle.segments.proofs.Columns.{Columned}
 use Rattle.segments.proofs.column.Given as goal
 
 abbrev pub invariant-loop-i : goal.invariant-loop-i

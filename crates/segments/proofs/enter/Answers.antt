@@ -1,5 +1,4 @@
 -- `enter`: if the search finds m itself, it opens a segment and is chained in its bucket; else the chains serve as they are. Assumes nothing.
-use borrow.Author.Rules.{rules}
 use Rattle.segments.proofs.Chains.{opens_found, opens_not, chained_same, chained_more}
 use Rattle.segments.proofs.enter.Goals as goal
 

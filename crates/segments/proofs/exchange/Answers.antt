@@ -1,7 +1,6 @@
 -- `exchange`: the two words that its bits come from. Assumes nothing.
 use native.Mathlib.Omega.{arith}
 use Rattle.segments.proofs.Turning.{up_inside, down_inside, shift_inside, exchange_low, exchange_high}
-use borrow.Author.Rules.{rules}
 use Rattle.segments.proofs.exchange.Goals as goal
 
 pub overflow_add-result : goal.overflow_add-result

@@ -1,7 +1,6 @@
 -- `exchanged`: the first k words. Assumes nothing.
-use Prim.Native.Nat.{◌-◌, ◌≤◌}
 use native.Mathlib.Omega.{arith}
-use Rattle.segments.proofs.Turning.{Exchanges, exchanges_none, exchanges_next}
+use Rattle.segments.proofs.Turning.{exchanges_none, exchanges_next}
 use borrow.Author.Rules.{rules}
 use Rattle.segments.proofs.exchanged.Goals as goal
 

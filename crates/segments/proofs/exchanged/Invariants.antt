@@ -1,8 +1,6 @@
 -- `exchanged`: the first k words. Assumes nothing.
 use Prim.Native.Nat.{◌-◌, ◌≤◌}
-use native.Mathlib.Omega.{arith}
-use Rattle.segments.proofs.Turning.{Exchanges, exchanges_none, exchanges_next}
-use borrow.Author.Rules.{rules}
+use Rattle.segments.proofs.Turning.{Exchanges}
 use Rattle.segments.proofs.exchanged.Given as goal
 
 abbrev pub invariant-loop-k : goal.invariant-loop-k

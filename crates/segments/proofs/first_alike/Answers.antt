@@ -2,10 +2,9 @@
 use Prim.Native.Nat.{◌-◌}
 use mathlib.Core.Path.{sym, ap}
 use native.Mathlib.Omega.{arith}
-use borrow.Author.Rules.{rules}
 use borrow.Author.Tests.{eq-eqb, ne_eqb}
 use Rattle.table.specs.Tree.{place_or}
-use Rattle.segments.proofs.Chains.{Searching, search_from, search_none, search_some, search_on, head_links, next_links}
+use Rattle.segments.proofs.Chains.{search_from, search_none, search_some, search_on, head_links, next_links}
 use Rattle.segments.proofs.first_alike.Goals as goal
 
 pub loop-next-init : goal.loop-next-init

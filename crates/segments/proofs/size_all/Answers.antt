@@ -1,11 +1,8 @@
 -- `size_all`: each request is counted at the first one of its segment. Assumes nothing.
-use Prim.Native.Nat.{◌-◌, ◌≤◌}
 use native.Mathlib.Omega.{arith}
-use borrow.Author.Rules.{rules}
 use lib.ListN.{length-set}
-use Rattle.segments.specs.Chains.{Chained}
 use Rattle.segments.proofs.Chains.{chained_none}
-use Rattle.segments.proofs.Sizing.{first_of, Sized, sized_none, counted_most, sized_next, sized_all}
+use Rattle.segments.proofs.Sizing.{first_of, sized_none, counted_most, sized_next, sized_all}
 use Rattle.segments.proofs.size_all.Goals as goal
 
 pub loop-m-init : goal.loop-m-init

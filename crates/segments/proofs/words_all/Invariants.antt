@@ -1,12 +1,9 @@
 -- `words_all`: the words of the requests before m, and the block of the last of them. Assumes nothing.
 use Prim.Native.Nat.{◌-◌, ◌/◌, ◌%◌, ◌≤◌}
-use mathlib.Core.Path.{◌≡◌, refl}
-use mathlib.Core.Logic.{⊎_elim}
-use native.Mathlib.Omega.{arith}
-use Rattle.outcomes.proofs.Laying.{Lays, lays_none, lays_next, lays_all}
+use mathlib.Core.Path.{◌≡◌}
+use Rattle.outcomes.proofs.Laying.{Lays}
 use Rattle.segments.specs.Across.{word_across}
-use Rattle.segments.proofs.Columns.{Across, across_turned, across_here, across_later, across_same}
-use borrow.Author.Rules.{rules}
+use Rattle.segments.proofs.Columns.{Across}
 use Rattle.segments.proofs.words_all.Given as goal
 
 abbrev pub invariant-loop-m : goal.invariant-loop-m

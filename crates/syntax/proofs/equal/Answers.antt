@@ -1,5 +1,4 @@
 -- Each answer is that of the comparison asked for.
-use borrow.Author.Rules.{rules}
 use Rattle.syntax.proofs.equal.Goals as goal
 
 pub returns-then-exact : goal.returns-then-exact

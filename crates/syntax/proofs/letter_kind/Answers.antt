@@ -1,5 +1,5 @@
 -- Each letter's line is computed; another letter is none of the six.
-use mathlib.Core.Path.{◌≡◌, sym}
+use mathlib.Core.Path.{sym}
 use borrow.Author.Tests.{ne_eqb}
 use Rattle.syntax.proofs.letter_kind.Goals as goal
 

@@ -1,6 +1,5 @@
 -- By the field's length, then by its one byte.
 use mathlib.Core.Path.{◌∙◌}
-use borrow.Author.Rules.{rules}
 use Rattle.syntax.proofs.Fields.{kind_byte, kind_other}
 use Rattle.syntax.proofs.line_kind.Goals as goal
 

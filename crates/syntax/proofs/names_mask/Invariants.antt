@@ -1,10 +1,7 @@
 -- The invariant is `Walked`: the mask of what is left, shifted behind the bits taken, is the mask of all. The measure is what is left of the values.
 use Prim.Native.Nat.{◌+◌, ◌-◌}
-use native.Mathlib.Omega.{arith}
-use mathlib.Core.Path.{sym, ◌∙◌}
 use lib.ListN.{length}
-use borrow.Author.Rules.{rules}
-use Rattle.syntax.proofs.Walk.{Walked, walk_starts, value_few, bit_fits, walk_passes, walk_misses, walk_takes, walk_ends, walk_stops}
+use Rattle.syntax.proofs.Walk.{Walked}
 use Rattle.syntax.proofs.names_mask.Given as goal
 
 abbrev pub invariant-loop-taken : goal.invariant-loop-taken

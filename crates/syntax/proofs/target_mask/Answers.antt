@@ -5,7 +5,6 @@ use mathlib.Core.Path.{◌≡◌, sym, ap₂, ◌∙◌}
 use mathlib.Core.Bool.{true}
 use mathlib.Core.List.{List, map, map-id}
 use lib.Pow.{pow_pos, pow_mono}
-use borrow.Author.Rules.{rules}
 use Rattle.meaning.specs.Text.{Bytes, cut, tab, comma}
 use Rattle.meaning.specs.Reading.{mask_of, or_empty}
 use Rattle.syntax.specs.Fields.{spelt}

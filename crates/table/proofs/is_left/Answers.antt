@@ -1,6 +1,5 @@
 -- `is_left`: the flag, and then the word. Assumes nothing.
 use borrow.Author.Tests.{eq-eqb, ne_eqb}
-use borrow.Author.Rules.{rules}
 use Rattle.table.proofs.is_left.Goals as goal
 
 pub returns-then-struck-i-eq0 : goal.returns-then-struck-i-eq0

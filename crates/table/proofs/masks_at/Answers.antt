@@ -1,7 +1,6 @@
 -- `masks_at`: the six numbers behind the first two. Assumes nothing.
 use Prim.Native.Nat.{◌+◌, ◌*◌}
 use native.Mathlib.Omega.{arith}
-use borrow.Author.Rules.{rules}
 use Rattle.table.specs.Rows.{masks_at}
 use Rattle.table.proofs.Rows.{six_from}
 use Rattle.table.proofs.masks_at.Goals as goal

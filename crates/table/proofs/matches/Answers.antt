@@ -1,5 +1,4 @@
 -- `matches`: the element's masks are those of the row. Assumes nothing.
-use borrow.Author.Rules.{rules}
 use Rattle.table.specs.Rows.{masks_at, element_at}
 use Rattle.table.proofs.matches.Goals as goal
 

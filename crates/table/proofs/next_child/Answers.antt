@@ -1,9 +1,6 @@
 -- `next_child`: no place passed is a child, nor ends the children. Assumes nothing.
-use Prim.Native.Nat.{◌-◌, ◌≤◌}
-use mathlib.Core.Path.{◌≡◌, refl, sym, ◌∙◌}
+use mathlib.Core.Path.{refl, sym, ◌∙◌}
 use native.Mathlib.Omega.{arith}
-use borrow.Author.Rules.{rules}
-use Rattle.table.specs.Tree.{next_child}
 use Rattle.table.proofs.Children.{passes_struck, passes_deeper, child_here, child_behind, child_none}
 use Rattle.table.proofs.next_child.Goals as goal
 

@@ -1,10 +1,7 @@
 -- `next_child`: no place passed is a child, nor ends the children. Assumes nothing.
 use Prim.Native.Nat.{◌-◌, ◌≤◌}
-use mathlib.Core.Path.{◌≡◌, refl, sym, ◌∙◌}
-use native.Mathlib.Omega.{arith}
-use borrow.Author.Rules.{rules}
+use mathlib.Core.Path.{◌≡◌}
 use Rattle.table.specs.Tree.{next_child}
-use Rattle.table.proofs.Children.{passes_struck, passes_deeper, child_here, child_behind, child_none}
 use Rattle.table.proofs.next_child.Given as goal
 
 abbrev pub invariant-loop-at : goal.invariant-loop-at

@@ -6,7 +6,6 @@ use mathlib.Core.List.{List}
 use native.Mathlib.Omega.{arith}
 use lib.Dec.{eqb, ltb}
 use borrow.Author.Tests.{eqb-true, eqb-false, lt-ltb, le-ltb}
-use borrow.Author.Rules.{rules}
 use Rattle.laws.proofs.Bools.{Test, passed, failed, test}
 use Rattle.laws.proofs.Search.{last_is, last_absent}
 use Rattle.table.specs.Rows.{depth_of}
@@ -26,11 +25,14 @@ returns-then-depth_at-depth c =
     let args = c.args in
     let turn = c.loop-j in
     let depth = c.depth_at-depth.ensures.0 in
-    let here = c.depth_at.ensures.0 in record { value = sym (ap (place_or args.i) (last_is (lower args.table.now args.i) args.i (turn.j - 1) (record {
+    let here = c.depth_at.ensures.0 in record {
+      value = sym (ap (place_or args.i) (last_is (lower args.table.now args.i) args.i (turn.j - 1) (record {
         below = omega arith;
         holds = lt-ltb (depth_of args.table.now (turn.j - 1)) (depth_of args.table.now args.i) (omega (arith, depth, here));
         no_later = λ m l u. le-ltb (depth_of args.table.now m) (depth_of args.table.now args.i) (omega (arith, depth, turn.invariant.1 m (omega arith) (omega arith)));
-      }))); above = record { within = omega arith; deeper = λ k low high. omega (arith, turn.invariant.1 k (omega arith) high, here) } }
+      })));
+      above = record { within = omega arith; deeper = λ k low high. omega (arith, turn.invariant.1 k (omega arith) high, here) };
+    }
 
 pub loop-j-preserved : goal.loop-j-preserved
 loop-j-preserved c = (omega arith, λ k low high. go k low high (test (eqb k (c.loop-j.j - 1))))

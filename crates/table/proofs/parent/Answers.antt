@@ -1,9 +1,8 @@
 -- `parent`: the places passed are not one less deep. Assumes nothing.
-use Prim.Native.Nat.{◌+◌, ◌-◌, ◌≤◌}
+use Prim.Native.Nat.{◌+◌, ◌-◌}
 use mathlib.Core.Path.{◌≡◌, refl, sym, ap, ◌∙◌}
 use mathlib.Core.Option.{none}
 use native.Mathlib.Omega.{arith}
-use borrow.Author.Rules.{rules}
 use Rattle.table.specs.Rows.{depth_of}
 use Rattle.table.specs.Tree.{parent_of, place_or}
 use Rattle.table.proofs.Above.{nearest, nearest_here, nearest_farther}

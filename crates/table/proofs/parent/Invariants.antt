@@ -1,12 +1,7 @@
 -- `parent`: the places passed are not one less deep. Assumes nothing.
-use Prim.Native.Nat.{◌+◌, ◌-◌, ◌≤◌}
-use mathlib.Core.Path.{◌≡◌, refl, sym, ap, ◌∙◌}
-use mathlib.Core.Option.{none}
-use native.Mathlib.Omega.{arith}
-use borrow.Author.Rules.{rules}
-use Rattle.table.specs.Rows.{depth_of}
-use Rattle.table.specs.Tree.{parent_of, place_or}
-use Rattle.table.proofs.Above.{nearest, nearest_here, nearest_farther}
+use Prim.Native.Nat.{◌≤◌}
+use mathlib.Core.Path.{◌≡◌}
+use Rattle.table.proofs.Above.{nearest}
 use Rattle.table.proofs.parent.Given as goal
 
 abbrev pub invariant-loop-j : goal.invariant-loop-j

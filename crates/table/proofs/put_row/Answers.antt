@@ -1,10 +1,9 @@
 -- `put_row`: the masks from `m` on, laid over the table as it is, give what all of them give over the table as it was. Assumes nothing.
-use Prim.Native.Nat.{◌+◌, ◌-◌, ◌*◌, ◌≤◌}
+use Prim.Native.Nat.{◌+◌, ◌*◌}
 use mathlib.Core.Path.{◌≡◌, refl, ◌∙◌}
 use native.Mathlib.Omega.{arith}
 use borrow.Author.Rules.{rules}
-use lib.ListN.{length, drop, length-set}
-use lib.Seq.{sets}
+use lib.ListN.{length, length-set}
 use Rattle.table.proofs.Rows.{sets_next, row_laid}
 use Rattle.table.proofs.put_row.Goals as goal
 

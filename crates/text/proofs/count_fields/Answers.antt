@@ -1,12 +1,12 @@
 -- `text::count_fields` meets its contract. The loop keeps what the count gives: fields that ended, and the pieces of what is left.
-use Prim.Native.Nat.{◌-◌, ◌≤◌, ◌<◌}
-use mathlib.Core.Path.{◌≡◌, refl, sym, ◌∙◌}
-use mathlib.Core.Bool.{true, false, cond}
+use Prim.Native.Nat.{◌<◌}
+use mathlib.Core.Path.{refl, sym, ◌∙◌}
+use mathlib.Core.Bool.{true, false}
 use native.Mathlib.Omega.{arith}
 use borrow.Author.Rules.{rules}
-use lib.ListN.{length, drop}
-use Rattle.meaning.specs.Text.{all, cut, tab, is_field}
-use Rattle.text.proofs.Counting.{tally, tally_start, run_empty, run_field, end_field, tab_field, other_bad}
+use lib.ListN.{length}
+use Rattle.meaning.specs.Text.{cut, tab}
+use Rattle.text.proofs.Counting.{tally_start, run_empty, run_field, end_field, tab_field, other_bad}
 use Rattle.text.proofs.count_fields.Goals as goal
 
 pub loop-at-init : goal.loop-at-init

@@ -1,12 +1,10 @@
 -- `text::count_fields` meets its contract. The loop keeps what the count gives: fields that ended, and the pieces of what is left.
-use Prim.Native.Nat.{◌-◌, ◌≤◌, ◌<◌}
-use mathlib.Core.Path.{◌≡◌, refl, sym, ◌∙◌}
-use mathlib.Core.Bool.{true, false, cond}
-use native.Mathlib.Omega.{arith}
-use borrow.Author.Rules.{rules}
+use Prim.Native.Nat.{◌-◌, ◌≤◌}
+use mathlib.Core.Path.{◌≡◌}
+use mathlib.Core.Bool.{true, cond}
 use lib.ListN.{length, drop}
 use Rattle.meaning.specs.Text.{all, cut, tab, is_field}
-use Rattle.text.proofs.Counting.{tally, tally_start, run_empty, run_field, end_field, tab_field, other_bad}
+use Rattle.text.proofs.Counting.{tally}
 use Rattle.text.proofs.count_fields.Given as goal
 
 abbrev pub invariant-loop-at : goal.invariant-loop-at

@@ -1,12 +1,8 @@
 -- `text::count_pieces` meets its contract. The loop keeps the sum of what it counted and the pieces from i on: one more than all pieces.
 use Prim.Native.Nat.{◌+◌, ◌-◌, ◌≤◌}
 use mathlib.Core.Path.{◌≡◌}
-use mathlib.Core.Logic.{⊎_elim}
-use native.Mathlib.Omega.{arith}
-use borrow.Author.Rules.{rules}
 use lib.ListN.{length, drop}
 use Rattle.meaning.specs.Text.{cut}
-use Rattle.text.proofs.Counting.{pieces_end, pieces_hit, pieces_miss}
 use Rattle.text.proofs.count_pieces.Given as goal
 
 abbrev pub invariant-loop-i : goal.invariant-loop-i

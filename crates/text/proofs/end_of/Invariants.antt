@@ -1,10 +1,8 @@
 -- `text::end_of` meets its contract. The loop keeps where the piece ends: as many bytes behind i as the first piece from i on has.
 use Prim.Native.Nat.{◌+◌, ◌-◌, ◌≤◌}
 use mathlib.Core.Path.{◌≡◌}
-use native.Mathlib.Omega.{arith}
-use borrow.Author.Rules.{rules}
 use lib.ListN.{length, drop}
-use Rattle.text.proofs.Pieces.{first_length, first_hit, first_next}
+use Rattle.text.proofs.Pieces.{first_length}
 use Rattle.text.proofs.end_of.Given as goal
 
 abbrev pub invariant-loop-i : goal.invariant-loop-i

@@ -1,10 +1,8 @@
 -- `text::first_line` meets its contract. The loop keeps that no newline was passed, and what the count gives.
-use Prim.Native.Nat.{◌+◌, ◌-◌}
+use Prim.Native.Nat.{◌+◌}
 use mathlib.Core.Path.{refl, sym, ◌∙◌}
 use native.Mathlib.Omega.{arith}
-use borrow.Author.Rules.{rules}
-use lib.ListN.{length}
-use Rattle.text.proofs.LineEnds.{Kept, kept_first, line_end_from, line_last, count_empty, line_there, count_there, count_wrong, kept_next, told}
+use Rattle.text.proofs.LineEnds.{kept_first, line_end_from, line_last, count_empty, line_there, count_there, count_wrong, kept_next, told}
 use Rattle.text.proofs.first_line.Goals as goal
 
 pub loop-ended-init : goal.loop-ended-init

@@ -1,9 +1,9 @@
 -- `text::from_field` meets its contract. The loop keeps that field n of the line starts at `at`.
-use Prim.Native.Nat.{ℕ, ◌-◌, ◌≤◌}
+use Prim.Native.Nat.{ℕ}
 use mathlib.Core.Path.{◌≡◌, refl, sym, ap, ◌∙◌}
 use native.Mathlib.Omega.{arith}
 use borrow.Author.Rules.{rules}
-use lib.ListN.{length, drop}
+use lib.ListN.{drop}
 use Rattle.meaning.specs.Text.{cut, tab}
 use Rattle.text.proofs.Pieces.{rest_of}
 use Rattle.text.proofs.Fields.{next_field, another_field}

@@ -1,6 +1,5 @@
 -- `lines_end` meets its contract.
 use mathlib.Core.Path.{sym}
-use borrow.Author.Rules.{rules}
 use Rattle.trimmed_text.proofs.Copying.{reached_line, reached_end}
 use Rattle.trimmed_text.proofs.lines_end.Goals as goal
 

@@ -1,6 +1,5 @@
 -- `piece_end` meets its contract.
 use mathlib.Core.Path.{sym, subst}
-use borrow.Author.Rules.{rules}
 use Rattle.trimmed_text.specs.Copied.{Piece}
 use Rattle.trimmed_text.proofs.Copying.{piece_struck, piece_left}
 use Rattle.trimmed_text.proofs.piece_end.Goals as goal

@@ -1,15 +1,12 @@
 -- `put_text` meets its contract. The loop stores the lines left of one element behind the other's, and stays before the element looked at.
-use mathlib.Core.Path.{ap, ◌∙◌}
-use Prim.Native.Nat.{◌+◌, ◌-◌, ◌≤◌}
+use Prim.Native.Nat.{◌+◌, ◌≤◌}
 use native.Mathlib.Omega.{arith}
-use borrow.Author.Rules.{rules}
 use lib.ListN.{length}
-use lib.Seq.{length-sets}
 use Rattle.layout.specs.Places.{part, start_of}
 use Rattle.printing.proofs.Laws.{then}
-use Rattle.printing.proofs.Walks.{Sofar, begun, stored, ended_all}
+use Rattle.printing.proofs.Walks.{begun, stored, ended_all}
 use Rattle.trimmed_text.specs.Copied.{piece_at, copied}
-use Rattle.trimmed_text.proofs.Copying.{length_head, reached, reached_line, reached_end, length_piece, piece_stored}
+use Rattle.trimmed_text.proofs.Copying.{length_head, reached_line, reached_end, length_piece, piece_stored}
 use Rattle.trimmed_text.proofs.put_text.Goals as goal
 
 pub slice_bounds-put_bytes-end : goal.slice_bounds-put_bytes-end
@@ -29,8 +26,7 @@ loop-i-init c =
 
 pub put_bytes-at-requires-in-loop-i : goal.put_bytes-at-requires-in-loop-i
 put_bytes-at-requires-in-loop-i c =
-    let entry : tie.Start invariant-loop decreases-loop = c⟨At-loop⟩ in
-    let room : let a = (entry).args in let l = c.loop-i in l.at + length (part a.file.now (start_of a.places.now l.i) c.piece_end-end.result) ≤ c.piece_end-end.result = let a = (entry).args in
+    let room : let a = c.args in let l = c.loop-i in l.at + length (part a.file.now (start_of a.places.now l.i) c.piece_end-end.result) ≤ c.piece_end-end.result = let a = c.args in
     let l = c.loop-i in
     let p = c.piece_end-end in
     let start = reached_line a.file.now a.places.now a.n l.i c.loop-i-test.true in
@@ -39,13 +35,12 @@ put_bytes-at-requires-in-loop-i c =
 
 pub loop-i-preserved : goal.loop-i-preserved
 loop-i-preserved c =
-    let entry : tie.Start invariant-loop decreases-loop = c⟨At-loop⟩ in
-    let room : let a = (entry).args in let l = c.loop-i in l.at + length (part a.file.now (start_of a.places.now l.i) c.piece_end-end.result) ≤ c.piece_end-end.result = let a = (entry).args in
+    let room : let a = c.args in let l = c.loop-i in l.at + length (part a.file.now (start_of a.places.now l.i) c.piece_end-end.result) ≤ c.piece_end-end.result = let a = c.args in
     let l = c.loop-i in
     let p = c.piece_end-end in
     let start = reached_line a.file.now a.places.now a.n l.i c.loop-i-test.true in
     omega (arith, l.invariant.1, length_piece a.file.now a.places.now a.struck.now a.n l.i p.result p.ensures, p.ensures.starts) in
-    let a = (entry).args in
+    let a = c.args in
     let l = c.loop-i in
     let p = c.piece_end-end in
     let w = c.put_bytes-at-in-loop-i.ensures in (
@@ -57,8 +52,7 @@ loop-i-preserved c =
 pub returns : goal.returns
 unfolding copied
 returns c =
-    let entry : tie.Start invariant-loop decreases-loop = c⟨At-loop⟩ in
-    let a = (entry).args in
+    let a = c.args in
     let l = c.loop-i in
     let end = reached_end a.file.now a.places.now a.n l.i c.loop-i-test.false in
     (then c.put_bytes-at.ensures (ended_all (piece_at a.file.now a.places.now a.struck.now a.n) (length a.file.now) _ _ l.i l.invariant.2 a.n (omega arith)), omega (arith, l.invariant.1))

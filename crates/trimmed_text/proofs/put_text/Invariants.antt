@@ -1,15 +1,9 @@
 -- `put_text` meets its contract. The loop stores the lines left of one element behind the other's, and stays before the element looked at.
-use mathlib.Core.Path.{ap, ◌∙◌}
-use Prim.Native.Nat.{◌+◌, ◌-◌, ◌≤◌}
-use native.Mathlib.Omega.{arith}
-use borrow.Author.Rules.{rules}
+use Prim.Native.Nat.{◌-◌, ◌≤◌}
 use lib.ListN.{length}
-use lib.Seq.{length-sets}
-use Rattle.layout.specs.Places.{part, start_of}
-use Rattle.printing.proofs.Laws.{then}
-use Rattle.printing.proofs.Walks.{Sofar, begun, stored, ended_all}
-use Rattle.trimmed_text.specs.Copied.{piece_at, copied}
-use Rattle.trimmed_text.proofs.Copying.{length_head, reached, reached_line, reached_end, length_piece, piece_stored}
+use Rattle.printing.proofs.Walks.{Sofar}
+use Rattle.trimmed_text.specs.Copied.{piece_at}
+use Rattle.trimmed_text.proofs.Copying.{reached}
 use Rattle.trimmed_text.proofs.put_text.Given as goal
 
 abbrev pub invariant-loop-i : goal.invariant-loop-i

@@ -1,12 +1,8 @@
 -- `put_alone`: the loop keeps the lines of those before `j` whose names the first file lacks. Assumes nothing.
-use mathlib.Core.Path.{sym, ap, ◌∙◌}
 use Prim.Native.Nat.{◌-◌, ◌≤◌}
-use native.Mathlib.Omega.{arith}
-use borrow.Author.Rules.{rules}
-use Rattle.meaning.specs.Joining.{declared}
 use Rattle.layout.specs.Places.{attributes_of}
-use Rattle.printing.proofs.Walks.{Sofar, begun, stored, passed_over, ended_all}
-use Rattle.joined_text.proofs.Header.{same_text, alone_at, alone_known, alone_new, alone_lines}
+use Rattle.printing.proofs.Walks.{Sofar}
+use Rattle.joined_text.proofs.Header.{alone_at}
 use Rattle.joined_text.proofs.attributes.put_alone.Given as goal
 
 abbrev pub invariant-loop-j : goal.invariant-loop-j

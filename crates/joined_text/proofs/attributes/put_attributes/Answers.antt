@@ -1,8 +1,7 @@
 -- `put_attributes`: the loop keeps the lines of the attributes before `i`. Assumes nothing.
-use Prim.Native.Nat.{◌-◌, ◌≤◌}
 use native.Mathlib.Omega.{arith}
 use borrow.Author.Rules.{rules}
-use Rattle.printing.proofs.Walks.{Sofar, begun, stored, ended_all}
+use Rattle.printing.proofs.Walks.{begun, stored, ended_all}
 use Rattle.joined_text.proofs.Header.{same_text, line_at, all_lines}
 use Rattle.joined_text.proofs.attributes.put_attributes.Goals as goal
 

@@ -1,9 +1,7 @@
 -- `put_attributes`: the loop keeps the lines of the attributes before `i`. Assumes nothing.
 use Prim.Native.Nat.{◌-◌, ◌≤◌}
-use native.Mathlib.Omega.{arith}
-use borrow.Author.Rules.{rules}
-use Rattle.printing.proofs.Walks.{Sofar, begun, stored, ended_all}
-use Rattle.joined_text.proofs.Header.{same_text, line_at, all_lines}
+use Rattle.printing.proofs.Walks.{Sofar}
+use Rattle.joined_text.proofs.Header.{line_at}
 use Rattle.joined_text.proofs.attributes.put_attributes.Given as goal
 
 abbrev pub invariant-loop-i : goal.invariant-loop-i

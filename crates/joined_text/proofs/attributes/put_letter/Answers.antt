@@ -1,6 +1,5 @@
 -- `put_letter`: the letter of each case. Assumes nothing.
 use native.Mathlib.Omega.{arith}
-use borrow.Author.Rules.{rules}
 use Rattle.joined_text.proofs.attributes.put_letter.Goals as goal
 
 pub returns-then-several : goal.returns-then-several

@@ -1,6 +1,5 @@
 -- `put_set`: the fields before the word, the word, the targets and the newline. Assumes nothing.
 use native.Mathlib.Omega.{arith}
-use borrow.Author.Rules.{rules}
 use lib.ListN.{replicate}
 use Rattle.meaning.specs.Text.{bytes}
 use Rattle.printing.proofs.Laws.{then}

@@ -1,10 +1,9 @@
 -- `put_stars`: the loop keeps `i` of them. Assumes nothing.
 use mathlib.Core.List.{◌∷◌}
-use Prim.Native.Nat.{◌-◌, ◌≤◌}
 use native.Mathlib.Omega.{arith}
 use borrow.Author.Rules.{rules}
 use Rattle.meaning.specs.Text.{bytes, tab}
-use Rattle.printing.proofs.Walks.{Sofar, begun, stored, ended_all}
+use Rattle.printing.proofs.Walks.{begun, stored, ended_all}
 use Rattle.joined_text.proofs.Header.{same_text, stars}
 use Rattle.joined_text.proofs.attributes.put_stars.Goals as goal
 

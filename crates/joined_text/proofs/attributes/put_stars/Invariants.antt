@@ -1,11 +1,8 @@
 -- `put_stars`: the loop keeps `i` of them. Assumes nothing.
 use mathlib.Core.List.{◌∷◌}
 use Prim.Native.Nat.{◌-◌, ◌≤◌}
-use native.Mathlib.Omega.{arith}
-use borrow.Author.Rules.{rules}
 use Rattle.meaning.specs.Text.{bytes, tab}
-use Rattle.printing.proofs.Walks.{Sofar, begun, stored, ended_all}
-use Rattle.joined_text.proofs.Header.{same_text, stars}
+use Rattle.printing.proofs.Walks.{Sofar}
 use Rattle.joined_text.proofs.attributes.put_stars.Given as goal
 
 abbrev pub invariant-loop-i : goal.invariant-loop-i

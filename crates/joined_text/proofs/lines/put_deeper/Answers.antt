@@ -1,9 +1,8 @@
 -- `put_deeper`: the fields before the targets, the targets and the newline. Assumes nothing.
-use mathlib.Core.Path.{◌≡◌, ap, ◌∙◌}
+use mathlib.Core.Path.{ap, ◌∙◌}
 use Prim.Native.Nat.{◌+◌, ◌-◌}
 use native.Mathlib.Omega.{arith}
 use lib.ListN.{length, take, drop, length-drop}
-use borrow.Author.Rules.{rules}
 use Rattle.meaning.specs.Text.{cut, tab}
 use Rattle.text.proofs.Pieces.{rest_of}
 use Rattle.joined_text.specs.Lines.{places_of}

@@ -1,10 +1,8 @@
 -- `put_head`: letter, depth, name and word, with a tab behind each but the last. Assumes nothing.
-use mathlib.Core.Path.{◌≡◌, ap, ◌∙◌}
-use Prim.Native.Nat.{◌-◌}
+use mathlib.Core.Path.{ap, ◌∙◌}
 use native.Mathlib.Omega.{arith}
-use lib.ListN.{length, take, drop, get_or}
-use borrow.Author.Rules.{rules}
-use Rattle.meaning.specs.Text.{cut, tab}
+use lib.ListN.{length}
+use Rattle.meaning.specs.Text.{tab}
 use Rattle.meaning.specs.Reading.{depth_of}
 use Rattle.joined_text.proofs.Targets.{piece_short}
 use Rattle.joined_text.proofs.Rows.{first_field, field_room, head_row_lem}

@@ -1,8 +1,6 @@
 -- `put_line`: an obligation's line as it is, any other one deeper. Assumes nothing.
-use mathlib.Core.Path.{◌≡◌, sym, ap, ◌∙◌}
-use mathlib.Core.Bool.{Bool}
+use mathlib.Core.Path.{sym, ap, ◌∙◌}
 use native.Mathlib.Omega.{arith}
-use borrow.Author.Rules.{rules}
 use Rattle.meaning.specs.Text.{bytes, same}
 use Rattle.joined_text.specs.Lines.{places_of}
 use Rattle.joined_text.proofs.Rows.{first_field, kept_row_lem, other_row, has_targets}

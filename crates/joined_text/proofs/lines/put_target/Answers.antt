@@ -1,6 +1,5 @@
 -- `put_target`: a tab, then the file's own target or `*`. Assumes nothing.
 use native.Mathlib.Omega.{arith}
-use borrow.Author.Rules.{rules}
 use Rattle.joined_text.proofs.Targets.{own_target, star_target}
 use Rattle.joined_text.proofs.lines.put_target.Goals as goal
 

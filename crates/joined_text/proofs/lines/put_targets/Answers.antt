@@ -1,14 +1,14 @@
 -- `put_targets`: the targets of the joined attributes so far. Assumes nothing.
 use mathlib.Core.Path.{sym, subst}
 use mathlib.Core.List.{◌∷◌}
-use Prim.Native.Nat.{ℕ, ◌+◌, ◌-◌, ◌*◌, ◌≤◌}
+use Prim.Native.Nat.{ℕ, ◌+◌, ◌-◌}
 use native.Mathlib.Omega.{arith}
 use lib.ListN.{length, get_or}
 use borrow.Author.Rules.{rules}
 use Rattle.meaning.specs.Text.{Bytes, counting, cut, tab}
 use Rattle.laws.proofs.Rewritten.{gathered_map}
 use Rattle.printing.specs.Wrote.{Wrote}
-use Rattle.printing.proofs.Walks.{Sofar, begun, stored, ended_all}
+use Rattle.printing.proofs.Walks.{begun, stored, ended_all}
 use Rattle.joined_text.specs.Lines.{placed_target}
 use Rattle.joined_text.proofs.Targets.{room_for}
 use Rattle.joined_text.proofs.lines.put_targets.Goals as goal

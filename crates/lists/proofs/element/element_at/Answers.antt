@@ -3,7 +3,6 @@ use mathlib.Core.Path.{ap, ◌∙◌}
 use native.Mathlib.Omega.{arith}
 use Rattle.table.specs.Rows.{word_at}
 use Rattle.lists.proofs.Parts.{element_made}
-use borrow.Author.Rules.{rules}
 use Rattle.lists.proofs.element.element_at.Goals as goal
 
 pub overflow_cast-result : goal.overflow_cast-result

@@ -1,8 +1,4 @@
 -- `padded_name` meets its contract: before turn i, i bytes of the name are laid over zero bytes.
-use mathlib.Core.Path.{◌≡◌}
-use Prim.Native.Nat.{◌-◌, ◌≤◌}
-use lib.ListN.{length, replicate}
-use Rattle.lists.proofs.Laying.{laid}
 use Rattle.lists.proofs.Parts.{name_next, name_whole}
 use borrow.Author.Rules.{rules}
 use Rattle.lists.proofs.element.padded_name.Goals as goal

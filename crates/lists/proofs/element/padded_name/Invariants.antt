@@ -3,8 +3,6 @@ use mathlib.Core.Path.{◌≡◌}
 use Prim.Native.Nat.{◌-◌, ◌≤◌}
 use lib.ListN.{length, replicate}
 use Rattle.lists.proofs.Laying.{laid}
-use Rattle.lists.proofs.Parts.{name_next, name_whole}
-use borrow.Author.Rules.{rules}
 use Rattle.lists.proofs.element.padded_name.Given as goal
 
 abbrev pub invariant-loop-i : goal.invariant-loop-i

@@ -1,10 +1,7 @@
 -- `word_of` meets its contract: the last word has no number of its own.
 use native.Mathlib.Omega.{arith}
 use Rattle.lists.proofs.Parts.{last_word}
-use borrow.Author.Rules.{rules}
 use Rattle.lists.proofs.element.word_of.Goals as goal
 
 pub returns-in_default : goal.returns-in_default
-returns-in_default c =
-    let none = c.in_default.rest in
-    last_word c.args.number (omega (arith, none.1, none.0.1, none.0.0.1, none.0.0.0.1, none.0.0.0.0.1))
+returns-in_default c = last_word c.args.number (omega arith)

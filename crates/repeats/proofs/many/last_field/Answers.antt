@@ -1,10 +1,10 @@
 -- `repeats::many::last_field` meets its contract. The loop keeps the hash of the bytes passed, and the fields behind.
 use Prim.Native.Nat.{◌-◌, ◌≤◌, ◌<◌}
-use mathlib.Core.Path.{◌≡◌, refl, sym, ap, ◌∙◌}
+use mathlib.Core.Path.{refl, sym, ap, ◌∙◌}
 use native.Mathlib.Omega.{arith}
 use borrow.Author.Rules.{rules}
 use lib.ListN.{length, get_or}
-use Rattle.repeats.specs.Marks.{hash_step, hash_of, first_at, others_at}
+use Rattle.repeats.specs.Marks.{hash_step, hash_of}
 use Rattle.repeats.proofs.Backward.{before_hash, before_others}
 use Rattle.repeats.proofs.many.last_field.Goals as goal
 

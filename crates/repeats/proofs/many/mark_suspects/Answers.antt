@@ -1,13 +1,12 @@
 -- `repeats::many::mark_suspects` meets its contract. The loop keeps that the fields passed have marks, and those of them that stand again behind are suspects.
-use Prim.Native.Nat.{◌≤◌}
-use mathlib.Core.Path.{◌≡◌, refl, sym, ap, ◌∙◌}
+use mathlib.Core.Path.{refl, sym, ap, ◌∙◌}
 use mathlib.Core.Bool.{true}
 use mathlib.Core.List.{[]}
 use native.Mathlib.Omega.{arith}
 use borrow.Author.Rules.{rules}
-use lib.ListN.{length, get_or, drop}
+use lib.ListN.{get_or, drop}
 use Rattle.meaning.specs.Text.{cut, tab}
-use Rattle.repeats.specs.Marks.{first_at, others_at, Kept, Caught}
+use Rattle.repeats.specs.Marks.{first_at, others_at}
 use Rattle.repeats.proofs.Backward.{end_parts, passed_parts, next_parts}
 use Rattle.repeats.proofs.Repeats.{kept_step, caught_step}
 use Rattle.repeats.proofs.many.mark_suspects.Goals as goal

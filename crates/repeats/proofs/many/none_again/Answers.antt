@@ -1,13 +1,11 @@
 -- `repeats::many::none_again` meets its contract. The loop keeps that no field passed stands twice, and that the suspects passed have marks.
-use Prim.Native.Nat.{◌≤◌}
-use mathlib.Core.Path.{◌≡◌, refl, sym, ap, ◌∙◌}
-use mathlib.Core.Bool.{false, not}
+use mathlib.Core.Path.{refl, sym, ap, ◌∙◌}
+use mathlib.Core.Bool.{not}
 use mathlib.Core.List.{[]}
 use native.Mathlib.Omega.{arith}
 use borrow.Author.Rules.{rules}
-use lib.ListN.{length, get_or, drop}
+use lib.ListN.{get_or, drop}
 use Rattle.meaning.specs.Text.{repeated, cut, tab}
-use Rattle.repeats.specs.Marks.{marked, first_at, others_at, Kept}
 use Rattle.repeats.proofs.Backward.{at_parts, end_parts, next_parts}
 use Rattle.repeats.proofs.Repeats.{again_repeated, passing, none_more}
 use Rattle.repeats.proofs.many.none_again.Goals as goal

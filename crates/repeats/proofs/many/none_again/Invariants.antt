@@ -1,15 +1,11 @@
 -- `repeats::many::none_again` meets its contract. The loop keeps that no field passed stands twice, and that the suspects passed have marks.
 use Prim.Native.Nat.{◌≤◌}
-use mathlib.Core.Path.{◌≡◌, refl, sym, ap, ◌∙◌}
-use mathlib.Core.Bool.{false, not}
+use mathlib.Core.Path.{◌≡◌}
+use mathlib.Core.Bool.{false}
 use mathlib.Core.List.{[]}
-use native.Mathlib.Omega.{arith}
-use borrow.Author.Rules.{rules}
-use lib.ListN.{length, get_or, drop}
-use Rattle.meaning.specs.Text.{repeated, cut, tab}
+use lib.ListN.{length}
+use Rattle.meaning.specs.Text.{repeated}
 use Rattle.repeats.specs.Marks.{marked, first_at, others_at, Kept}
-use Rattle.repeats.proofs.Backward.{at_parts, end_parts, next_parts}
-use Rattle.repeats.proofs.Repeats.{again_repeated, passing, none_more}
 use Rattle.repeats.proofs.many.none_again.Given as goal
 
 abbrev pub invariant-loop-passed : goal.invariant-loop-passed

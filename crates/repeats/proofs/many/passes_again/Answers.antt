@@ -1,7 +1,5 @@
 -- `repeats::many::passes_again` meets its contract: a field that a mark is lacking does not stand again.
 use mathlib.Core.Path.{sym, ◌∙◌}
-use borrow.Author.Rules.{rules}
-use borrow.Author.Tests.{not-true, not-false}
 use Rattle.repeats.proofs.Repeats.{no_suspect, no_suspect_kept, no_mark, mark_kept}
 use mathlib.Core.Path.{subst⁻¹}
 use mathlib.Core.List.{◌∷◌}

@@ -1,7 +1,6 @@
 -- `repeats::many::stands_again` meets its contract: behind the field that starts here are the fields behind its end.
 use Prim.Native.Nat.{◌+◌}
 use native.Mathlib.Omega.{arith}
-use borrow.Author.Rules.{rules}
 use Rattle.meaning.specs.Text.{tab}
 use Rattle.text.proofs.Pieces.{rest_of, piece_last, piece_more}
 use Rattle.repeats.proofs.many.stands_again.Goals as goal

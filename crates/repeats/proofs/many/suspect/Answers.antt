@@ -1,7 +1,5 @@
 -- `repeats::many::suspect` meets its contract.
 use mathlib.Core.Path.{sym, ◌∙◌}
-use borrow.Author.Rules.{rules}
-use borrow.Author.Tests.{not-true, not-false}
 use Rattle.repeats.proofs.many.suspect.Goals as goal
 
 pub returns-then-not-note : goal.returns-then-not-note

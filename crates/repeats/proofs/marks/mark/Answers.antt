@@ -1,6 +1,5 @@
 -- `repeats::marks::mark` meets its contract: one bit after the other.
 use mathlib.Core.Path.{ap, ◌∙◌}
-use borrow.Author.Rules.{rules}
 use Rattle.repeats.specs.Marks.{with_bit, second_bit, with_mark}
 use Rattle.repeats.proofs.marks.mark.Goals as goal
 

@@ -1,7 +1,5 @@
 -- `repeats::marks::marked` meets its contract.
 use mathlib.Core.Path.{sym, ◌∙◌}
-use borrow.Author.Rules.{rules}
-use borrow.Author.Tests.{not-true, not-false}
 use Rattle.repeats.specs.Marks.{marked}
 use Rattle.repeats.proofs.marks.marked.Goals as goal
 

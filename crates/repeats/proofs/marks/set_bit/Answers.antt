@@ -7,7 +7,6 @@ use lib.Dec.{lit<}
 use lib.ListN.{get_or, set}
 use lib.Bits.{bit_or}
 use lib.Pow.{shl_exact}
-use borrow.Author.Rules.{rules}
 use Rattle.repeats.specs.Marks.{with_bit}
 use Rattle.repeats.proofs.marks.set_bit.Goals as goal
 

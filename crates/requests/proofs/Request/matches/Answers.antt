@@ -1,13 +1,10 @@
 -- `Request::matches`: the attributes looked at so far match their fields. Assumes nothing.
-use Prim.Native.Nat.{◌-◌, ◌≤◌}
 use mathlib.Core.Path.{◌≡◌, sym, ◌∙◌}
 use mathlib.Core.Bool.{true, false}
 use native.Mathlib.Omega.{arith}
 use borrow.Author.Rules.{rules}
-use borrow.Author.Tests.{not-true, not-false}
-use lib.ListN.{length, take, drop}
-use Rattle.meaning.specs.Deciding.{within}
-use Rattle.requests.proofs.Targets.{within_from, within_more, within_all}
+use lib.ListN.{length}
+use Rattle.requests.proofs.Targets.{within_more, within_all}
 use Rattle.requests.proofs.Request.matches.Goals as goal
 
 pub returns-then-not-in_field : goal.returns-then-not-in_field

@@ -3,10 +3,10 @@ use Prim.Native.Nat.{ℕ, ◌+◌, ◌-◌, ◌/◌, ◌%◌, ◌≤◌, ◌<◌
 use mathlib.Core.Path.{◌≡◌, refl, ◌∙◌, subst}
 use native.Mathlib.Omega.{arith}
 use borrow.Author.Rules.{rules}
-use lib.ListN.{length, take, drop, get_or, length-set}
+use lib.ListN.{length, take, get_or, length-set}
 use lib.Seq.{drop-set-lt}
 use Rattle.laws.proofs.Requests.{fits_positive}
-use Rattle.requests.proofs.Laws.{Below, fits, set_below, count_le}
+use Rattle.requests.proofs.Laws.{fits, set_below, count_le}
 use Rattle.requests.proofs.Laid.{changed}
 use Rattle.requests.proofs.Steps.{Carried, carried_none, carried_on, carried_all, parts_small}
 use Rattle.requests.proofs.Request.next.Goals as goal

@@ -1,12 +1,11 @@
 -- `Request::number`: the values passed weigh, with those to come, the whole number. Assumes nothing.
-use Prim.Native.Nat.{◌+◌, ◌-◌, ◌*◌, ◌≤◌, ◌<◌}
+use Prim.Native.Nat.{◌+◌, ◌*◌, ◌<◌}
 use mathlib.Core.Path.{◌≡◌, sym, ◌∙◌}
 use native.Mathlib.Nat.{zero-mul, zero-add}
 use native.Mathlib.Omega.{arith}
 use borrow.Author.Rules.{rules}
-use lib.ListN.{length, take, get_or}
-use Rattle.meaning.specs.Deciding.{number_of}
-use Rattle.requests.proofs.Laws.{fits, weighed, weigh, weigh_small, weighed_all}
+use lib.ListN.{length, get_or}
+use Rattle.requests.proofs.Laws.{fits, weigh, weigh_small, weighed_all}
 use Rattle.requests.proofs.Request.number.Goals as goal
 
 pub loop-i-init : goal.loop-i-init

@@ -1,12 +1,9 @@
 -- `Request::number`: the values passed weigh, with those to come, the whole number. Assumes nothing.
-use Prim.Native.Nat.{◌+◌, ◌-◌, ◌*◌, ◌≤◌, ◌<◌}
-use mathlib.Core.Path.{◌≡◌, sym, ◌∙◌}
-use native.Mathlib.Nat.{zero-mul, zero-add}
-use native.Mathlib.Omega.{arith}
-use borrow.Author.Rules.{rules}
-use lib.ListN.{length, take, get_or}
+use Prim.Native.Nat.{◌-◌, ◌≤◌}
+use mathlib.Core.Path.{◌≡◌}
+use lib.ListN.{take}
 use Rattle.meaning.specs.Deciding.{number_of}
-use Rattle.requests.proofs.Laws.{fits, weighed, weigh, weigh_small, weighed_all}
+use Rattle.requests.proofs.Laws.{weighed}
 use Rattle.requests.proofs.Request.number.Given as goal
 
 abbrev pub invariant-loop-i : goal.invariant-loop-i

@@ -1,11 +1,8 @@
 -- `text::runs::visible_near` meets its contract. The loop keeps that the bytes passed may stand in a field.
-use Prim.Native.Nat.{◌-◌, ◌≤◌}
 use mathlib.Core.Path.{refl, sym, ◌∙◌}
 use native.Mathlib.Omega.{arith}
 use borrow.Author.Rules.{rules}
-use borrow.Author.Tests.{not-true, not-false}
-use lib.ListN.{length}
-use Rattle.text.proofs.Counting.{Seen, seen_more}
+use Rattle.text.proofs.Counting.{seen_more}
 use Rattle.text.proofs.runs.visible_near.Goals as goal
 
 pub loop-i-init : goal.loop-i-init

@@ -1,11 +1,9 @@
 -- `text::runs::visible_to` meets its contract. The loop keeps that the bytes passed may stand in a field.
-use Prim.Native.Nat.{◌+◌, ◌-◌, ◌≤◌}
+use Prim.Native.Nat.{◌+◌}
 use mathlib.Core.Path.{sym, ◌∙◌}
 use native.Mathlib.Omega.{arith}
 use borrow.Author.Rules.{rules}
-use borrow.Author.Tests.{not-true, not-false}
-use lib.ListN.{length}
-use Rattle.text.proofs.Counting.{Seen, seen_more, seen_on}
+use Rattle.text.proofs.Counting.{seen_more, seen_on}
 use Rattle.text.proofs.runs.visible_to.Goals as goal
 
 pub loop-i-init : goal.loop-i-init

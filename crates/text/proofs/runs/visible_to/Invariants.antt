@@ -1,11 +1,7 @@
 -- `text::runs::visible_to` meets its contract. The loop keeps that the bytes passed may stand in a field.
-use Prim.Native.Nat.{◌+◌, ◌-◌, ◌≤◌}
-use mathlib.Core.Path.{sym, ◌∙◌}
-use native.Mathlib.Omega.{arith}
-use borrow.Author.Rules.{rules}
-use borrow.Author.Tests.{not-true, not-false}
+use Prim.Native.Nat.{◌-◌, ◌≤◌}
 use lib.ListN.{length}
-use Rattle.text.proofs.Counting.{Seen, seen_more, seen_on}
+use Rattle.text.proofs.Counting.{Seen}
 use Rattle.text.proofs.runs.visible_to.Given as goal
 
 abbrev pub invariant-loop-i : goal.invariant-loop-i
