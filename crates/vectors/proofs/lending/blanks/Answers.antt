@@ -1,5 +1,4 @@
 -- `blanks` meets its contract: the first place of no elements is blank.
-use borrow.Author.Rules.{rules}
 use Rattle.vectors.proofs.lending.blanks.Goals as goal
 
 pub returns : goal.returns

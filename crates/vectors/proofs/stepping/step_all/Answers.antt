@@ -1,7 +1,4 @@
-use Prim.Native.Nat.{◌-◌, ◌≤◌}
-use Rattle.requests.specs.Values.{Fitting}
 use native.Mathlib.Omega.{arith}
-use borrow.Author.Rules.{rules}
 use Rattle.vectors.proofs.stepping.step_all.Goals as goal
 
 pub overflow_add-m : goal.overflow_add-m

@@ -1,7 +1,5 @@
 use Prim.Native.Nat.{◌-◌, ◌≤◌}
 use Rattle.requests.specs.Values.{Fitting}
-use native.Mathlib.Omega.{arith}
-use borrow.Author.Rules.{rules}
 use Rattle.vectors.proofs.stepping.step_all.Given as goal
 
 abbrev pub invariant-loop-m : goal.invariant-loop-m

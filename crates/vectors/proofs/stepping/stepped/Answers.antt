@@ -4,7 +4,6 @@ use lib.Dec.{lit≤}
 use Rattle.layout.proofs.Slots.{zeros_clear}
 use Rattle.reader.proofs.FileRead.{file_read}
 use Rattle.jogimaduve.proofs.Shaping.{sizable, ready}
-use borrow.Author.Rules.{rules}
 use Rattle.vectors.proofs.stepping.stepped.Goals as goal
 
 pub policy_shape-shape-requires : goal.policy_shape-shape-requires
