@@ -6,7 +6,7 @@ use native.Mathlib.Omega.{arith}
 use mathlib.Core.List.{List, []}
 use lib.ListN.{get_or}
 use borrow.Author.Tests.{ne_eqb, lt-ltb, le-ltb}
-use Rattle.meaning.specs.Text.{Bytes, bytes, line, decimal}
+use Rattle.meaning.specs.Text.{Bytes, bytes, decimal}
 use Rattle.meaning.specs.Model.{decision_text}
 use Rattle.meaning.specs.Report.{or_dash}
 use Rattle.layout.specs.Places.{name_in}

@@ -1,7 +1,6 @@
 -- `jogimaduve_accept` meets its contract: the original's refusal, or what the proposal gets beside it.
 use mathlib.Core.Path.{◌∙◌}
 use native.Mathlib.Omega.{arith}
-use borrow.Author.Rules.{rules}
 use Rattle.layout.proofs.Slots.{zeros_clear}
 use Rattle.reader.proofs.FileRead.{small_numbers, file_read}
 use Rattle.jogimaduve.proofs.Refusing.{original_refused}

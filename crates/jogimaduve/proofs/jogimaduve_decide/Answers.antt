@@ -1,7 +1,5 @@
 -- `jogimaduve_decide` meets its contract: the file's refusal, the request line's, or the decision and its obligations.
-use mathlib.Core.Path.{◌∙◌}
 use native.Mathlib.Omega.{arith}
-use borrow.Author.Rules.{rules}
 use borrow.Author.Tests.{not-true, not-false}
 use Rattle.layout.proofs.Slots.{zeros_clear}
 use Rattle.reader.proofs.FileRead.{small_numbers, file_read}
@@ -18,7 +16,8 @@ refusal-requires c = small_numbers _ _ _ _ c.read-reading.ensures.answer c.if-re
 pub returns-then-reading-ne0 : goal.returns-then-reading-ne0
 returns-then-reading-ne0 c =
     let a = c.args in
-    rw (c.refused.ensures, c.refusal.ensures) (refusal_answered _ _ _ _ c.read-reading.ensures.answer a.request.now a.out.now c.if-reading-ne0.true)
+    let both = refusal_answered _ _ _ _ c.read-reading.ensures.answer a.request.now a.out.now c.if-reading-ne0.true in
+    record { value = rw (c.refused.ensures, c.refusal.ensures) both.0; out_after = both.1 }
 
 pub request_line-asked-requires : goal.request_line-asked-requires
 request_line-asked-requires c =
@@ -29,23 +28,25 @@ pub overflow_cast-answer : goal.overflow_cast-answer
 overflow_cast-answer c =
     let a = c.args in
     let asked = c.request_line-asked in
-    omega (arith, small_place _ _ _ _ c.read-reading.ensures.answer a.request.now a.out.now c.if-reading-ne0.false asked.result asked.ensures (c.if-not-asked.true))
+    omega (arith, small_place _ _ _ _ c.read-reading.ensures.answer a.request.now a.out.now c.if-reading-ne0.false asked.result asked.ensures (not-true asked.result.good c.if-not-asked.true))
 
 pub returns-then-not-asked : goal.returns-then-not-asked
 returns-then-not-asked c =
     let a = c.args in
     let asked = c.request_line-asked in
-    rw c.refused-then-not-asked.ensures (request_refused _ _ _ _ c.read-reading.ensures.answer a.request.now a.out.now c.if-reading-ne0.false asked.result asked.ensures (c.if-not-asked.true))
+    let both = request_refused _ _ _ _ c.read-reading.ensures.answer a.request.now a.out.now c.if-reading-ne0.false asked.result asked.ensures (not-true asked.result.good c.if-not-asked.true) in
+    record { value = rw c.refused-then-not-asked.ensures both.0; out_after = both.1 }
 
 pub answer-requires : goal.answer-requires
 answer-requires c =
     let a = c.args in
     let asked = c.request_line-asked in
-    asking _ _ _ _ c.read-reading.ensures.answer a.request.now a.out.now c.if-reading-ne0.false asked.result asked.ensures (c.if-not-asked.false)
+    asking _ _ _ _ c.read-reading.ensures.answer a.request.now a.out.now c.if-reading-ne0.false asked.result asked.ensures (not-false asked.result.good c.if-not-asked.false)
 
 pub returns : goal.returns
 returns c =
     let a = c.args in
     let asked = c.request_line-asked in
     let (p, h, holds) = file_read _ _ _ _ c.read-reading.ensures.answer c.if-reading-ne0.false in
-    request_decided _ _ _ _ c.read-reading.ensures.answer a.request.now a.out.now c.if-reading-ne0.false asked.result asked.ensures (c.if-not-asked.false) (top_depth _ p h _ _ _ holds.elements) _ _ c.answer.ensures
+    let both = request_decided _ _ _ _ c.read-reading.ensures.answer a.request.now a.out.now c.if-reading-ne0.false asked.result asked.ensures (not-false asked.result.good c.if-not-asked.false) (top_depth _ p h _ _ _ holds.elements) _ _ c.answer.ensures in
+    record { value = both.0; out_after = both.1 }

@@ -1,7 +1,6 @@
 -- `jogimaduve_join` meets its contract: the first file's refusal, or what joining the second one to it gives.
 use mathlib.Core.Path.{◌∙◌}
 use native.Mathlib.Omega.{arith}
-use borrow.Author.Rules.{rules}
 use Rattle.meaning.specs.Joining.{join_file}
 use Rattle.layout.proofs.Slots.{zeros_clear}
 use Rattle.reader.proofs.FileRead.{small_numbers, file_read}

@@ -1,6 +1,5 @@
 -- `jogimaduve_step` meets its contract: the text's refusal, or what a step gives.
 use native.Mathlib.Omega.{arith}
-use borrow.Author.Rules.{rules}
 use Rattle.layout.proofs.Slots.{zeros_clear}
 use Rattle.reader.proofs.FileRead.{small_numbers, file_read}
 use Rattle.jogimaduve.proofs.Refusing.{step_refused}
@@ -15,7 +14,9 @@ pub refusal-answer-requires : goal.refusal-answer-requires
 refusal-answer-requires c = small_numbers _ _ _ _ c.read-reading.ensures.answer c.if-reading-ne0.true
 
 pub returns-then-reading-ne0 : goal.returns-then-reading-ne0
-returns-then-reading-ne0 c = step_refused _ _ _ _ c.read-reading.ensures.answer c.if-reading-ne0.true _ c.refusal-answer.ensures
+returns-then-reading-ne0 c =
+    let both = step_refused _ _ _ _ c.read-reading.ensures.answer c.if-reading-ne0.true _ c.refusal-answer.ensures in
+    record { value = both.0; text_after = both.1 }
 
 pub policy_shape-requires : goal.policy_shape-requires
 policy_shape-requires c =

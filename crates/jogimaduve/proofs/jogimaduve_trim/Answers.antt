@@ -9,7 +9,6 @@ use Rattle.reader.proofs.FileRead.{small_numbers, file_read}
 use Rattle.jogimaduve.proofs.Refusing.{refusal}
 use Rattle.jogimaduve.proofs.Shaping.{sizable, ready, steady_read, copies}
 use Rattle.jogimaduve.proofs.Trimming.{small_text, trim_fitted}
-use borrow.Author.Rules.{rules}
 use Rattle.jogimaduve.proofs.jogimaduve_trim.Goals as goal
 
 pub read-reading-requires : goal.read-reading-requires
@@ -55,5 +54,5 @@ text_answer-requires c =
 pub returns : goal.returns
 returns c =
     let (p, h, holds) = file_read _ _ _ _ c.read-reading.ensures.answer c.if-reading-ne0.false in
-    trim_fitted _ _ _ _ p h holds _ c.policy_shape-shape.ensures _ c.strike.ensures
-    (written c.put_text-needed.ensures.0 c.args.out.now _ c.lend-part.ensures.value c.put_text.ensures.0 c.text_answer.ensures)
+    let both = trim_fitted _ _ _ _ p h holds _ c.policy_shape-shape.ensures _ c.strike.ensures (written c.put_text-needed.ensures.0 c.args.out.now _ c.lend-part.ensures.value c.put_text.ensures.0 c.text_answer.ensures) in
+    record { value = both.0; out_after = both.1 }

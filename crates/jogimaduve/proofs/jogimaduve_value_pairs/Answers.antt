@@ -7,7 +7,6 @@ use Rattle.reader.proofs.FileRead.{small_numbers, file_read}
 use Rattle.jogimaduve.proofs.Refusing.{refusal}
 use Rattle.jogimaduve.proofs.Shaping.{sizable}
 use Rattle.jogimaduve.proofs.Pairing.{held}
-use borrow.Author.Rules.{rules}
 use Rattle.jogimaduve.proofs.jogimaduve_value_pairs.Goals as goal
 
 pub read-reading-requires : goal.read-reading-requires

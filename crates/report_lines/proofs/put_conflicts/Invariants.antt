@@ -1,8 +1,6 @@
 use Prim.Native.Nat.{◌-◌, ◌≤◌}
-use native.Mathlib.Omega.{arith}
-use Rattle.printing.proofs.Walks.{Sofar, begun, stored, ended_all}
-use Rattle.report_lines.specs.Lines.{pair_lines, conflict_text}
-use borrow.Author.Rules.{rules}
+use Rattle.printing.proofs.Walks.{Sofar}
+use Rattle.report_lines.specs.Lines.{pair_lines}
 use Rattle.report_lines.proofs.put_conflicts.Given as goal
 
 abbrev pub invariant-loop-i : goal.invariant-loop-i

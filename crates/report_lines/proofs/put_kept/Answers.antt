@@ -1,6 +1,5 @@
-use Prim.Native.Nat.{◌-◌, ◌≤◌}
 use native.Mathlib.Omega.{arith}
-use Rattle.printing.proofs.Walks.{Sofar, begun, stored, ended_all}
+use Rattle.printing.proofs.Walks.{begun, stored, ended_all}
 use Rattle.report_lines.specs.Lines.{kept_line, kept_text}
 use borrow.Author.Rules.{rules}
 use Rattle.report_lines.proofs.put_kept.Goals as goal

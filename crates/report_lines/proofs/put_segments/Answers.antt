@@ -1,6 +1,5 @@
-use Prim.Native.Nat.{◌-◌, ◌≤◌}
 use native.Mathlib.Omega.{arith}
-use Rattle.printing.proofs.Walks.{Sofar, begun, stored, passed_over, ended_all}
+use Rattle.printing.proofs.Walks.{begun, stored, passed_over, ended_all}
 use Rattle.report_lines.specs.Lines.{segment_line, segment_text}
 use Rattle.report_lines.proofs.LineTexts.{no_segment, is_segment}
 use borrow.Author.Rules.{rules}

@@ -1,7 +1,6 @@
-use Prim.Native.Nat.{◌-◌, ◌≤◌}
 use native.Mathlib.Omega.{arith}
 use lib.ListN.{get_or}
-use Rattle.printing.proofs.Walks.{Sofar, begun, stored, ended_all}
+use Rattle.printing.proofs.Walks.{begun, stored, ended_all}
 use Rattle.report_lines.specs.Lines.{struck_line, struck_text}
 use borrow.Author.Rules.{rules}
 use Rattle.report_lines.proofs.put_struck.Goals as goal

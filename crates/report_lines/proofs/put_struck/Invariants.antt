@@ -1,9 +1,7 @@
 use Prim.Native.Nat.{◌-◌, ◌≤◌}
-use native.Mathlib.Omega.{arith}
 use lib.ListN.{get_or}
-use Rattle.printing.proofs.Walks.{Sofar, begun, stored, ended_all}
-use Rattle.report_lines.specs.Lines.{struck_line, struck_text}
-use borrow.Author.Rules.{rules}
+use Rattle.printing.proofs.Walks.{Sofar}
+use Rattle.report_lines.specs.Lines.{struck_line}
 use Rattle.report_lines.proofs.put_struck.Given as goal
 
 abbrev pub invariant-loop-k : goal.invariant-loop-k

@@ -1,10 +1,9 @@
 -- `find_conflicts`: what the functions that it calls lay down. Assumes nothing.
 use Rattle.reporting.proofs.Finding.{conflicts_found}
-use borrow.Author.Rules.{rules}
 use Rattle.reporting.proofs.find_conflicts.Goals as goal
 
 pub returns : goal.returns
 returns c =
     let pre = c.requires in
     let given = c.give_all.ensures in
-    conflicts_found _ _ c.apply_all.new.1.1.1.0 c.give_all.new.1.1.1.1.0 c.give_all.new.1.1.1.1.1.0 _ _ _ c.apply_all.ensures.0 given.0 given.1 c.parent_all.ensures c.pair_all.ensures.0
+    conflicts_found _ _ c.apply_all.new.applied c.give_all.new.permits c.give_all.new.denies _ _ _ c.apply_all.ensures.0 given.0 given.1 c.parent_all.ensures c.pair_all.ensures.0

@@ -1,5 +1,4 @@
 use Rattle.reporting.proofs.Finding.{rules_found}
-use borrow.Author.Rules.{rules}
 use Rattle.reporting.proofs.find_rules.Goals as goal
 
 pub returns : goal.returns

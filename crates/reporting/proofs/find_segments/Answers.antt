@@ -1,7 +1,6 @@
 -- `find_segments`: what the functions that it calls lay down. Assumes nothing.
 use native.Mathlib.Omega.{arith}
 use Rattle.reporting.proofs.Finding.{segments_found}
-use borrow.Author.Rules.{rules}
 use Rattle.reporting.proofs.find_segments.Goals as goal
 
 pub number_all-requires : goal.number_all-requires
@@ -11,4 +10,4 @@ pub returns : goal.returns
 returns c =
     let pre = c.requires in
     let applied = c.apply_all in
-    segments_found _ _ _ _ _ applied.new.1.1.1.0 _ _ applied.ensures.0 c.words_all.ensures c.size_all.ensures _ _ pre.3 c.number_all.ensures
+    segments_found _ _ _ _ _ applied.new.applied _ _ applied.ensures.0 c.words_all.ensures c.size_all.ensures _ _ pre.3 c.number_all.ensures

@@ -6,7 +6,6 @@ use Rattle.printing.proofs.Laws.{then, then_counted}
 use Rattle.printing.proofs.Fitting.{written}
 use Rattle.reporting.proofs.Finding.{laid, struck_named}
 use Rattle.reporting.proofs.ReportText.{reported}
-use borrow.Author.Rules.{rules}
 use Rattle.reporting.proofs.write_lines.Goals as goal
 
 pub find_conflicts-requires : goal.find_conflicts-requires
@@ -68,4 +67,5 @@ returns c =
     let (x, _) = c.put_struck-kept.ensures in
     let count = then g (then d (then x c.put_kept-needed.ensures.0)) in
     let lines = then_counted g c.put_segments.ensures.0 (then_counted d c.put_conflicts.ensures.0 (then_counted x c.put_struck.ensures.0 c.put_kept.ensures.0)) in
-    reported _ _ _ _ c.requires.0 _ _ _ _ _ _ _ _ c.find_segments.ensures c.find_conflicts.ensures c.find_rules-count.ensures (written count c.args.out.now _ c.lend.ensures.value lines c.text_answer.ensures)
+    let both = reported _ _ _ _ c.requires.0 _ _ _ _ _ _ _ _ c.find_segments.ensures c.find_conflicts.ensures c.find_rules-count.ensures (written count c.args.out.now _ c.lend.ensures.value lines c.text_answer.ensures) in
+    record { value = both.0; out_after = both.1 }

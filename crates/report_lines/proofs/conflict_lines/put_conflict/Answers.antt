@@ -1,5 +1,4 @@
 use Rattle.report_lines.proofs.LineTexts.{conflict}
-use borrow.Author.Rules.{rules}
 use Rattle.report_lines.proofs.conflict_lines.put_conflict.Goals as goal
 
 pub returns : goal.returns

@@ -1,8 +1,8 @@
 use mathlib.Core.Path.{refl}
-use Prim.Native.Nat.{◌+◌, ◌-◌, ◌≤◌}
+use Prim.Native.Nat.{◌+◌}
 use native.Mathlib.Omega.{arith}
 use lib.ListN.{get_or}
-use Rattle.printing.proofs.Walks.{Sofar, begun, stored, passed_over, ended}
+use Rattle.printing.proofs.Walks.{begun, stored, passed_over, ended}
 use Rattle.report_lines.specs.Lines.{later_line}
 use Rattle.report_lines.proofs.PairTexts.{not_child, no_conflict, is_conflict, all_pairs}
 use borrow.Author.Rules.{rules}

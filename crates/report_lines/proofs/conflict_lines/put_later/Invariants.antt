@@ -1,11 +1,6 @@
-use mathlib.Core.Path.{refl}
 use Prim.Native.Nat.{◌+◌, ◌-◌, ◌≤◌}
-use native.Mathlib.Omega.{arith}
-use lib.ListN.{get_or}
-use Rattle.printing.proofs.Walks.{Sofar, begun, stored, passed_over, ended}
+use Rattle.printing.proofs.Walks.{Sofar}
 use Rattle.report_lines.specs.Lines.{later_line}
-use Rattle.report_lines.proofs.PairTexts.{not_child, no_conflict, is_conflict, all_pairs}
-use borrow.Author.Rules.{rules}
 use Rattle.report_lines.proofs.conflict_lines.put_later.Given as goal
 
 abbrev pub invariant-loop-k : goal.invariant-loop-k

@@ -1,6 +1,5 @@
-use Prim.Native.Nat.{◌-◌, ◌≤◌}
 use native.Mathlib.Omega.{arith}
-use Rattle.printing.proofs.Walks.{Sofar, begun, stored, passed_over, ended_all}
+use Rattle.printing.proofs.Walks.{begun, stored, passed_over, ended_all}
 use Rattle.report_lines.specs.Lines.{later_lines, pair_lines}
 use Rattle.report_lines.proofs.PairTexts.{no_pairs, of_child}
 use borrow.Author.Rules.{rules}

@@ -1,13 +1,12 @@
 use mathlib.Core.Path.{◌≡◌, sym, ◌∙◌, subst}
-use Prim.Native.Nat.{◌-◌, ◌≤◌}
+use Prim.Native.Nat.{◌-◌}
 use native.Mathlib.Omega.{arith}
 use borrow.Author.Rules.{rules}
-use borrow.Author.Tests.{not-true, not-false}
 use Rattle.meaning.specs.Text.{gathered, counting}
 use Rattle.printing.specs.Wrote.{Wrote}
 use Rattle.printing.proofs.Laws.{then}
 use Rattle.report_lines.specs.Lines.{comma_name, later_names}
-use Rattle.printing.proofs.Walks.{Sofar, begun, stored, passed_over}
+use Rattle.printing.proofs.Walks.{begun, stored, passed_over}
 use Rattle.report_lines.proofs.fields.put_later_names.Goals as goal
 
 pub loop-i-init : goal.loop-i-init

@@ -1,5 +1,4 @@
 use native.Mathlib.Omega.{arith}
-use borrow.Author.Rules.{rules}
 use Rattle.printing.proofs.Laws.{then}
 use Rattle.report_lines.proofs.fields.put_named.Goals as goal
 

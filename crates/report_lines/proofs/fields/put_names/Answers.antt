@@ -1,11 +1,8 @@
-use mathlib.Core.Path.{◌≡◌, refl, sym, ◌∙◌}
-use Prim.Native.Nat.{◌-◌, ◌≤◌}
+use mathlib.Core.Path.{refl, sym, ◌∙◌}
 use native.Mathlib.Omega.{arith}
-use lib.ListN.{length}
 use borrow.Author.Rules.{rules}
 use Rattle.printing.proofs.Laws.{then}
-use Rattle.report_lines.specs.Lines.{names_of}
-use Rattle.report_lines.proofs.Names.{names_from, from_start, unset, first_name, no_name}
+use Rattle.report_lines.proofs.Names.{from_start, unset, first_name, no_name}
 use Rattle.report_lines.proofs.fields.put_names.Goals as goal
 
 pub loop-i-init : goal.loop-i-init

@@ -1,6 +1,5 @@
 use mathlib.Core.Path.{refl}
 use Rattle.report_lines.proofs.LineTexts.{not_kept, kept}
-use borrow.Author.Rules.{rules}
 use Rattle.report_lines.proofs.rule_lines.put_kept_rule.Goals as goal
 
 pub returns-then-space-m : goal.returns-then-space-m

@@ -1,5 +1,4 @@
 use Rattle.report_lines.proofs.LineTexts.{struck_line_lem}
-use borrow.Author.Rules.{rules}
 use Rattle.report_lines.proofs.rule_lines.put_struck_rule.Goals as goal
 
 pub returns : goal.returns

@@ -1,5 +1,4 @@
 use Rattle.report_lines.proofs.LineTexts.{segment}
-use borrow.Author.Rules.{rules}
 use Rattle.report_lines.proofs.segment_lines.put_segment.Goals as goal
 
 pub returns : goal.returns
