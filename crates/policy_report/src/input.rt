@@ -1,42 +1,54 @@
-// Reading to the end of the input, or until the buffer is full, with a sign where a read fails.
-ghost use Rattle.std.specs.Prelude.{◌≤◌, length};
+// Reading to the end of the input, or until the buffer is full, with the failure where a read fails.
+ghost use Rattle.std.specs.Prelude.{◌≡◌, ◌≤◌, ◌<◌, length, take, IsNone};
+ghost use Rattle.std.specs.Io.KnownBytes.{Consumes, IsAtEnd};
 
-// How many bytes were read, and whether a read failed behind them.
+use std::io;
+use std::io::Read;
+
+// How many bytes were read, and the failure behind them, if a read failed.
 #[derive(Clone, Copy)]
 pub(crate) struct Input {
     pub length: usize,
-    pub failed: bool,
+    pub failure: Option<io::Error>,
 }
 
 // One read: no byte at the end of the input.
-fn read_some(fd: i32, part: &mut [u8]) -> Input
-    ensures { result.length ≤ length part.old }
+fn read_some<R: Read>(reader: &mut R, part: &mut [u8]) -> Input
+    ensures within { result.length ≤ length part.old }
+    ensures bytes { Consumes (R.remaining reader.old) (R.remaining reader.new) (take result.length part.new) }
+    ensures end { result.length ≡ 0 → IsNone result.failure → 0 < length part.old → IsAtEnd (R.remaining reader.new) }
 {
-    let got = libc::read(fd, part);
-    let length = io::count(got, part);
-    Input {
-        length,
-        failed: got < 0,
+    match reader.read(part) {
+        Ok(length) => Input {
+            length,
+            failure: None,
+        },
+        Err(failure) => Input {
+            length: 0,
+            failure: Some(failure),
+        },
     }
 }
 
 // Reads until nothing more comes.
-pub(crate) fn read_all(fd: i32, file: &mut [u8]) -> Input
-    ensures { result.length ≤ length file.old }
+pub(crate) fn read_all<R: Read>(reader: &mut R, file: &mut [u8]) -> Input
+    ensures within { result.length ≤ length file.old }
+    ensures bytes { Consumes (R.remaining reader.old) (R.remaining reader.new) (take result.length file.new) }
+    ensures end { IsNone result.failure → result.length < length file.old → IsAtEnd (R.remaining reader.new) }
 {
     let mut done = 0;
-    let mut failed = false;
+    let mut failure = None;
     while done < file.len() {
-        let read = read_some(fd, &mut file[done..]);
+        let read = read_some(reader, &mut file[done..]);
         let more = read.length;
         if more == 0 {
-            failed = read.failed;
+            failure = read.failure;
             break;
         }
         done += more;
     }
     Input {
         length: done,
-        failed,
+        failure,
     }
 }

@@ -3,17 +3,18 @@
 
 mod input;
 
-fn main() {
+use failures::fail;
+
+fn main(rt: HostRuntime) {
     let mut file = [0u8; 16385];
-    let input = input::read_all(libc::STDIN_FILENO, &mut file);
-    let length = input.length;
-    if input.failed {
-        os::fail(b"policy_report: standard input");
+    let input = input::read_all(&mut rt.stdin(), &mut file);
+    if let Some(failure) = input.failure {
+        fail(&rt, "policy_report: standard input", &failure);
         return;
     }
     let mut out = [0u8; 65536];
-    let printed = program::print(&file[0..length], &mut out);
-    if !io::write_all(libc::STDOUT_FILENO, &out[0..printed]) {
-        os::fail(b"policy_report: standard output");
+    let printed = program::print(&file[0..input.length], &mut out);
+    if let Err(failure) = rt.write_all(&out[0..printed]) {
+        fail(&rt, "policy_report: standard output", &failure);
     }
 }

@@ -3,8 +3,10 @@ ghost use Rattle.std.specs.Prelude.{◌≤◌, ◌<◌, length};
 
 use crate::lending;
 use crate::lending::Lent;
-use libc::STDOUT_FILENO;
+use crate::reading::read_full;
 use meaning::{Element, Kind, Obligation, Word};
+use std::io;
+use std::io::Read;
 
 // A byte as a usize.
 fn wide(b: u8) -> usize
@@ -76,9 +78,9 @@ fn obligation_of(bytes: [u8; 69], at: usize) -> Obligation
 }
 
 // The next element of a file: kind, depth, name, the name's length, word, masks, the count of obligations, and two places.
-fn read_element(fd: i32) -> Element {
+fn read_element<R: Read>(source: &mut R) -> Element {
     let mut bytes = [0u8; 69];
-    io::read_full(fd, &mut bytes);
+    read_full(source, &mut bytes);
     let kind = kind_of(bytes[0]);
     let name = name_of(bytes, 2);
     let word = word_of(bytes[19]);
@@ -99,14 +101,14 @@ fn read_element(fd: i32) -> Element {
 }
 
 // The next n elements, behind them blank ones.
-fn read_elements(fd: i32, n: usize) -> [Element; 66] {
+fn read_elements<R: Read>(source: &mut R, n: usize) -> [Element; 66] {
     let mut list = lending::blanks();
     let mut i = 0;
     while i < 66 {
         if n <= i {
             return list;
         }
-        list[i] = read_element(fd);
+        list[i] = read_element(source);
         i += 1;
     }
     list
@@ -142,51 +144,50 @@ fn mixed(total: u64, b: u8) -> u64
 }
 
 // Writes a list, and prints the answer and the sum of the buffer.
-fn print_written(header: &[u8], list: Lent, out: &mut [u8])
+fn print_written<P: Print>(rt: &P, header: &[u8], list: Lent, out: &mut [u8]) -> io::Result<()>
     requires { list.len ≤ 66 }
 {
     let answer = lending::written(header, list, out);
-    io::print_decimal(STDOUT_FILENO, answer.number as u64);
-    io::write_all(STDOUT_FILENO, b"\t");
-    io::print_decimal(STDOUT_FILENO, answer.second as u64);
-    io::write_all(STDOUT_FILENO, b"\t");
-    io::print_decimal(STDOUT_FILENO, sum(out));
-    io::write_all(STDOUT_FILENO, b"\n");
+    let number = answer.number;
+    let second = answer.second;
+    let total = sum(out);
+    println!(rt; "{number}\t{second}\t{total}")
 }
 
 // Reads the next n bytes of a file.
-fn read_bytes(fd: i32, n: usize, bytes: &mut [u8])
+fn read_bytes<R: Read>(source: &mut R, n: usize, bytes: &mut [u8])
     requires { n ≤ length bytes.old }
 {
-    io::read_full(fd, &mut bytes[0..n]);
+    read_full(source, &mut bytes[0..n]);
 }
 
 // The next list of a file.
-fn print_list(fd: i32) {
+fn print_list<P: Print, R: Read>(rt: &P, source: &mut R) -> io::Result<()> {
     let mut sizes = [0u8; 6];
-    io::read_full(fd, &mut sizes);
+    read_full(source, &mut sizes);
     let lines = pair(sizes[0], sizes[1]);
     let room = pair(sizes[2], sizes[3]);
     let n = pair(sizes[4], sizes[5]);
     if 66 < n {
-        return;
+        return Ok(());
     }
     let mut header = [0u8; 65536];
-    read_bytes(fd, lines, &mut header);
-    let all = read_elements(fd, n);
+    read_bytes(source, lines, &mut header);
+    let all = read_elements(source, n);
     let list = Lent { all, len: n };
     let mut out = pattern();
-    print_written(&header[0..lines], list, &mut out[0..room]);
+    print_written(rt, &header[0..lines], list, &mut out[0..room])
 }
 
 // Every list of a file.
-pub(crate) fn print_lists(fd: i32) {
+pub(crate) fn print_lists<P: Print, R: Read>(rt: &P, source: &mut R) -> io::Result<()> {
     let mut sizes = [0u8; 2];
-    io::read_full(fd, &mut sizes);
+    read_full(source, &mut sizes);
     let lists = pair(sizes[0], sizes[1]);
     let mut i = 0;
     while i < lists {
-        print_list(fd);
+        print_list(rt, source)?;
         i += 1;
     }
+    Ok(())
 }

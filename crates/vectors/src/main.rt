@@ -3,12 +3,21 @@
 
 mod encoded;
 mod lending;
+mod reading;
 mod stepping;
 
 ghost use Rattle.std.specs.Prelude.{◌≤◌, length};
 
+use failures::fail;
 use lending::Lent;
-use libc::STDOUT_FILENO;
+use reading::read_full;
+use std::env::FillError;
+use std::io::Read;
+use std::rt::{Env, Files};
+use std::{fs, io, str};
+
+// The system's number for a name that is too long.
+const NAME_TOO_LONG: i32 = 36;
 
 // Whether a line that starts with this byte is an attribute line.
 fn is_attribute(first: u8) -> bool {
@@ -62,48 +71,67 @@ fn written_again(file: &[u8]) -> bool {
 }
 
 // What is to be printed of a policy file.
-fn print_report(fd: i32) {
+fn print_report<P: Print, R: Read>(rt: &P, source: &mut R) -> io::Result<()> {
     let mut file = [0u8; 16385];
-    let n = io::read_full(fd, &mut file);
+    let n = read_full(source, &mut file);
     let mut out = [0u8; 65536];
     let printed = program::print(&file[..n], &mut out);
-    io::write_all(STDOUT_FILENO, &out[0..printed]);
+    rt.write_all(&out[0..printed])?;
     if !written_again(&file[..n]) {
-        io::write_all(STDOUT_FILENO, b"written otherwise\n");
+        rt.write_all(b"written otherwise\n")?;
     }
     if !stepping::stepped(&file[..n], &out[0..printed]) {
-        io::write_all(STDOUT_FILENO, b"stepped otherwise\n");
+        rt.write_all(b"stepped otherwise\n")?;
     }
+    Ok(())
 }
 
 // A file's name, and what is to be printed of it.
-fn print_file(index: usize) {
-    let mut path = io::buffer();
-    let length = os::arg(index, &mut path);
-    if os::errno() != 0 {
-        os::fail(b"argument");
-        return;
-    }
-    let fd = os::open_read(&path[..length]);
-    if fd < 0 {
-        os::fail(&path[..length]);
-        return;
-    }
-    io::write_all(STDOUT_FILENO, &path[..length]);
-    io::write_all(STDOUT_FILENO, b"\n");
-    if comparing::same(&path[..length], b"lists") {
-        encoded::print_lists(fd);
+fn print_file<R: Files + Print + Eprint>(rt: &R, name: &str) -> io::Result<()> {
+    let mut file = match fs::open(rt, name) {
+        Ok(file) => file,
+        Err(failure) => {
+            fail(rt, name, &failure);
+            return Ok(());
+        }
+    };
+    println!(rt; "{name}")?;
+    if comparing::same(name.as_bytes(), b"lists") {
+        encoded::print_lists(rt, &mut file)
     } else {
-        print_report(fd);
+        print_report(rt, &mut file)
     }
-    libc::close(fd);
 }
 
-fn main() {
-    let count = os::arg_count();
-    let mut i: usize = 1;
-    while i < count {
-        print_file(i);
-        i += 1;
+// The same of an argument, where it is a name that a file can have.
+fn print_argument<R: Files + Print + Eprint>(rt: &R, argument: &[u8]) -> io::Result<()> {
+    match str::from_utf8(argument) {
+        Ok(name) => print_file(rt, name),
+        Err(_) => {
+            fail(
+                rt,
+                "argument",
+                &io::Error::from(io::ErrorKind::InvalidFilename),
+            );
+            Ok(())
+        }
     }
+}
+
+fn main(rt: HostRuntime) -> io::Result<()> {
+    for i in 1..usize::MAX {
+        let mut argument = [0u8; 4096];
+        match rt.arg(i, &mut argument) {
+            Ok(n) => print_argument(&rt, &argument[..n])?,
+            Err(FillError::TooLong) => {
+                fail(
+                    &rt,
+                    "argument",
+                    &io::Error::from_raw_os_error(NAME_TOO_LONG),
+                );
+            }
+            Err(FillError::NotPresent) => break,
+        }
+    }
+    Ok(())
 }

@@ -1,2 +1,0 @@
--- Laws that the walks by hand share.
-mod Arrays
