@@ -19,13 +19,17 @@ MOVE = r"(?:\w+: (?:mov|movzx|movups|movaps|movdqu|movdqa|lea|nop|endbr64)\b.*\n
 DIVIDE = r"(?:\w+: (?:add eax,.*|xor edx,edx|div (?:DWORD .*|e\w\w|r\d+d))\n)"
 COUNT = r"(?:\w+: (?:dec r\w+|sub r\w+,0x1)\n)"
 PACK = r"(?:\w+: (?:shl r\w+,0x\w+|movabs r\w+,0x\w+|(?:or|and) r\w+,r\w+)\n)"
-DIVISOR = r"(?P<load>\w+: mov (?P<divisor>e\w\w|r\d+d),DWORD PTR \[rsp\+r\w+\*8[+-]0x\w+\]\n)\w+: test (?P=divisor),(?P=divisor)\n\w+: je (?P<trap>\w+) .*\n"
+DIVISOR = (
+    r"(?P<load>\w+: mov (?P<divisor>e\w\w|r\d+d),DWORD PTR \[rsp\+r\w+\*8[+-]0x\w+\]\n)"
+    r"\w+: test (?P=divisor),(?P=divisor)\n\w+: je (?P<trap>\w+) .*\n"
+)
 FORM = re.compile(
     rf"(?:\w+: sub rsp,(?P<frame>0x\w+)\n)?(?P<start>{MOVE}*)"
     rf"\w+: test (?P<length>r\w+),(?P=length)\n{MOVE}*\w+: je (?P<end>\w+) .*\n{MOVE}*"
     rf"(?=(?P<again>\w+): )(?P<loop>(?:{DIVISOR})?(?:{MOVE}|{DIVIDE}|{COUNT})*"
     rf"(?:{COUNT}|\w+: test (?P<tested>r\w+),(?P=tested)\n)){MOVE}*\w+: jne (?P=again) .*\n"
-    rf"(?=(?P=end): )(?:{MOVE}|{PACK})*(?(frame)\w+: add rsp,(?P=frame)\n)\w+: ret\n(?(trap)(?=(?P=trap): )\w+: ud2\n)(?:\w+: (?:nop\b.*|xchg ax,ax)\n)*"
+    rf"(?=(?P=end): )(?:{MOVE}|{PACK})*(?(frame)\w+: add rsp,(?P=frame)\n)\w+: ret\n"
+    rf"(?(trap)(?=(?P=trap): )\w+: ud2\n)(?:\w+: (?:nop\b.*|xchg ax,ax)\n)*"
 )
 STORES = r"\w+: (?!nop |div )\w+ \w+ PTR "
 STORE = re.compile(r"\w+: mov\w* (\w+) PTR \[(\w+)(?:\+(\w+)\*8)?([+-]0x\w+)?\],.*")

@@ -1,4 +1,4 @@
-// Lends a list by value to the operations on a lent list, so that whoever calls needs no walk by hand.
+// Lends a list by value to the operations on a lent list.
 ghost use Rattle.std.specs.Prelude.{◌≡◌, ◌≤◌, take, replicate};
 ghost use Rattle.meaning.specs.Operations.{read_lent, write_answer, write_lent};
 ghost use Rattle.elements.specs.Listed.{blank};
