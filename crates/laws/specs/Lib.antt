@@ -1,0 +1,2 @@
+-- What contracts cite of the definitions, in the code's types.
+pub mod Found
