@@ -73,15 +73,11 @@ pub fn put_given(
     requires { Giving file.now places.now given.now n v × (at + 2176 < 2 ^ 64) }
     ensures { Wrote out.old at (given_text (effect permit) (marks_in given.now v) file.now places.now n) out.new result × (result ≤ at + 2176) }
 {
-    let mut i = 0;
     let mut end = at;
-    while i < n {
-        if (given[i] >> v) % 2 != 1 {
-            i += 1;
-            continue;
+    for i in 0..n {
+        if (given[i] >> v) % 2 == 1 {
+            end = put_own(file, places, i, permit, out, end);
         }
-        end = put_own(file, places, i, permit, out, end);
-        i += 1;
     }
     end
 }
@@ -114,9 +110,7 @@ pub fn any_obligations(places: &[usize], n: usize) -> bool
     requires { 128 + 4 * n ≤ length places.now }
     ensures { result ≡ any_obliged places.now n }
 {
-    let mut i = n;
-    while 0 < i {
-        i -= 1;
+    for i in (0..n).rev() {
         if places[129 + 4 * i] != 0 {
             return true;
         }

@@ -18,14 +18,11 @@ fn decide_all(table: &[u16], struck: &[u8], hits: &[u64], shape: Shape, outcomes
     requires { PolicyTable table.now struck.now shape × HitsLaid table.now hits.now shape × (128 ≤ length outcomes.old) }
     ensures { OutcomesLaid table.now struck.now outcomes.new shape × Rest 2 shape.space outcomes.old outcomes.new }
 {
-    let space = shape.space;
-    let mut block = 0;
-    while 64 * block < space {
+    for block in 0..(shape.space + 63) / 64 {
         let reply = blocks::reply(table, struck, hits, shape.n, block, 0);
         let given = reply.given;
         outcomes[block] = given.permits;
         outcomes[64 + block] = given.denies;
-        block += 1;
     }
 }
 
@@ -49,14 +46,12 @@ pub fn number_all(outcomes: &[u64], space: usize, decided: &mut [u8])
     requires { (128 ≤ length outcomes.now) × (space ≤ 4096) × (space ≤ length decided.old) }
     ensures { decided.new ≡ map (λ m. decision_number (outcome_at outcomes.now m)) (counting 0 space) ++ drop space decided.old }
 {
-    let mut m = 0;
-    while m < space {
+    for m in 0..space {
         let given = Effects {
             permits: outcomes[m / 64],
             denies: outcomes[64 + m / 64],
         };
         decided[m] = blocks::outcome_number(given, m % 64) as u8;
-        m += 1;
     }
 }
 
@@ -77,15 +72,13 @@ fn first_other(given: Effects, before: Effects, from: usize, space: usize) -> us
     requires { from < space × (space ≤ 4096) }
     ensures { Other given before from space result }
 {
-    let mut v = 0;
-    while v < 64 {
+    for v in 0..64 {
         if space <= from + v {
             return space;
         }
         if blocks::outcome_number(given, v) != blocks::outcome_number(before, v) {
             return from + v;
         }
-        v += 1;
     }
     space
 }

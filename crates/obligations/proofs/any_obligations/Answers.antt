@@ -1,8 +1,7 @@
 -- `any_obligations`: no element from i on has one.
-use mathlib.Core.Path.{◌≡◌, refl, sym, ap, ◌∙◌}
+use mathlib.Core.Path.{◌≡◌, sym, ap, ◌∙◌}
 use Prim.Native.Nat.{suc, ◌-◌}
 use native.Mathlib.Omega.{arith}
-use borrow.Author.Rules.{rules}
 use Rattle.obligations.specs.Given.{any_obliged}
 use Rattle.obligations.proofs.Texts.{any_here, any_before}
 use Rattle.obligations.proofs.any_obligations.Goals as goal
@@ -12,20 +11,17 @@ returns-then-places-i-ne0 c =
     let places = c.args.places.now in
     let l = c.loop-i in
     let last : l.i ≡ suc (l.i - 1) = omega arith in
-    sym (l.invariant.1 ∙ ap (any_obliged places) last ∙ any_here places (l.i - 1) c.if-places-i-ne0.true)
+    sym (l.invariant ∙ ap (any_obliged places) last ∙ any_here places (l.i - 1) c.if-places-i-ne0.true)
 
 pub loop-i-preserved : goal.loop-i-preserved
 loop-i-preserved c =
     let places = c.args.places.now in
     let l = c.loop-i in
     let last : l.i ≡ suc (l.i - 1) = omega arith in
-    (omega arith, l.invariant.1 ∙ ap (any_obliged places) last ∙ any_before places (l.i - 1) c.if-places-i-ne0.false)
+    l.invariant ∙ ap (any_obliged places) last ∙ any_before places (l.i - 1) c.if-places-i-ne0.false
 
 pub returns : goal.returns
 unfolding any_obliged
 returns c =
     let none : c.loop-i.i ≡ 0 = omega arith in
-    sym (c.loop-i.invariant.1 ∙ ap (any_obliged c.args.places.now) none)
-
-pub loop-i-init : goal.loop-i-init
-loop-i-init c = (search rules, refl)
+    sym (c.loop-i.invariant ∙ ap (any_obliged c.args.places.now) none)

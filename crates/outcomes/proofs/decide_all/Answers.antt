@@ -1,5 +1,4 @@
 -- `decide_all`: up to the block looked at, the words tell what each request gets. Assumes nothing.
-use mathlib.Core.Path.{refl}
 use native.Mathlib.Omega.{arith}
 use lib.ListN.{length-set}
 use Rattle.outcomes.proofs.Blocks.{block_room, given_outcome}
@@ -7,10 +6,10 @@ use Rattle.outcomes.proofs.LayingOutcomes.{outcomes_none, outcomes_next, outcome
 use Rattle.outcomes.proofs.decide_all.Goals as goal
 
 pub loop-block-init : goal.loop-block-init
-loop-block-init c = (omega arith, refl, outcomes_none _ _)
+loop-block-init c = outcomes_none _ _
 
-pub overflow_mul-block : goal.overflow_mul-block
-overflow_mul-block c = omega (arith, c.requires.0.small)
+pub overflow_add-block-end : goal.overflow_add-block-end
+overflow_add-block-end c = omega (arith, c.requires.0.small)
 
 pub reply-reply-requires : goal.reply-reply-requires
 reply-reply-requires c =
@@ -27,11 +26,9 @@ loop-block-preserved c =
     let struck = c.args.struck.now in
     let shape = c.args.shape in
     let ready = c.requires.0 in
-    let given = given_outcome t struck c.args.hits.now shape ready c.requires.1 turn.block c.reply-reply.result c.reply-reply.ensures (omega arith) in (
-      omega arith,
-      rw (length-set, length-set) turn.invariant.1,
-      outcomes_next _ given (omega (arith, ready.small)) (omega arith) turn.invariant.2,
-    )
+    let given = given_outcome t struck c.args.hits.now shape ready c.requires.1 turn.block c.reply-reply.result c.reply-reply.ensures (omega arith) in
+    let size = turn.invariant.size in
+    outcomes_next _ given (omega (arith, ready.small)) (omega arith) turn.invariant
 
 pub returns : goal.returns
 returns c =
@@ -39,4 +36,4 @@ returns c =
     let t = c.args.table.now in
     let struck = c.args.struck.now in
     let shape = c.args.shape in
-    (outcomes_laid t struck shape _ turn.outcomes turn.block turn.invariant.2 (omega arith) (omega arith) (omega arith), outcomes_rest t struck shape _ turn.outcomes turn.block turn.invariant.2 (omega arith) (omega arith))
+    (outcomes_laid t struck shape _ turn.outcomes turn.block turn.invariant (omega arith) (omega arith) (omega arith), outcomes_rest t struck shape _ turn.outcomes turn.block turn.invariant (omega arith) (omega arith))
