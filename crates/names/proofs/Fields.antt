@@ -3,6 +3,7 @@ use mathlib.Core.Path.{◌≡◌, sym, ◌∙◌}
 use mathlib.Core.Bool.{Bool, true, false}
 use mathlib.Core.List.{List, [], ◌∷◌}
 use mathlib.Core.Option.{none, some}
+use Rattle.std.specs.Prelude.{Option, Some}
 use Prim.Native.Nat.{ℕ, suc, ◌+◌, ◌-◌, ◌≤◌, ◌<◌}
 use native.Mathlib.Numerals.{add-one}
 use native.Mathlib.Omega.{arith}
@@ -10,9 +11,7 @@ use lib.ListN.{length, get_or, take, drop}
 use Rattle.meaning.specs.Text.{Bytes, all, same_name, cut, tab}
 use Rattle.meaning.specs.Deciding.{value_of}
 use Rattle.laws.proofs.Bools.{Test, passed, failed, test, never}
-use Rattle.names.specs.declared.Found.{Found}
-use Rattle.names.specs.declared.Found.TheVariants.{At}
-use Rattle.names.specs.Places.{found_of}
+use Rattle.laws.specs.Found.{found}
 use Rattle.text.proofs.Pieces.{piece_last, piece_more, piece_at_lem}
 
 -- e is where the field that starts at `at` ends
@@ -40,16 +39,13 @@ module _ (s : Bytes) (at e : ℕ) (p : e ≡ at + length (get_or (cut tab (drop 
     place_more l f = rw (piece_more tab s at e p l, f, add-one n)
 
 -- A place is below the number of names
-at_at : {m n : ℕ} → At m ≡ At n → m ≡ n
-at_at h = cc
-
-pub found_within : (name : Bytes) (fs : List Bytes) (r : Found) → r ≡ found_of (value_of 0 name fs) → (v : ℕ) → r ≡ At v → v < length fs
+pub found_within : (name : Bytes) (fs : List Bytes) (r : Option ℕ) → r ≡ found (value_of 0 name fs) → (v : ℕ) → r ≡ Some v → v < length fs
 found_within name fs r e v h = let d = below 0 fs (sym e ∙ h) in omega arith
   where
-    below : (n : ℕ) (fs : List Bytes) → found_of (value_of n name fs) ≡ At v → v < n + length fs
+    below : (n : ℕ) (fs : List Bytes) → found (value_of n name fs) ≡ Some v → v < n + length fs
     below n [] i = never (cc)
     below n (f ∷ fs) i = go (test (same_name name f)) (below (suc n) fs)
       where
-        go : Test (same_name name f) → (found_of (value_of (suc n) name fs) ≡ At v → v < suc n + length fs) → v < n + length (f ∷ fs)
-        go (passed t) later = let d : n ≡ v = at_at (rw t at i) in omega arith
+        go : Test (same_name name f) → (found (value_of (suc n) name fs) ≡ Some v → v < suc n + length fs) → v < n + length (f ∷ fs)
+        go (passed t) later = let at : Some n ≡ Some v = rw t at i in let d : n ≡ v = cc in omega arith
         go (failed t) later = let d = later (rw t at i) in omega arith

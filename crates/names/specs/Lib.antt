@@ -1,4 +1,3 @@
 -- What the contracts of names cite.
-pub mod Places
 pub mod Letters
 pub mod Ends

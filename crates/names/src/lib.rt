@@ -4,7 +4,7 @@
 ghost use Rattle.std.specs.Prelude.{◌≡◌, ℕ, ◌≤◌, ◌<◌, eqb, length};
 ghost use Rattle.meaning.specs.Text.{all, folded, same_name, cut, tab, name_byte, is_name};
 ghost use Rattle.meaning.specs.Deciding.{value_of};
-ghost use Rattle.names.specs.Places.{found_of};
+ghost use Rattle.laws.specs.Found.{found};
 ghost use Rattle.names.specs.Ends.{ends_otherwise};
 
 // A capital as its small letter, any other byte as it is.
@@ -131,26 +131,20 @@ pub fn all_names(fields: &[u8]) -> bool
     }
 }
 
-#[derive(Clone, Copy)]
-pub enum Found {
-    At(usize),
-    Nothing,
-}
-
 // The place, from 0, of the first field that has this name.
-pub fn find(fields: &[u8], name: &[u8]) -> Found
-    ensures value { result ≡ found_of (value_of 0 name.now (cut tab fields.now)) }
-    ensures within { (v : ℕ) → result ≡ Found.At v → v < length (cut tab fields.now) }
+pub fn find(fields: &[u8], name: &[u8]) -> Option<usize>
+    ensures value { result ≡ found (value_of 0 name.now (cut tab fields.now)) }
+    ensures within { (v : ℕ) → result ≡ Some v → v < length (cut tab fields.now) }
 {
     let mut at = 0;
     let mut n = 0;
     loop {
         let e = text::end_of(fields, at, b'\t');
         if same_name(name, &fields[at..e]) {
-            return Found::At(n);
+            return Some(n);
         }
         if e == fields.len() {
-            return Found::Nothing;
+            return None;
         }
         at = e + 1;
         n += 1;

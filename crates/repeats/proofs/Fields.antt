@@ -1,14 +1,13 @@
 -- A field that stands twice, as the code that compares each field with those behind it finds it.
 use mathlib.Core.Path.{◌≡◌, refl}
-use mathlib.Core.Bool.{Bool, true, false}
+use mathlib.Core.Bool.{Bool, true, false, not}
 use mathlib.Core.List.{[]}
 use mathlib.Core.Option.{Option, none, some}
 use Prim.Native.Nat.{ℕ, ◌+◌, ◌-◌, ◌<◌}
 use lib.ListN.{length, get_or, take, drop}
 use Rattle.meaning.specs.Text.{Bytes, is_none, among_names, repeated, cut, tab}
-use Rattle.laws.proofs.Bools.{never}
-use Rattle.names.specs.declared.Found.TheVariants.{At, Nothing}
-use Rattle.names.specs.Places.{found_of}
+use Rattle.laws.specs.Found.{found}
+use Rattle.std.specs.Option.{is_some}
 use Rattle.text.proofs.Pieces.{rest_of, piece_last, piece_more}
 
 -- whether the part `&s[at..e]` stands among the fields of the part `&s[e + 1..]`
@@ -27,10 +26,6 @@ module _ (s : Bytes) (at e : ℕ) (p : e ≡ at + length (get_or (cut tab (drop 
     pub repeated_more : among_rest s at e ≡ false → repeated (cut tab (drop at s)) ≡ repeated (cut tab (drop (e + 1) s))
     repeated_more f = let among = rw rest_of at f in rw (piece_more tab s at e p l, among)
 
-pub found_some : (o : Option ℕ) {v : ℕ} → found_of o ≡ At v → is_none o ≡ false
-found_some none h = never (cc)
-found_some (some n) h = refl
-
-pub found_none : (o : Option ℕ) → found_of o ≡ Nothing → is_none o ≡ true
-found_none none h = refl
-found_none (some n) h = never (cc)
+pub found_placed : (o : Option ℕ) → is_some (found o) ≡ not (is_none o)
+found_placed none = refl
+found_placed (some n) = refl

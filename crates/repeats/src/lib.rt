@@ -7,15 +7,10 @@ mod marks;
 ghost use Rattle.std.specs.Prelude.{◌≡◌, not};
 ghost use Rattle.meaning.specs.Text.{among_names, repeated, cut, tab};
 
-use names::Found;
-
 fn has(fields: &[u8], name: &[u8]) -> bool
     ensures { result ≡ among_names name.now (cut tab fields.now) }
 {
-    match names::find(fields, name) {
-        Found::At(_) => true,
-        Found::Nothing => false,
-    }
+    names::find(fields, name).is_some()
 }
 
 // Whether no field stands twice, by comparing each with those behind it.

@@ -4,7 +4,8 @@ use mathlib.Core.Path.{◌≡◌, refl, sym, ap, ◌∙◌, subst}
 use mathlib.Core.Logic.{◌≢◌, ⊎_elim}
 use mathlib.Core.Bool.{true}
 use mathlib.Core.List.{List, [], ◌∷◌, ◌++◌, map, append_assoc, append-nil}
-use mathlib.Core.Option.{Option, none, some}
+use mathlib.Core.Option.{Option as Maybe, none, some}
+use Rattle.std.specs.Prelude.{Option, Some, None}
 use native.Mathlib.Nat.{sub-zero, eq-or-lt_of_le}
 use native.Mathlib.Numerals.{add-one}
 use native.Mathlib.Omega.{arith}
@@ -17,10 +18,8 @@ use Rattle.meaning.specs.Reading.{mask_of, or_empty}
 use Rattle.meaning.specs.Deciding.{Request, set_of, chosen, values_of, request_line}
 use Rattle.laws.proofs.Bools.{never}
 use Rattle.laws.proofs.Chosen.{some_named_bit}
-use Rattle.laws.proofs.Text.{Some, one_or_more, cut_some}
-use Rattle.names.specs.declared.Found.{Found}
-use Rattle.names.specs.declared.Found.TheVariants.{At, Nothing}
-use Rattle.names.specs.Places.{found_of}
+use Rattle.laws.proofs.Text.{Some as OneOrMore, one_or_more, cut_some}
+use Rattle.laws.specs.Found.{found}
 use Rattle.requests.proofs.Laid.{laid}
 use Rattle.text.proofs.Pieces.{behind, piece_last, piece_more, piece_at_lem}
 use Rattle.layout.specs.declared.Attributes.{Attributes}
@@ -30,27 +29,27 @@ use Rattle.request_lines.specs.declared.Asked.{Asked}
 use Rattle.request_lines.specs.Asked.{Refused, AskedAs}
 
 -- A place that was found, or not
-found_at : (o : Option ℕ) {r : Found} {v : ℕ} → r ≡ found_of o → r ≡ At v → o ≡ some v
+found_at : (o : Maybe ℕ) {r : Option ℕ} {v : ℕ} → r ≡ found o → r ≡ Some v → o ≡ some v
 found_at none h k = never (cc)
 found_at (some w) h k = cc
 
-found_nothing : (o : Option ℕ) {r : Found} → r ≡ found_of o → r ≡ Nothing → o ≡ none
+found_nothing : (o : Maybe ℕ) {r : Option ℕ} → r ≡ found o → r ≡ None → o ≡ none
 found_nothing none h k = refl
 found_nothing (some w) h k = never (cc)
 
 -- a set's mask, whose names are found in order, and its number
 module _ (vs : List Bytes) (f : Bytes) {mask : ℕ} (is_mask : mask ≡ or_empty (mask_of (map lower vs) (map lower (cut comma f)))) where
-  pub no_set : mask ≡ 0 → Nothing ≡ found_of (set_of vs f)
+  pub no_set : mask ≡ 0 → None ≡ found (set_of vs f)
   no_set z = go (mask_of (map lower vs) (map lower (cut comma f))) refl
     where
-      go : (o : Option ℕ) → mask_of (map lower vs) (map lower (cut comma f)) ≡ o → Nothing ≡ found_of (set_of vs f)
+      go : (o : Maybe ℕ) → mask_of (map lower vs) (map lower (cut comma f)) ≡ o → None ≡ found (set_of vs f)
       go none e = rw e
       go (some m) e = absurd (omega (arith, some_named_bit vs f m e, ap or_empty e, is_mask, z))
 
-  pub some_set : mask ≢ 0 → At (mask - 1) ≡ found_of (set_of vs f)
+  pub some_set : mask ≢ 0 → Some (mask - 1) ≡ found (set_of vs f)
   some_set n = go (mask_of (map lower vs) (map lower (cut comma f))) refl
     where
-      go : (o : Option ℕ) → mask_of (map lower vs) (map lower (cut comma f)) ≡ o → At (mask - 1) ≡ found_of (set_of vs f)
+      go : (o : Maybe ℕ) → mask_of (map lower vs) (map lower (cut comma f)) ≡ o → Some (mask - 1) ≡ found (set_of vs f)
       go none e = absurd (n (is_mask ∙ ap or_empty e))
       go (some m) e = let same_mask : mask ≡ m = is_mask ∙ ap or_empty e in rw (e, same_mask)
 
@@ -89,7 +88,7 @@ pub record Walked (f : Bytes) (a : Attributes) (line : Bytes) (values : List ℕ
   pub clear : drop a.len values ≡ drop a.len (replicate 6 0)
   pub so_far : after (take i values) (values_of (suc i) (rest f a i) (cut tab (drop at line))) ≡ values_of 1 (attributes_of f a) (cut tab line)
 
-some_piece : {ps : List Bytes} → Some ps → 1 ≤ length ps
+some_piece : {ps : List Bytes} → OneOrMore ps → 1 ≤ length ps
 some_piece (one_or_more p ps) = omega arith
 
 pub walk_starts : {f : Bytes} {a : Attributes} {line : Bytes} → length (cut tab line) ≡ a.len → a.len ≤ 6 → Walked f a line (replicate 6 0) 0 0
@@ -105,9 +104,9 @@ walk_starts {f} {a} {line} count few =
     }
 
 -- the field that starts at `at` ends at e, and this was found for it
-module _ {f : Bytes} {a : Attributes} {line : Bytes} {values : List ℕ} {at i e : ℕ} {r : Found} (w : Walked f a line values at i)
+module _ {f : Bytes} {a : Attributes} {line : Bytes} {values : List ℕ} {at i e : ℕ} {r : Option ℕ} (w : Walked f a line values at i)
     (p : e ≡ at + length (get_or (cut tab (drop at line)) 0 [])) (q : e ≤ length line)
-    (found : r ≡ found_of (chosen (attribute_at f a i) (take (e - at) (drop at line)))) where
+    (is_found : r ≡ found (chosen (attribute_at f a i) (take (e - at) (drop at line)))) where
   abbrev piece : Bytes
   piece = take (e - at) (drop at line)
 
@@ -129,20 +128,20 @@ module _ {f : Bytes} {a : Attributes} {line : Bytes} {values : List ℕ} {at i e
       (eq-or-lt_of_le q)
 
   -- a field that is no value
-  pub walk_refused : {answer : Asked} → r ≡ Nothing → Refused answer 10 (i + 1) → AskedAs a answer (values_of 1 (attributes_of f a) (cut tab line))
+  pub walk_refused : {answer : Asked} → r ≡ None → Refused answer 10 (i + 1) → AskedAs a answer (values_of 1 (attributes_of f a) (cut tab line))
   walk_refused {answer} nothing refuses =
-      let no_value = found_nothing (chosen (attribute_at f a i) piece) found nothing in
+      let no_value = found_nothing (chosen (attribute_at f a i) piece) is_found nothing in
       let here-refused : after (take i values) (values_of (suc i) (rest f a i) (cut tab (drop at line))) ≡ refused 10 (suc i) =
       rw (this_attribute, this_field) (first_refused (suc i) (attribute_at f a i) (rest f a (i + 1)) piece (behind tab line e) (take i values) no_value) in
       subst (AskedAs a answer) (sym here-refused ∙ w.so_far) (rw add-one at refuses)
 
   -- a field that is value v
-  module _ {v : ℕ} (is_at : r ≡ At v) where
+  module _ {v : ℕ} (is_at : r ≡ Some v) where
     -- with the fields behind it
     one_more : (later : List Bytes) → cut tab (drop at line) ≡ piece ∷ later
         → after (take (i + 1) (set values i v)) (values_of (suc (i + 1)) (rest f a (i + 1)) later) ≡ values_of 1 (attributes_of f a) (cut tab line)
     one_more later fields-here =
-        let is-value = found_at (chosen (attribute_at f a i) piece) found is_at in
+        let is-value = found_at (chosen (attribute_at f a i) piece) is_found is_at in
         let one_found : after (take i values) (values_of (suc i) (rest f a i) (cut tab (drop at line))) ≡ after (take i values ++ (v ∷ [])) (values_of (suc (suc i)) (rest f a (i + 1)) later) =
         rw (this_attribute, fields-here) (first_value (suc i) (attribute_at f a i) (rest f a (i + 1)) piece later (take i values) v is-value) in
         let one-laid : take (i + 1) (set values i v) ≡ take i values ++ (v ∷ []) = rw (add-one i) (take-suc-set values i v (omega (arith, w.here, w.few, w.room))) in

@@ -4,12 +4,11 @@
 ghost use Rattle.std.specs.Prelude.{◌≡◌, cond, ◌≤◌, length};
 ghost use Rattle.meaning.specs.Text.{cut, tab};
 ghost use Rattle.meaning.specs.Deciding.{value_of, set_of, values_of, request_line};
-ghost use Rattle.names.specs.Places.{found_of};
+ghost use Rattle.laws.specs.Found.{found};
 ghost use Rattle.layout.specs.Places.{attributes_of, AllStanding, FewValues};
 ghost use Rattle.request_lines.specs.Asked.{Refused, AskedAs};
 
 use layout::Attributes;
-use names::Found;
 use requests::Request;
 
 // The request, or the place of the field that refuses the line: 0 for a wrong count of fields.
@@ -37,16 +36,16 @@ fn refuse(place: usize) -> Asked
 }
 
 // What a field has of an attribute: the number of a value, or where it may have several, of a set of them.
-fn choose(several: bool, values: &[u8], field: &[u8]) -> Found
+fn choose(several: bool, values: &[u8], field: &[u8]) -> Option<usize>
     requires { length (cut tab values.now) ≤ 16 }
-    ensures { result ≡ found_of (cond several (set_of (cut tab values.now) field.now) (value_of 0 field.now (cut tab values.now))) }
+    ensures { result ≡ found (cond several (set_of (cut tab values.now) field.now) (value_of 0 field.now (cut tab values.now))) }
 {
     if several {
         let mask = syntax::names_mask(values, field, false);
         if mask == 0 {
-            return Found::Nothing;
+            return None;
         }
-        return Found::At((mask - 1) as usize);
+        return Some((mask - 1) as usize);
     }
     names::find(values, field)
 }
@@ -66,7 +65,7 @@ fn read_fields(file: &[u8], a: Attributes, line: &[u8]) -> Asked
         let end = text::end_of(line, at, b'\t');
         let first = starts[i];
         let last = ends[i];
-        let Found::At(v) = choose(several[i], &file[first..last], &line[at..end]) else {
+        let Some(v) = choose(several[i], &file[first..last], &line[at..end]) else {
             return refuse(i + 1);
         };
         values[i] = v;

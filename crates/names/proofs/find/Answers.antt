@@ -3,8 +3,8 @@ use mathlib.Core.Path.{refl, sym, ap, ◌∙◌}
 use native.Mathlib.Omega.{arith}
 use borrow.Author.Rules.{rules}
 use Rattle.meaning.specs.Text.{cut, tab}
-use Rattle.names.specs.Places.{found_of}
-use Rattle.names.specs.declared.Found.TheVariants.{At, Nothing}
+use Rattle.std.specs.Prelude.{Some, None}
+use Rattle.laws.specs.Found.{found}
 use Rattle.names.proofs.Fields.{place_hit, place_end, place_more, found_within}
 use Rattle.names.proofs.find.Goals as goal
 
@@ -17,8 +17,8 @@ returns-then-same_name c =
     let e = c.end_of-e in
     let name = c.args.name.now in
     let hit = place_hit s c.loop-at.at e.result e.ensures.value name c.loop-at.n (search rules) (sym c.same_name.ensures ∙ c.if-same_name.true) in
-    let found = ap found_of (sym hit ∙ c.loop-at.invariant.2) in
-    record { value = found; within = found_within name (cut tab s) (At c.loop-at.n) found }
+    let told = ap found (sym hit ∙ c.loop-at.invariant.2) in
+    record { value = told; within = found_within name (cut tab s) (Some c.loop-at.n) told }
 
 pub returns-then-e-fields : goal.returns-then-e-fields
 returns-then-e-fields c =
@@ -26,8 +26,8 @@ returns-then-e-fields c =
     let e = c.end_of-e in
     let name = c.args.name.now in
     let end = place_end s c.loop-at.at e.result e.ensures.value name c.loop-at.n c.if-e-fields.true (sym c.same_name.ensures ∙ c.if-same_name.false) in
-    let found = ap found_of (sym end ∙ c.loop-at.invariant.2) in
-    record { value = found; within = found_within name (cut tab s) Nothing found }
+    let told = ap found (sym end ∙ c.loop-at.invariant.2) in
+    record { value = told; within = found_within name (cut tab s) None told }
 
 pub loop-at-preserved : goal.loop-at-preserved
 loop-at-preserved c =

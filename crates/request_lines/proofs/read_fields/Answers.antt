@@ -91,9 +91,9 @@ overflow_add-i-in-loop-v c =
 pub returns-then-i-a : goal.returns-then-i-a
 returns-then-i-a c =
     let end = c.end_of-end.ensures in
-    walk_ends c.loop-v.invariant end.value end.within.1 c.choose.ensures c.in-At.is c.if-i-a.true
+    walk_ends c.loop-v.invariant end.value end.within.1 c.choose.ensures c.in-Some.is c.if-i-a.true
 
 pub loop-v-preserved : goal.loop-v-preserved
 loop-v-preserved c =
     let end = c.end_of-end.ensures in
-    walk_on c.loop-v.invariant end.value end.within.1 c.choose.ensures c.in-At.is c.if-i-a.false
+    walk_on c.loop-v.invariant end.value end.within.1 c.choose.ensures c.in-Some.is c.if-i-a.false
