@@ -20,14 +20,10 @@ fn unlike(places: &[usize], n: usize, one: &[u64], other: &[u64]) -> u64
     ensures { Marked places.now n one.now other.now result }
 {
     let mut word = 0;
-    let mut i = 0;
-    while i < n {
-        if places[129 + 4 * i] == 0 {
-            i += 1;
-            continue;
+    for i in 0..n {
+        if places[129 + 4 * i] != 0 {
+            word |= one[i] ^ other[i];
         }
-        word = word | (one[i] ^ other[i]);
-        i += 1;
     }
     word
 }
@@ -49,10 +45,8 @@ fn like_marks(words: &[u64], n: usize, v: usize, on: u64) -> u64
     ensures { LikeMarks words.now n v on result }
 {
     let mut like = on;
-    let mut i = 0;
-    while i < n {
+    for i in 0..n {
         like = like_bit(words[i], v, like);
-        i += 1;
     }
     like
 }
@@ -73,13 +67,11 @@ fn first_given(
     ensures { Among (others_given file.now places.now n one.now other.now permits) on from first result }
 {
     let mut left = on;
-    let mut v = 0;
-    while v < 64 {
+    for v in 0..64 {
         if first <= from + v {
             return first;
         }
         if (left >> v) % 2 != 1 {
-            v += 1;
             continue;
         }
         let permit = (permits >> v) % 2 == 1;
@@ -89,7 +81,6 @@ fn first_given(
         let decided = like_bit(permits, v, left);
         let like = like_marks(other, n, v, like_marks(one, n, v, decided));
         left = blocks::without(left, like);
-        v += 1;
     }
     first
 }
@@ -162,14 +153,10 @@ fn touched(struck: &[u8], hits: &[u64], n: usize, block: usize) -> u64
     ensures { Touched struck.now hits.now n block result }
 {
     let mut word = 0;
-    let mut i = 0;
-    while i < n {
-        if struck[i] == 0 {
-            i += 1;
-            continue;
+    for i in 0..n {
+        if struck[i] != 0 {
+            word |= hits[64 * i + block];
         }
-        word = word | hits[64 * i + block];
-        i += 1;
     }
     word
 }
@@ -190,11 +177,9 @@ pub fn first_difference(
 {
     let space = shape.space;
     let obliged = obligations::any_obligations(places, shape.n);
-    let mut block = 0;
-    while 64 * block < space {
+    for block in 0..(space + 63) / 64 {
         let on = touched(struck, hits, shape.n, block);
         if on == 0 {
-            block += 1;
             continue;
         }
         let first = difference_in(
@@ -203,7 +188,6 @@ pub fn first_difference(
         if first < space {
             return first;
         }
-        block += 1;
     }
     space
 }

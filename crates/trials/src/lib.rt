@@ -59,10 +59,8 @@ fn first_change(
     ensures { result ≡ place_or shape.space (first_from (apart_at file.now places.now table.now shape.n (hit_of shape) struck.now rule) 0 shape.space) }
 {
     let space = shape.space;
-    let mut block = 0;
-    while 64 * block < space {
+    for block in 0..(space + 63) / 64 {
         if hits[64 * rule + block] == 0 {
-            block += 1;
             continue;
         }
         let first = trial::change_at(
@@ -71,7 +69,6 @@ fn first_change(
         if first < space {
             return first;
         }
-        block += 1;
     }
     space
 }
@@ -255,11 +252,9 @@ pub fn needed_all(
 {
     let n = shape.n;
     let obliged = obligations::any_obligations(places, n);
-    let mut i = 0;
-    while i < n {
+    for i in 0..n {
         shown[i] = shown_by(
             file, places, table, struck, hits, shape, outcomes, obliged, i,
         );
-        i += 1;
     }
 }

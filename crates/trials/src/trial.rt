@@ -16,11 +16,7 @@ fn copy_flags(struck: &[u8], n: usize, copy: &mut [u8])
     requires { (n ≤ length struck.now) × (n ≤ length copy.old) }
     ensures { Copied struck.now n copy.new × (length copy.new ≡ length copy.old) }
 {
-    let mut i = 0;
-    while i < n {
-        copy[i] = struck[i];
-        i += 1;
-    }
+    copy[..n].copy_from_slice(&struck[..n]);
 }
 
 // The first request of the block that gets another decision than the one laid down, or other obligations; the number of requests if there is none. Outside `on` no request gets anything else; `obliged` says whether the file has obligations, and only then are flags copied.

@@ -32,9 +32,7 @@ fn next_rule(
     ensures { (result ≡ place_or shape.n (next_at file.now places.now table.now shape.n (hit_of shape) shape.space struck.old)) × (struck.new ≡ struck.old) × Known file.now places.now table.now shape struck.old hints.new known.new }
 {
     let n = shape.n;
-    let mut i = n;
-    while 0 < i {
-        i -= 1;
+    for i in (0..n).rev() {
         if known[i] != 0 {
             continue;
         }
@@ -86,18 +84,14 @@ fn forget(hits: &[u64], n: usize, rule: usize, hints: &[u16], known: &mut [u8])
     requires { (64 * rule + 64 ≤ length hits.now) × (n ≤ length hints.now) × (n ≤ length known.old) × HintsFit n hints.now known.old }
     ensures { Forgets hits.now n rule hints.now known.old known.new }
 {
-    let mut i = 0;
-    while i < n {
+    for i in 0..n {
         if known[i] == 0 {
-            i += 1;
             continue;
         }
         if !matches_rule(hits, rule, hints[i] as usize) {
-            i += 1;
             continue;
         }
         known[i] = 0;
-        i += 1;
     }
 }
 
@@ -119,8 +113,7 @@ fn strike_rules(
     ensures { Trims file.now places.now table.now outcomes.now shape struck.old struck.new order.old order.new result }
 {
     let n = shape.n;
-    let mut count = 0;
-    while count < n {
+    for count in 0..n {
         let next = next_rule(
             file, places, table, struck, hits, shape, outcomes, obliged, hints, known,
         );
@@ -130,9 +123,8 @@ fn strike_rules(
         struck[next] = 1;
         order[count] = next as u8;
         forget(hits, n, next, hints, known);
-        count += 1;
     }
-    count
+    n
 }
 
 // The same, with hints of its own, and no rule known to be needed.

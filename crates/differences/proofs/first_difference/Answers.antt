@@ -12,13 +12,13 @@ pub any_obligations-obliged-requires : goal.any_obligations-obliged-requires
 any_obligations-obliged-requires c = let compared = c.requires.0 in obligation_room compared.obliged compared.ready
 
 pub loop-block-init : goal.loop-block-init
-loop-block-init c = (omega arith, λ m l none. absurd (omega arith))
+loop-block-init c = λ m l none. absurd (omega arith)
 
-pub overflow_mul-block : goal.overflow_mul-block
-overflow_mul-block c = omega (arith, c.requires.0.ready.small)
+pub overflow_add-block-end : goal.overflow_add-block-end
+overflow_add-block-end c = omega (arith, c.requires.0.ready.small)
 
 pub touched-on-requires : goal.touched-on-requires
-touched-on-requires c = let compared = c.requires.0 in (compared.ready.flags, compared.ready.few, compared.matched.room, omega (arith, c.loop-block-test.true, compared.ready.small))
+touched-on-requires c = let compared = c.requires.0 in (compared.ready.flags, compared.ready.few, compared.matched.room, omega (arith, compared.ready.small))
 
 -- no request of the block matches an element struck
 pub loop-block-preserved-then-on-eq0 : goal.loop-block-preserved-then-on-eq0
@@ -26,24 +26,24 @@ loop-block-preserved-then-on-eq0 c =
     let args = c.args in
     let turn = c.loop-block in
     let suspects = touched_suspects args.file.now args.places.now args.table.now args.before.now args.struck.now args.hits.now args.shape c.requires.0.matched c.requires.1 c.loop-block.block _ c.touched-on.ensures in
-    (omega arith, block_passed _ args.shape.space turn.block turn.invariant.1 (λ m l e. suspects m l e (ap (λ w. bit w (m % 64)) c.if-on-eq0.true ∙ bit_zero (m % 64))))
+    block_passed _ args.shape.space turn.block turn.invariant (λ m l e. suspects m l e (ap (λ w. bit w (m % 64)) c.if-on-eq0.true ∙ bit_zero (m % 64)))
 
 pub difference_in-first-requires : goal.difference_in-first-requires
 difference_in-first-requires c =
     let args = c.args in
-    (c.requires.0, c.any_obligations-obliged.ensures, c.loop-block-test.true, touched_suspects args.file.now args.places.now args.table.now args.before.now args.struck.now args.hits.now args.shape c.requires.0.matched c.requires.1 c.loop-block.block _ c.touched-on.ensures)
+    (c.requires.0, c.any_obligations-obliged.ensures, omega arith, touched_suspects args.file.now args.places.now args.table.now args.before.now args.struck.now args.hits.now args.shape c.requires.0.matched c.requires.1 c.loop-block.block _ c.touched-on.ensures)
 
 pub returns-then-first-space : goal.returns-then-first-space
 returns-then-first-space c =
     let turn = c.loop-block in
-    block_found _ c.args.shape.space turn.block turn.invariant.1 _ c.difference_in-first.ensures c.if-first-space.true
+    block_found _ c.args.shape.space turn.block turn.invariant _ c.difference_in-first.ensures c.if-first-space.true
 
 pub loop-block-preserved : goal.loop-block-preserved
 loop-block-preserved c =
     let turn = c.loop-block in
-    (omega arith, block_searched _ c.args.shape.space turn.block turn.invariant.1 _ c.difference_in-first.ensures (omega arith))
+    block_searched _ c.args.shape.space turn.block turn.invariant _ c.difference_in-first.ensures (omega arith)
 
 pub returns : goal.returns
 returns c =
     let turn = c.loop-block in
-    none_found_at_all _ c.args.shape.space turn.block turn.invariant.1 (omega arith)
+    none_found_at_all _ c.args.shape.space turn.block turn.invariant (omega arith)

@@ -1,5 +1,4 @@
 -- `first_difference`: no request of the blocks passed gets anything else. Assumes nothing.
-use Prim.Native.Nat.{◌+◌, ◌-◌, ◌*◌, ◌<◌}
 use Rattle.table.specs.Shape.{hit_of}
 use Rattle.differences.specs.Apart.{apart}
 use Rattle.differences.proofs.Blocks.{NoneBelow}
@@ -7,7 +6,4 @@ use Rattle.differences.proofs.first_difference.Given as goal
 
 abbrev pub invariant-loop-block : goal.invariant-loop-block
 invariant-loop-block l =
-    (64 * l.block < l.space + 64) × NoneBelow (apart l.file l.places l.table l.shape.n (hit_of l.shape) l.before l.struck) l.space l.block
-
-abbrev pub decreases-loop-block : goal.decreases-loop-block
-decreases-loop-block l = l.space + 64 - 64 * l.block
+    NoneBelow (apart l.file l.places l.table l.shape.n (hit_of l.shape) l.before l.struck) l.space l.block

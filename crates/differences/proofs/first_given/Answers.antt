@@ -11,23 +11,23 @@ use Rattle.differences.proofs.Likes.{left_next}
 use Rattle.differences.proofs.first_given.Goals as goal
 
 pub loop-v-init : goal.loop-v-init
-loop-v-init c = (omega arith, λ u l. absurd (omega arith), λ u among off. contradiction among off)
+loop-v-init c = (λ u l. absurd (omega arith), λ u among off. contradiction among off)
 
 pub returns-then-first-from : goal.returns-then-first-from
 returns-then-first-from c =
     let turn = c.loop-v in
-    record { within = omega arith; found = λ l. absurd (omega arith); none_earlier = λ u small l. turn.invariant.1 u (omega (arith, c.if-first-from.true)) }
+    record { within = omega arith; found = λ l. absurd (omega arith); none_earlier = λ u small l. turn.invariant.0 u (omega (arith, c.if-first-from.true)) }
 
 pub loop-v-preserved-then-left-v-ne1 : goal.loop-v-preserved-then-left-v-ne1
 loop-v-preserved-then-left-v-ne1 c =
     let turn = c.loop-v in
-    (omega arith, up_to _ turn.v turn.invariant.1 (λ among. turn.invariant.2 turn.v among (ne_eqb _ 1 c.if-left-v-ne1.true)), turn.invariant.2)
+    (up_to _ turn.v turn.invariant.0 (λ among. turn.invariant.1 turn.v among (ne_eqb _ 1 c.if-left-v-ne1.true)), turn.invariant.1)
 
 pub same_given-requires : goal.same_given-requires
 same_given-requires c =
     let pre = c.requires in
     let one = pre.0 in
-    let l : c.loop-v.v < 64 = c.loop-v-test.true in
+    let l : c.loop-v.v < 64 = omega arith in
     (record { few = one.few; each = one.each; words = one.words; place = l }, record { few = one.few; each = one.each; words = pre.1; place = l })
 
 pub returns-then-not-same_given : goal.returns-then-not-same_given
@@ -35,30 +35,29 @@ returns-then-not-same_given c =
     let turn = c.loop-v in
     record {
       within = omega (arith, c.if-first-from.false);
-      found = λ l. (turn.v, c.loop-v-test.true, refl, ap not (sym c.same_given.ensures ∙ c.if-not-same_given.true));
-      none_earlier = λ u small l. turn.invariant.1 u (omega arith);
+      found = λ l. (turn.v, omega arith, refl, ap not (sym c.same_given.ensures ∙ c.if-not-same_given.true));
+      none_earlier = λ u small l. turn.invariant.0 u (omega arith);
     }
 
 pub like_marks-requires : goal.like_marks-requires
-like_marks-requires c = (c.loop-v-test.true, c.requires.0.words)
+like_marks-requires c = (omega arith, c.requires.0.words)
 
 pub like_marks-like-requires : goal.like_marks-like-requires
-like_marks-like-requires c = (c.loop-v-test.true, c.requires.1)
+like_marks-like-requires c = (omega arith, c.requires.1)
 
 pub loop-v-preserved : goal.loop-v-preserved
 loop-v-preserved c =
     let args = c.args in
     let turn = c.loop-v in
     let here : others_given args.file.now args.places.now args.n args.one.now args.other.now args.permits turn.v ≡ false = ap not (sym c.same_given.ensures ∙ c.if-not-same_given.false) in (
-      omega arith,
-      up_to _ turn.v turn.invariant.1 (λ among. here),
-      left_next args.file.now args.places.now args.n args.one.now args.other.now args.permits turn.v args.on turn.left _ _ _ _ turn.invariant.2 here c.like_bit-decided.ensures c.like_marks.ensures c.like_marks-like.ensures c.without-left.ensures,
+      up_to _ turn.v turn.invariant.0 (λ among. here),
+      left_next args.file.now args.places.now args.n args.one.now args.other.now args.permits turn.v args.on turn.left _ _ _ _ turn.invariant.1 here c.like_bit-decided.ensures c.like_marks.ensures c.like_marks-like.ensures c.without-left.ensures,
     )
 
 pub returns : goal.returns
 returns c =
     let turn = c.loop-v in
-    record { within = omega arith; found = λ l. absurd (omega arith); none_earlier = λ u small l. turn.invariant.1 u (omega arith) }
+    record { within = omega arith; found = λ l. absurd (omega arith); none_earlier = λ u small l. turn.invariant.0 u (omega arith) }
 
 pub like_bit-decided-requires : goal.like_bit-decided-requires
-like_bit-decided-requires c = c.loop-v-test.true
+like_bit-decided-requires c = omega arith

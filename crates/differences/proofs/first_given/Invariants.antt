@@ -1,5 +1,5 @@
 -- `first_given`: none of those passed, and none that is left out, gets other obligations. Assumes nothing.
-use Prim.Native.Nat.{ℕ, ◌-◌, ◌≤◌, ◌<◌}
+use Prim.Native.Nat.{ℕ, ◌<◌}
 use mathlib.Core.Path.{◌≡◌}
 use mathlib.Core.Bool.{true, false}
 use Rattle.meaning.specs.Deciding.{bit}
@@ -8,9 +8,5 @@ use Rattle.differences.proofs.first_given.Given as goal
 
 abbrev pub invariant-loop-v : goal.invariant-loop-v
 invariant-loop-v l =
-    (l.v ≤ 64)
-    × ((u : ℕ) → u < l.v → bit l.on u ≡ true → others_given l.file l.places l.n l.one l.other l.permits u ≡ false)
+    ((u : ℕ) → u < l.v → bit l.on u ≡ true → others_given l.file l.places l.n l.one l.other l.permits u ≡ false)
     × ((u : ℕ) → bit l.on u ≡ true → bit l.left u ≡ false → others_given l.file l.places l.n l.one l.other l.permits u ≡ false)
-
-abbrev pub decreases-loop-v : goal.decreases-loop-v
-decreases-loop-v l = 64 - l.v

@@ -5,10 +5,10 @@ use Rattle.trials.proofs.Moving.{block_off}
 use Rattle.trials.proofs.first_change.Goals as goal
 
 pub loop-block-init : goal.loop-block-init
-loop-block-init c = (omega arith, λ m l none. absurd (omega arith))
+loop-block-init c = λ m l none. absurd (omega arith)
 
-pub overflow_mul-block : goal.overflow_mul-block
-overflow_mul-block c = omega (arith, c.requires.0.aside.ready.small)
+pub overflow_add-block-end : goal.overflow_add-block-end
+overflow_add-block-end c = omega (arith, c.requires.0.aside.ready.small)
 
 pub overflow_mul-rule : goal.overflow_mul-rule
 overflow_mul-rule c = let pre = c.requires in omega (arith, pre.0.aside.ready.few, pre.0.aside.element, pre.0.aside.ready.small, pre.0.matched.room)
@@ -26,22 +26,22 @@ pub loop-block-preserved-then-hits-rule-eq0 : goal.loop-block-preserved-then-hit
 loop-block-preserved-then-hits-rule-eq0 c =
     let turn = c.loop-block in
     let off = block_off _ _ _ _ _ _ c.args.shape c.args.rule c.requires.0 turn.block c.if-hits-rule-eq0.true in
-    (omega arith, block_passed _ c.args.shape.space turn.block turn.invariant.1 off)
+    block_passed _ c.args.shape.space turn.block turn.invariant off
 
 pub change_at-first-requires : goal.change_at-first-requires
-change_at-first-requires c = let pre = c.requires in (pre.0, pre.1, pre.2, c.loop-block-test.true)
+change_at-first-requires c = let pre = c.requires in (pre.0, pre.1, pre.2, omega arith)
 
 pub returns-then-first-space : goal.returns-then-first-space
 returns-then-first-space c =
     let turn = c.loop-block in
-    block_found _ c.args.shape.space turn.block turn.invariant.1 _ c.change_at-first.ensures c.if-first-space.true
+    block_found _ c.args.shape.space turn.block turn.invariant _ c.change_at-first.ensures c.if-first-space.true
 
 pub loop-block-preserved : goal.loop-block-preserved
 loop-block-preserved c =
     let turn = c.loop-block in
-    (omega arith, block_searched _ c.args.shape.space turn.block turn.invariant.1 _ c.change_at-first.ensures (omega arith))
+    block_searched _ c.args.shape.space turn.block turn.invariant _ c.change_at-first.ensures (omega arith)
 
 pub returns : goal.returns
 returns c =
     let turn = c.loop-block in
-    none_found_at_all _ c.args.shape.space turn.block turn.invariant.1 (omega arith)
+    none_found_at_all _ c.args.shape.space turn.block turn.invariant (omega arith)

@@ -11,20 +11,20 @@ pub any_obligations-obliged-requires : goal.any_obligations-obliged-requires
 any_obligations-obliged-requires c = let laid = c.requires.0 in obligation_room laid.steady laid.ready
 
 pub loop-i-init : goal.loop-i-init
-loop-i-init c = (omega arith, refl, lays_none _ _ _)
+loop-i-init c = (refl, lays_none _ _ _)
 
 pub shown_by-requires : goal.shown_by-requires
-shown_by-requires c = (asks c.loop-i.invariant.1 c.requires.0, c.any_obligations-obliged.ensures, omega arith)
+shown_by-requires c = (asks c.loop-i.invariant.0 c.requires.0, c.any_obligations-obliged.ensures, omega arith)
 
 pub loop-i-preserved : goal.loop-i-preserved
 loop-i-preserved c =
     let args = c.args in
     let turn = c.loop-i in
     let shown = c.shown_by.ensures in
-    let same = ap (λ flags. shown_at args.file.now args.places.now args.table.now args.shape.n (hit_of args.shape) args.shape.space flags turn.i) turn.invariant.1 in
-    (omega arith, shown.1 ∙ turn.invariant.1, lays_next _ _ c.loop-i-test.true (shown.0 ∙ same) turn.invariant.2)
+    let same = ap (λ flags. shown_at args.file.now args.places.now args.table.now args.shape.n (hit_of args.shape) args.shape.space flags turn.i) turn.invariant.0 in
+    (shown.1 ∙ turn.invariant.0, lays_next _ _ (omega arith) (shown.0 ∙ same) turn.invariant.1)
 
 pub returns : goal.returns
 returns c =
     let turn = c.loop-i in
-    (lays_all _ c.requires.1 (omega arith) turn.invariant.2, turn.invariant.1)
+    (lays_all _ c.requires.1 (omega arith) turn.invariant.1, turn.invariant.0)

@@ -1,5 +1,4 @@
 -- `needed_all`: the requests shown, laid down one after the other under flags that stay. Assumes nothing.
-use Prim.Native.Nat.{◌-◌, ◌≤◌}
 use mathlib.Core.Path.{◌≡◌}
 use Rattle.table.specs.Shape.{hit_of}
 use Rattle.outcomes.proofs.Laying.{Lays}
@@ -8,7 +7,4 @@ use Rattle.trials.proofs.needed_all.Given as goal
 
 abbrev pub invariant-loop-i : goal.invariant-loop-i
 invariant-loop-i l =
-    (l.i ≤ l.n) × (l.struck ≡ l.initial.struck) × Lays (shown_at l.file l.places l.table l.shape.n (hit_of l.shape) l.shape.space l.initial.struck) l.n l.initial.shown l.shown l.i
-
-abbrev pub decreases-loop-i : goal.decreases-loop-i
-decreases-loop-i l = l.n - l.i
+    (l.struck ≡ l.initial.struck) × Lays (shown_at l.file l.places l.table l.shape.n (hit_of l.shape) l.shape.space l.initial.struck) l.n l.initial.shown l.shown l.i

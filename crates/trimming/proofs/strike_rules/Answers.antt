@@ -1,6 +1,6 @@
 -- `strike_rules`: what is to come completes what striking from the start gives. Assumes nothing.
-use Prim.Native.Nat.{◌-◌}
-use mathlib.Core.Path.{refl, ap, ◌∙◌}
+use Prim.Native.Nat.{◌-◌, ◌<◌}
+use mathlib.Core.Path.{◌≡◌, refl, ap, ◌∙◌}
 use native.Mathlib.Omega.{arith}
 use borrow.Author.Rules.{rules}
 use lib.ListN.{length, length-set}
@@ -10,10 +10,10 @@ use Rattle.trimming.proofs.Knowing.{known_next}
 use Rattle.trimming.proofs.strike_rules.Goals as goal
 
 pub loop-count-init : goal.loop-count-init
-loop-count-init c = let pre = c.requires in (omega arith, refl, refl, refl, refl, pre.0, strikes_none _ _ _ _ _ _, pre.4)
+loop-count-init c = let pre = c.requires in (refl, refl, refl, refl, pre.0, strikes_none _ _ _ _ _ _, pre.4)
 
 pub next_rule-next-requires : goal.next_rule-next-requires
-next_rule-next-requires c = let inv = c.loop-count.invariant in (inv.5, c.requires.1, omega arith, omega arith, inv.7)
+next_rule-next-requires c = let inv = c.loop-count.invariant in (inv.4, c.requires.1, omega arith, omega arith, inv.6)
 
 pub returns-then-next-n : goal.returns-then-next-n
 returns-then-next-n c =
@@ -21,12 +21,12 @@ returns-then-next-n c =
     let turn = c.loop-count in
     let found = c.next_rule-next.ensures in
     let end = trimming_stops args.file.now args.places.now args.table.now args.shape.n (hit_of args.shape) args.shape.space turn.struck (args.shape.n - turn.count) (next_none args.file.now args.places.now args.table.now args.shape.n (hit_of args.shape) args.shape.space turn.struck _ found.0 c.if-next-n.true) in
-    strikes_end args.file.now args.places.now args.table.now args.shape _ _ _ _ _ turn.invariant.6 _ _ found.1 end turn.invariant.0 c.requires.5 turn.invariant.5
+    strikes_end args.file.now args.places.now args.table.now args.shape _ _ _ _ _ turn.invariant.5 _ _ found.1 end (omega arith) c.requires.5 turn.invariant.4
 
 pub bounds-struck-next : goal.bounds-struck-next
 bounds-struck-next c =
     let struck-rule : let args = c.args in Next args.file.now args.places.now args.table.now args.shape.n (hit_of args.shape) args.shape.space c.loop-count.struck c.next_rule-next.result = let args = c.args in next_found args.file.now args.places.now args.table.now args.shape.n (hit_of args.shape) args.shape.space c.loop-count.struck _ c.next_rule-next.ensures.0 c.if-next-n.false in
-    omega (arith, (struck-rule).below, ap length c.next_rule-next.ensures.1, c.loop-count.invariant.5.ready.flags)
+    omega (arith, (struck-rule).below, ap length c.next_rule-next.ensures.1, c.loop-count.invariant.4.ready.flags)
 
 pub overflow_cast-order : goal.overflow_cast-order
 overflow_cast-order c =
@@ -48,20 +48,20 @@ loop-count-preserved c =
     let found = c.next_rule-next.ensures in
     let same = found.1 in
     let next = struck-rule in
-    let more = c.loop-count-test.true in (
-      omega (arith, more),
-      rw length-set (ap length same ∙ turn.invariant.1),
+    let more : turn.count < args.shape.n = omega arith in (
+      rw length-set (ap length same ∙ turn.invariant.0),
       search rules,
       search rules,
-      rw length-set turn.invariant.4,
-      rw same (laid_next args.file.now args.places.now args.table.now turn.struck args.shape _ next.needless _ _ turn.invariant.5),
-      strikes_next args.file.now args.places.now args.table.now args.shape _ _ _ _ _ turn.invariant.6 _ _ more same next,
-      rw same (known_next args.file.now args.places.now args.table.now args.shape turn.struck args.hits.now args.outcomes.now _ next.below next.needless turn.invariant.5 _ _ _ found.2 c.forget.ensures),
+      rw length-set turn.invariant.3,
+      rw same (laid_next args.file.now args.places.now args.table.now turn.struck args.shape _ next.needless _ _ turn.invariant.4),
+      strikes_next args.file.now args.places.now args.table.now args.shape _ _ _ _ _ turn.invariant.5 _ _ more same next,
+      rw same (known_next args.file.now args.places.now args.table.now args.shape turn.struck args.hits.now args.outcomes.now _ next.below next.needless turn.invariant.4 _ _ _ found.2 c.forget.ensures),
     )
 
 pub returns : goal.returns
 returns c =
     let args = c.args in
     let turn = c.loop-count in
-    let all = strikes_all args.file.now args.places.now args.table.now args.shape _ _ _ _ _ turn.invariant.6 (omega arith) in
-    strikes_end args.file.now args.places.now args.table.now args.shape _ _ _ _ _ turn.invariant.6 _ _ refl all turn.invariant.0 c.requires.5 turn.invariant.5
+    let all = strikes_all args.file.now args.places.now args.table.now args.shape _ _ _ _ _ turn.invariant.5 (omega arith) in
+    let last : turn.count ≡ args.shape.n = omega arith in
+    rw last at (strikes_end args.file.now args.places.now args.table.now args.shape _ _ _ _ _ turn.invariant.5 _ _ refl all (omega arith) c.requires.5 turn.invariant.4)

@@ -1,5 +1,4 @@
 -- `strike_rules`: what is to come completes what striking from the start gives. Assumes nothing.
-use Prim.Native.Nat.{◌-◌, ◌≤◌}
 use mathlib.Core.Path.{◌≡◌}
 use lib.ListN.{length}
 use Rattle.trials.specs.Trial.{Laid}
@@ -9,8 +8,5 @@ use Rattle.trimming.proofs.strike_rules.Given as goal
 
 abbrev pub invariant-loop-count : goal.invariant-loop-count
 invariant-loop-count l =
-    (l.count ≤ l.n) × (length l.struck ≡ length l.initial.struck) × (length l.hints ≡ length l.initial.hints) × (length l.known ≡ length l.initial.known) × (length l.order ≡ length l.initial.order)
+    (length l.struck ≡ length l.initial.struck) × (length l.hints ≡ length l.initial.hints) × (length l.known ≡ length l.initial.known) × (length l.order ≡ length l.initial.order)
     × Laid l.file l.places l.table l.struck l.hits l.outcomes l.shape × Strikes l.file l.places l.table l.shape l.initial.struck l.initial.order l.struck l.order l.count × Known l.file l.places l.table l.shape l.struck l.hints l.known
-
-abbrev pub decreases-loop-count : goal.decreases-loop-count
-decreases-loop-count l = l.n - l.count
