@@ -27,10 +27,8 @@ fn narrow(hits: &[u64], at: usize, blocks: usize, row: &mut [u64])
     requires { (at + blocks ≤ length hits.now) × (blocks ≤ length row.old) }
     ensures { (b : ℕ) → b < blocks → get_or row.new b 0 ≡ bit_and (get_or row.old b 0) (get_or hits.now (at + b) 0) }
 {
-    let mut b = 0;
-    while b < blocks {
+    for b in 0..blocks {
         row[b] &= hits[at + b];
-        b += 1;
     }
 }
 
@@ -64,11 +62,9 @@ pub fn apply_all(table: &[u16], hits: &[u64], shape: Shape, applied: &mut [u64])
 {
     let n = shape.n;
     let blocks = (shape.space + 63) / 64;
-    let mut i = 0;
-    while i < n {
+    for i in 0..n {
         let row = row_of(table, hits, n, blocks, i);
         matching::copy_plane(&row, blocks, 64 * i, applied);
-        i += 1;
     }
 }
 
@@ -86,18 +82,15 @@ pub fn give_all(
 {
     let n = shape.n;
     let blocks = (shape.space + 63) / 64;
-    let mut k = 0;
-    while k < 64 * n {
+    for k in 0..64 * n {
         let block = k % 64;
         if blocks <= block {
-            k += 1;
             continue;
         }
         let reply = blocks::reply(table, struck, hits, n, block, k / 64);
         let given = reply.given;
         permits[k] = blocks::without(given.permits, given.denies);
         denies[k] = blocks::without(given.denies, given.permits);
-        k += 1;
     }
 }
 

@@ -9,16 +9,16 @@ use borrow.Author.Rules.{rules}
 use Rattle.rows.proofs.apply_all.Goals as goal
 
 pub loop-i-init : goal.loop-i-init
-loop-i-init c = (search rules, omega (arith, c.requires.0.small), filled_none _ _ _ _ _ _)
+loop-i-init c = (omega (arith, c.requires.0.small), filled_none _ _ _ _ _ _)
 
 pub row_of-row-requires : goal.row_of-row-requires
-row_of-row-requires c = let turn = c.loop-i in (record { rows = c.requires.0.rows; few = c.requires.0.few; words = omega (arith, c.requires.0.few, c.requires.0.room); most = turn.invariant.1 }, search rules)
+row_of-row-requires c = let turn = c.loop-i in (record { rows = c.requires.0.rows; few = c.requires.0.few; words = omega (arith, c.requires.0.few, c.requires.0.room); most = turn.invariant.0 }, search rules)
 
 pub copy_plane-requires : goal.copy_plane-requires
 copy_plane-requires c =
     let turn = c.loop-i in
     let wide : length c.row_of-row.result ≡ 64 = search rules in
-    (turn.invariant.1, omega (arith, turn.invariant.1), omega (arith, c.requires.0.few, turn.invariant.2.size))
+    (turn.invariant.0, omega (arith, turn.invariant.0), omega (arith, c.requires.0.few, turn.invariant.1.size))
 
 pub loop-i-preserved : goal.loop-i-preserved
 loop-i-preserved c =
@@ -26,10 +26,10 @@ loop-i-preserved c =
     let made = c.row_of-row in
     let put = c.copy_plane in
     let wide : length made.result ≡ 64 = search rules in
-    let copied = copied_is made.result ((c.args.shape.space + 63) / 64) (64 * turn.i) turn.applied put.new.hits put.ensures (omega (arith, c.requires.0.few, turn.invariant.2.size)) (omega (arith, turn.invariant.1)) in
-    (search rules, turn.invariant.1, filled_row _ _ _ _ _ turn.invariant.2 turn.invariant.1 made.result _ refl put.auto.hits made.ensures copied)
+    let copied = copied_is made.result ((c.args.shape.space + 63) / 64) (64 * turn.i) turn.applied put.new.hits put.ensures (omega (arith, c.requires.0.few, turn.invariant.1.size)) (omega (arith, turn.invariant.0)) in
+    (turn.invariant.0, filled_row _ _ _ _ _ turn.invariant.1 turn.invariant.0 made.result _ refl put.auto.hits made.ensures copied)
 
 pub returns : goal.returns
 returns c =
     let turn = c.loop-i in
-    (applied_all _ _ _ c.requires.0 (omega arith) turn.invariant.2, applied_rest _ _ _ c.requires.0 (omega arith) (omega arith) turn.invariant.2)
+    (applied_all _ _ _ c.requires.0 (omega arith) turn.invariant.1, applied_rest _ _ _ c.requires.0 (omega arith) (omega arith) turn.invariant.1)
