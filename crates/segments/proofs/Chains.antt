@@ -14,7 +14,6 @@ use lib.Seq.{get_or-set_same, get_or-set_other}
 use Rattle.meaning.specs.Text.{is_none, first_from}
 use Rattle.laws.proofs.Bools.{Test, passed, failed, test, contradiction}
 use Rattle.laws.proofs.Search.{First, first_some, first_none, first_is, first_absent}
-use Rattle.table.specs.Tree.{place_or}
 use Rattle.segments.specs.Sizes.{alike, opens_at}
 use Rattle.segments.specs.Chains.{bucket_of, bucket_at, Opens, Links, Chained}
 
@@ -37,22 +36,6 @@ module _ (ws : List ℕ) (m k : ℕ) where
       let earlier : (j : ℕ) → 0 ≤ j → j < 0 + k → alike ws k j ≡ false =
       λ j l u. rw (eqb-true (get_or ws k 0) (get_or ws m 0) first.holds) (first.no_earlier j l (omega arith)) in
       ap is_none (first_absent (alike ws k) 0 k earlier)
-
--- m opens a segment if the search finds m
-module _ (ws : List ℕ) (m first : ℕ) (is : first ≡ place_or m (first_from (alike ws m) 0 m)) where
-  pub opens_found : first ≡ m → opens_at ws m ≡ true
-  opens_found at = go (first_from (alike ws m) 0 m) refl
-    where
-      go : (o : Option ℕ) → first_from (alike ws m) 0 m ≡ o → opens_at ws m ≡ true
-      go none e = ap is_none e
-      go (some k) e = let earlier : first ≡ k = is ∙ ap (place_or m) e in absurd (omega (arith, (first_some (alike ws m) 0 m k e).high))
-
-  pub opens_not : first ≢ m → opens_at ws m ≡ false
-  opens_not apart = go (first_from (alike ws m) 0 m) refl
-    where
-      go : (o : Option ℕ) → first_from (alike ws m) 0 m ≡ o → opens_at ws m ≡ false
-      go none e = absurd (apart (is ∙ ap (place_or m) e))
-      go (some k) e = ap is_none e
 
 -- The search for m's word, come to a link: a request that opens a segment in m's bucket, or none; if a request has the word, it is this or one still to come
 pub record Searching (ws : List ℕ) (m link : ℕ) : Type 0 where

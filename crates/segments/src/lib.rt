@@ -3,6 +3,7 @@
 
 ghost use Rattle.std.specs.Prelude.{◌≡◌, ◌++◌, map, ◌+◌, ◌*◌, ◌^◌, ◌≤◌, ◌<◌, length, drop};
 ghost use Rattle.meaning.specs.Text.{counting, first_from};
+ghost use Rattle.laws.specs.Found.{found};
 ghost use Rattle.table.specs.Tree.{place_or};
 ghost use Rattle.segments.specs.Across.{word_across, Column};
 ghost use Rattle.segments.specs.Sizes.{alike, size_at};
@@ -15,10 +16,8 @@ fn column(rows: &[u64], n: usize, block: usize) -> [u64; 64]
     ensures { Column rows.now n block result }
 {
     let mut words = [0u64; 64];
-    let mut i = 0;
-    while i < n {
+    for i in 0..n {
         words[i] = rows[64 * i + block];
-        i += 1;
     }
     words
 }
@@ -42,10 +41,8 @@ fn exchanged(words: &[u64; 64], s: usize, j: usize, mask: u64) -> [u64; 64]
     ensures { Exchanged s words.now result }
 {
     let mut to = [0u64; 64];
-    let mut k = 0;
-    while k < 64 {
+    for k in 0..64 {
         to[k] = exchange(words, k, s, j, mask);
-        k += 1;
     }
     to
 }
@@ -68,28 +65,27 @@ pub fn words_all(rows: &[u64], n: usize, space: usize, words: &mut [u64])
     ensures { words.new ≡ map (word_across rows.now n) (counting 0 space) ++ drop space words.old }
 {
     let mut block = [0u64; 64];
-    let mut m = 0;
-    while m < space {
+    for m in 0..space {
         if m % 64 == 0 {
             let elements = column(rows, n, m / 64);
             block = turned(&elements);
         }
         words[m] = block[m % 64];
-        m += 1;
     }
 }
 
 // The bucket of a word. heads has for each bucket 1 + the last request that opened a segment in it, links for each of these requests the same before it; 0 where there is none.
+// (They stay numbers with 0 for none: as options they would take twice the controller's memory.)
 fn bucket(word: u64) -> usize
     ensures { (result ≡ bucket_of word) × (result < 1021) }
 {
     (word % 1021) as usize
 }
 
-// The first request before m that has its word, or m: only the chain of the word's bucket is looked at.
-fn first_alike(words: &[u64], heads: &[u16; 1021], links: &[u16; 4096], m: usize) -> usize
+// The first request before m that has its word: only the chain of the word's bucket is looked at.
+fn first_alike(words: &[u64], heads: &[u16; 1021], links: &[u16; 4096], m: usize) -> Option<usize>
     requires { Chained words.now heads.now links.now m × (m < length words.now) × (m < 4096) }
-    ensures { (result ≡ place_or m (first_from (alike words.now m) 0 m)) × (result ≤ m) }
+    ensures { result ≡ found (first_from (alike words.now m) 0 m) }
 {
     let word = words[m];
     let head = bucket(word);
@@ -97,25 +93,25 @@ fn first_alike(words: &[u64], heads: &[u16; 1021], links: &[u16; 4096], m: usize
     while 0 < next {
         let k = next - 1;
         if words[k] == word {
-            return k;
+            return Some(k);
         }
         next = links[k] as usize;
     }
-    m
+    None
 }
 
-// The same, and chains m if it is the first of its segment.
+// The same, or m, which is chained if it is the first of its segment.
 fn enter(words: &[u64], heads: &mut [u16; 1021], links: &mut [u16; 4096], m: usize) -> usize
     requires { Chained words.now heads.old links.old m × (m < length words.now) × (m < 4096) }
     ensures { (result ≡ place_or m (first_from (alike words.now m) 0 m)) × (result ≤ m) × Chained words.now heads.new links.new (m + 1) }
 {
-    let first = first_alike(words, heads, links, m);
-    if first == m {
-        let head = bucket(words[m]);
-        links[m] = heads[head];
-        heads[head] = (m + 1) as u16;
+    if let Some(first) = first_alike(words, heads, links, m) {
+        return first;
     }
-    first
+    let head = bucket(words[m]);
+    links[m] = heads[head];
+    heads[head] = (m + 1) as u16;
+    m
 }
 
 // Lays down how many requests have the same word as each request that is the first of its segment, 0 for the others.
@@ -125,11 +121,9 @@ pub fn size_all(words: &[u64], space: usize, sizes: &mut [u16])
 {
     let mut heads = [0u16; 1021];
     let mut links = [0u16; 4096];
-    let mut m = 0;
-    while m < space {
+    for m in 0..space {
         let first = enter(words, &mut heads, &mut links, m);
         sizes[m] = 0;
         sizes[first] += 1;
-        m += 1;
     }
 }

@@ -5,10 +5,10 @@ use borrow.Author.Rules.{rules}
 use Rattle.segments.proofs.exchanged.Goals as goal
 
 pub loop-k-init : goal.loop-k-init
-loop-k-init c = (search rules, exchanges_none _ _)
+loop-k-init c = exchanges_none _ _
 
 pub loop-k-preserved : goal.loop-k-preserved
-loop-k-preserved c = let turn = c.loop-k in (search rules, exchanges_next _ _ turn.to turn.k _ (omega arith) c.exchange.ensures (search rules) turn.invariant.1)
+loop-k-preserved c = let turn = c.loop-k in exchanges_next _ _ turn.to turn.k _ (omega arith) c.exchange.ensures (search rules) turn.invariant
 
 pub returns : goal.returns
-returns c = let turn = c.loop-k in λ k l. turn.invariant.1.done k (omega arith)
+returns c = λ k l. c.loop-k.invariant.done k (omega arith)
