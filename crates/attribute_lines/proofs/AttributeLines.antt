@@ -1,4 +1,5 @@
 -- Laws of an attribute line: its tests as code makes them, its parts, and the state behind it.
+use Rattle.std.specs.Prelude.{Result, Ok, Err}
 use Prim.Native.Nat.{ℕ, zero, suc, ◌+◌, ◌-◌, ◌*◌, ◌≤◌, ◌<◌, zero-le, suc-le-suc}
 use mathlib.Core.Path.{◌≡◌, refl, sym, ap, ap₂, ◌∙◌, subst⁻¹}
 use mathlib.Core.Bool.{Bool, true, false, not, ◌||◌}
@@ -15,6 +16,7 @@ use Rattle.meaning.specs.Text.{Bytes, empty, all, among_names, repeated, cut, ta
 use Rattle.meaning.specs.Model.{Attribute, choices, most_values, space as space_of, letter_text, choices_of}
 use Rattle.meaning.specs.Reading.{attribute_line, line_of, Sofar, Tests, lowest, attribute_tests}
 use Rattle.laws.proofs.Lines.{letter_attribute, letter_several, attribute_fields_lem}
+use Rattle.refusals.specs.declared.Refusal.{Refusal}
 use Rattle.layout.specs.declared.Attributes.{Attributes}
 use Rattle.layout.specs.Places.{part, attributes_of, elements_to, line_start, placed, lines_to}
 use Rattle.layout.proofs.Adding.{added_behind, SixEach, placed_six, placed_more}
@@ -22,7 +24,6 @@ use Rattle.layout.proofs.Laws.{attributes_length}
 use Rattle.attribute_lines.specs.Sofar.{refusal_by, refusal_of, attribute_in, Tested, AttributeRefusal, AttributeLine}
 use Rattle.attribute_lines.specs.Steps.{BeforeLine, EndedLine, behind_attribute, AttributeStep, read_sofar, Next, StepIs}
 use Rattle.attribute_lines.specs.declared.State.{State}
-use Rattle.attribute_lines.specs.declared.Step.{Step}
 use Rattle.attribute_lines.proofs.Parts.{field_at_lem, next_start}
 
 -- The space with one attribute more
@@ -209,11 +210,15 @@ module _ {f : Bytes} {st : State} {end : ℕ} {several : Bool} {fields : ℕ} {t
         laid = rw (line_is fs is, attributes-are);
       }
 
-  pub attribute_told : {r : Step} → AttributeStep f st end several fields r → StepIs f table places table places st end r
-  attribute_told {r} step =
-      let tested = step.refusal in
-      record {
-        refusal = line_refusal tested;
-        next = λ z. subst⁻¹ (Next f table places table places st end) (step.state ∙ rw (eq-eqb r.refusal 0 z)) (line_next (tested.few z) (tested.few_values z) (tested.small_space z) (tested.no_element z));
-        stays = λ some. record { state = step.state ∙ rw (ne_eqb r.refusal 0 some); table_is = refl; places_are = refl };
-      }
+  pub attribute_told : {r : Result State Refusal} → AttributeStep f st end several fields r → StepIs f table places table places st end r
+  attribute_told {r} step = go r step
+    where
+      go : (r : Result State Refusal) → AttributeStep f st end several fields r → StepIs f table places table places st end r
+      go (Ok next) step =
+          let tested = step.refusal in
+          record {
+            refusal = line_refusal tested;
+            next = subst⁻¹ (Next f table places table places st end) step.state (line_next (tested.few refl) (tested.few_values refl) (tested.small_space refl) (tested.no_element refl));
+            stays = tt;
+          }
+      go (Err why) step = record { refusal = line_refusal step.refusal; next = tt; stays = record { table_is = refl; places_are = refl } }

@@ -1,4 +1,5 @@
 -- A line by its first field: an attribute line, a tree line, an obligation's, or one that test 2 refuses.
+use Rattle.std.specs.Prelude.{Err}
 use mathlib.Core.Path.{◌≡◌, refl, sym, ap, ◌∙◌, subst, subst⁻¹}
 use Prim.Native.Nat.{ℕ, ◌≤◌, ◌<◌}
 use native.Mathlib.Omega.{arith}
@@ -14,6 +15,9 @@ use Rattle.laws.proofs.Bools.{Test, passed, failed, test, or_true}
 use Rattle.syntax.specs.declared.LineKind.{LineKind}
 use Rattle.syntax.specs.Fields.{line_kind}
 use Rattle.syntax.proofs.Fields.{ByLetter, by_letter}
+use Rattle.refusals.specs.declared.Refusal.{Refusal}
+use Rattle.refusals.specs.declared.Refusal.TheVariants.{BadLine}
+use Rattle.refusals.specs.Numbers.{number_of}
 use Rattle.layout.specs.Places.{part}
 use Rattle.attribute_lines.specs.declared.State.{State}
 use Rattle.attribute_lines.specs.declared.LineShape.{LineShape}
@@ -21,16 +25,16 @@ use Rattle.attribute_lines.specs.Sofar.{refusal_by, refusal_of, AttributeLine, T
 use Rattle.attribute_lines.specs.Steps.{read_sofar, StepIs}
 
 -- A refused line leaves all as it was
-pub stopped : {f t p : List ℕ} {st : State} {end n : ℕ} → n ≡ refusal_of (read_sofar f t p st) (cut tab (part f st.at end)) → (n ≡ 0 → ⊥) → StepIs f t p t p st end (record { refusal = n; state = st })
-stopped is some = record { refusal = is; next = λ z. absurd (some z); stays = λ h. record { state = refl; table_is = refl; places_are = refl } }
+pub stopped : {f t p : List ℕ} {st : State} {end : ℕ} (why : Refusal) → number_of why ≡ refusal_of (read_sofar f t p st) (cut tab (part f st.at end)) → StepIs f t p t p st end (Err why)
+stopped why is = record { refusal = is; next = tt; stays = record { table_is = refl; places_are = refl } }
 
 -- Test 2 refuses first
 pub wrong_refused : (tests : Sofar → Line → Tests) (s : Sofar) (fs : List Bytes) → wrong_fields s fs (line_of fs) ≡ true → refusal_by tests s fs ≡ 2
 unfolding refusal_by
 wrong_refused tests s fs h = rw h
 
-pub refused_2 : (f t p : List ℕ) (st : State) (end : ℕ) → wrong_fields (read_sofar f t p st) (cut tab (part f st.at end)) (line_of (cut tab (part f st.at end))) ≡ true → StepIs f t p t p st end (record { refusal = 2; state = st })
-refused_2 f t p st end h = stopped (sym (wrong_refused line_tests (read_sofar f t p st) (cut tab (part f st.at end)) h)) (λ z. omega (arith, z))
+pub refused_2 : (f t p : List ℕ) (st : State) (end : ℕ) → wrong_fields (read_sofar f t p st) (cut tab (part f st.at end)) (line_of (cut tab (part f st.at end))) ≡ true → StepIs f t p t p st end (Err BadLine)
+refused_2 f t p st end h = stopped BadLine (sym (wrong_refused line_tests (read_sofar f t p st) (cut tab (part f st.at end)) h))
 
 -- A line by its kind; any other is wrong by test 2, whatever was read so far
 abbrev pub ShapeIs : List Bytes → LineKind → ℕ → Type 0

@@ -1,14 +1,15 @@
 -- What a state of reading stands for, and what reading one line does.
-use Rattle.std.specs.Prelude.{ℕ, ◌+◌, ◌-◌, ◌*◌, ◌≤◌, ◌<◌, Bool, cond, List, [], ◌≡◌, eqb, length, drop, get_or, replicate}
+use Rattle.std.specs.Prelude.{ℕ, ◌+◌, ◌-◌, ◌*◌, ◌≤◌, ◌<◌, Bool, List, [], ◌≡◌, length, drop, get_or, replicate, Result, IfOk, OnErr}
 use Rattle.meaning.specs.Text.{Bytes, cut, tab, newline}
 use Rattle.meaning.specs.Model.{space, choices_of}
 use Rattle.meaning.specs.Reading.{line_of, Sofar}
+use Rattle.refusals.specs.declared.Refusal.{Refusal}
+use Rattle.refusals.specs.Numbers.{number_in}
 use Rattle.table.specs.Rows.{Rows}
 use Rattle.layout.specs.declared.Attributes.{Attributes}
 use Rattle.layout.specs.Places.{part, attributes_of, AllStanding, FewValues, no_attributes, added, elements_to, Named, Obliged, Clear, line_start, placed, Lined}
 use Rattle.layout.specs.Nearest.{Stands}
 use Rattle.attribute_lines.specs.declared.State.{State}
-use Rattle.attribute_lines.specs.declared.Step.{Step}
 use Rattle.attribute_lines.specs.Sofar.{sofar_of, refusal_of, AttributeRefusal}
 use Rattle.attribute_lines.specs.Laid.{Laid, with_line}
 
@@ -63,10 +64,10 @@ behind_attribute st end several fs fields =
       tree = st.tree;
     }
 
--- an attribute line: its refusal and the same state, or the state behind it
-pub record AttributeStep (f : Bytes) (st : State) (end : ℕ) (several : Bool) (fields : ℕ) (r : Step) : Type 0 where
-  pub refusal : AttributeRefusal f st.attributes st.space st.tree.len several (cut tab (part f st.at end)) fields r.refusal
-  pub state : r.state ≡ cond (eqb r.refusal 0) (behind_attribute st end several (cut tab (part f st.at end)) fields) st
+-- an attribute line: its refusal, or the state behind it
+pub record AttributeStep (f : Bytes) (st : State) (end : ℕ) (several : Bool) (fields : ℕ) (r : Result State Refusal) : Type 0 where
+  pub refusal : AttributeRefusal f st.attributes st.space st.tree.len several (cut tab (part f st.at end)) fields (number_in r)
+  pub state : IfOk r (λ next. next ≡ behind_attribute st end several (cut tab (part f st.at end)) fields)
 
 -- What was read before a state's line, and laid down
 abbrev pub read_sofar : Bytes → List ℕ → List ℕ → State → Sofar
@@ -75,19 +76,18 @@ read_sofar f table places st = sofar_of f st.attributes table places st.tree.len
 abbrev pub laid_at : Bytes → List ℕ → List ℕ → State → Laid
 laid_at f table places st = record { sofar = read_sofar f table places st; table = table; places = places }
 
--- One line, which a newline at `end` ends: the state behind it, or its refusal and all as it was
+-- One line, which a newline at `end` ends: the state behind it, or its refusal and the table and the places as they were
 pub record Next (f table₀ places₀ table places : List ℕ) (st : State) (end : ℕ) (next : State) : Type 0 where
   pub ready : BeforeLine f table places next
   pub at_next : next.at ≡ end + 1
   pub line_next : next.line ≡ st.line + 1
   pub laid : laid_at f table places next ≡ with_line st.at (laid_at f table₀ places₀ st) (line_of (cut tab (part f st.at end)))
 
-pub record Stays (table₀ places₀ table places : List ℕ) (st next : State) : Type 0 where
-  pub state : next ≡ st
+pub record Stays (table₀ places₀ table places : List ℕ) : Type 0 where
   pub table_is : table ≡ table₀
   pub places_are : places ≡ places₀
 
-pub record StepIs (f table₀ places₀ table places : List ℕ) (st : State) (end : ℕ) (r : Step) : Type 0 where
-  pub refusal : r.refusal ≡ refusal_of (read_sofar f table₀ places₀ st) (cut tab (part f st.at end))
-  pub next : r.refusal ≡ 0 → Next f table₀ places₀ table places st end r.state
-  pub stays : (r.refusal ≡ 0 → ⊥) → Stays table₀ places₀ table places st r.state
+pub record StepIs (f table₀ places₀ table places : List ℕ) (st : State) (end : ℕ) (r : Result State Refusal) : Type 0 where
+  pub refusal : number_in r ≡ refusal_of (read_sofar f table₀ places₀ st) (cut tab (part f st.at end))
+  pub next : IfOk r (Next f table₀ places₀ table places st end)
+  pub stays : OnErr r (Stays table₀ places₀ table places)

@@ -4,11 +4,13 @@
 ghost use Rattle.std.specs.Prelude.{◌≡◌};
 ghost use Rattle.meaning.specs.Text.{cut, tab};
 ghost use Rattle.meaning.specs.Model.{most_values};
+ghost use Rattle.refusals.specs.Numbers.{number_in};
 ghost use Rattle.layout.specs.Places.{part};
 ghost use Rattle.attribute_lines.specs.Sofar.{Tested, AttributeRefusal, AttributeLine, CountIs, shape_of};
 ghost use Rattle.attribute_lines.specs.Steps.{InFile, EndedLine, beginning, AttributeStep};
 
 use layout::{Attributes, Tree};
+use refusals::Refusal;
 use syntax::LineKind;
 
 // Where the reader stands: the next line's start and number, what was read, and the space so far.
@@ -19,13 +21,6 @@ pub struct State {
     pub attributes: Attributes,
     pub space: usize,
     pub tree: Tree,
-}
-
-// The number that refuses a line, or 0 and the state behind it.
-#[derive(Clone, Copy)]
-pub struct Step {
-    pub refusal: usize,
-    pub state: State,
 }
 
 // What a line is by its first field, and how many fields it has; other where test 2 refuses it whatever stands before.
@@ -61,7 +56,7 @@ fn most_values(several: bool) -> usize
     if several { 12 } else { 16 }
 }
 
-// The lowest of 3 to 6 that refuses an attribute line of so many fields, or 0.
+// The lowest of 3 to 6 that refuses an attribute line of so many fields.
 fn attribute_refusal(
     file: &[u8],
     a: Attributes,
@@ -70,37 +65,43 @@ fn attribute_refusal(
     several: bool,
     line: &[u8],
     fields: usize,
-) -> usize
+) -> Result<(), Refusal>
     requires { Tested file.now a space (cut tab line.now) fields }
-    ensures { AttributeRefusal file.now a space elements several (cut tab line.now) fields result }
+    ensures { AttributeRefusal file.now a space elements several (cut tab line.now) fields (number_in result) }
 {
     if !names::all_names(text::from_field(line, 1)) {
-        return 3;
+        return Err(Refusal::BadName);
     }
     if layout::known_attribute(file, a, fields::field(line, 1)) {
-        return 4;
+        return Err(Refusal::KnownName);
     }
     if !repeats::all_distinct(text::from_field(line, 2)) {
-        return 4;
+        return Err(Refusal::KnownName);
     }
     if 6 <= a.len {
-        return 5;
+        return Err(Refusal::TooMany);
     }
     let values = fields - 2;
     if most_values(several) < values {
-        return 5;
+        return Err(Refusal::TooMany);
     }
     if 4096 < space * layout::choices(several, values) {
-        return 5;
+        return Err(Refusal::TooMany);
     }
     if elements != 0 {
-        return 6;
+        return Err(Refusal::Misplaced);
     }
-    0
+    Ok(())
 }
 
 // An attribute line of so many fields.
-pub fn attribute_line(file: &[u8], st: State, end: usize, several: bool, fields: usize) -> Step
+pub fn attribute_line(
+    file: &[u8],
+    st: State,
+    end: usize,
+    several: bool,
+    fields: usize,
+) -> Result<State, Refusal>
     requires { InFile file.now st × EndedLine file.now st end × AttributeLine several (cut tab (part file.now st.at end)) fields }
     ensures { AttributeStep file.now st end several fields result }
 {
@@ -109,22 +110,18 @@ pub fn attribute_line(file: &[u8], st: State, end: usize, several: bool, fields:
     let space = st.space;
     let tree = st.tree;
     let line = &file[at..end];
-    let refusal = attribute_refusal(file, a, space, tree.len, several, line, fields);
-    if refusal != 0 {
-        return Step { refusal, state: st };
-    }
+    attribute_refusal(file, a, space, tree.len, several, line, fields)?;
     let name = fields::field(line, 1);
     let first = at + 3 + name.len();
     let values = fields - 2;
     let attributes = layout::with_attribute(a, several, at + 2, first, end, values);
-    let state = State {
+    Ok(State {
         at: end + 1,
         line: st.line + 1,
         attributes,
         space: space * layout::choices(several, values),
         tree,
-    };
-    Step { refusal, state }
+    })
 }
 
 // The shape of a line whose fields were counted.

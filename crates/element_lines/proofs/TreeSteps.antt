@@ -1,5 +1,6 @@
 -- The step over a tree line: each of its refusals, and the line that is read.
-use mathlib.Core.Path.{◌≡◌, refl, sym, ap, ◌∙◌}
+use Rattle.std.specs.Prelude.{Ok, Err}
+use mathlib.Core.Path.{◌≡◌, sym, ap, ◌∙◌}
 use Prim.Native.Nat.{ℕ, ◌+◌, ◌*◌, ◌≤◌, ◌<◌}
 use native.Mathlib.Omega.{arith}
 use mathlib.Core.Bool.{true, false, not}
@@ -13,6 +14,10 @@ use Rattle.meaning.specs.Reading.{depth_of, word_of, masks_of, Sofar, well_place
 use Rattle.laws.proofs.Bools.{Test, passed, failed, test, contradiction, or_false}
 use Rattle.laws.proofs.Reading.{lowest_zero}
 use Rattle.laws.proofs.Bounds.{filled}
+use Rattle.refusals.specs.declared.Refusal.{Refusal}
+use Rattle.refusals.specs.declared.Refusal.TheVariants.{BadLine, BadTarget}
+use Rattle.refusals.specs.Numbers.{number_of}
+use Rattle.refusals.proofs.Numbers.{not_zero}
 use Rattle.syntax.specs.Fields.{number_of_word}
 use Rattle.table.specs.Rows.{with_row}
 use Rattle.layout.specs.Places.{part}
@@ -44,21 +49,18 @@ module _ (f table places : List ℕ) (st : State) (end : ℕ) (k : Kind) (n : �
   s = read_sofar f table places st
 
   -- a wrong field count
-  pub count_told : (n ≡ 4 + st.attributes.len → ⊥) → StepIs f table places table places st end (record { refusal = 2; state = st })
+  pub count_told : (n ≡ 4 + st.attributes.len → ⊥) → StepIs f table places table places st end (Err BadLine)
   count_told h = refused_2 f table places st end (wrong_count_lem s fs k n line (λ e. h (e ∙ ap (λ m. 4 + m) (attributes_length f st.attributes))))
 
-  module _ (right : n ≡ 4 + st.attributes.len) (refusal : ℕ) (is_lowest : refusal ≡ lowest (earlier s fs k n line)) where
+  module _ (right : n ≡ 4 + st.attributes.len) where
     count : n ≡ 4 + length s.attributes
     count = right ∙ ap (λ m. 4 + m) (sym (attributes_length f st.attributes))
 
     -- one of 3 to 7
-    pub earlier_told : (refusal ≡ 0 → ⊥) → StepIs f table places table places st end (record { refusal = refusal; state = st })
-    earlier_told h = stopped (is_lowest ∙ sym (earlier_refused s fs k n line count (λ z. h (is_lowest ∙ z)))) h
+    pub earlier_told : (why : Refusal) → number_of why ≡ lowest (earlier s fs k n line) → StepIs f table places table places st end (Err why)
+    earlier_told why is_lowest = stopped why (is_lowest ∙ sym (earlier_refused s fs k n line count (λ z. not_zero why (is_lowest ∙ z))))
 
-    module _ (none_earlier : refusal ≡ 0) where
-      passed_earlier : lowest (earlier s fs k n line) ≡ 0
-      passed_earlier = sym is_lowest ∙ none_earlier
-
+    module _ (passed_earlier : lowest (earlier s fs k n line) ≡ 0) where
       -- a tree line that passed stands behind an attribute
       pub some_attribute : 1 ≤ st.attributes.len
       some_attribute =
@@ -71,18 +73,18 @@ module _ (f table places : List ℕ) (st : State) (end : ℕ) (k : Kind) (n : �
 
       module _ {m : Masks} (is-masks : m ≡ masks_in s.attributes (drop 4 fs)) where
         -- a bad target
-        pub targets_told : m.good ≡ false → StepIs f table places table places st end (record { refusal = 8; state = st })
-        targets_told h = stopped (sym (earlier_passed s fs k n line count passed_earlier ∙ rw ((masks_judged s.attributes (drop 4 fs) is-masks).0 h))) (λ z. omega (arith, z))
+        pub targets_told : m.good ≡ false → StepIs f table places table places st end (Err BadTarget)
+        targets_told h = stopped BadTarget (sym (earlier_passed s fs k n line count passed_earlier ∙ rw ((masks_judged s.attributes (drop 4 fs) is-masks).0 h)))
 
         -- the line is read
         pub tree_told : (r : State) (t' p' : List ℕ) → m.good ≡ true → r ≡ behind_tree st end k fs
             → t' ≡ with_row table st.tree.len (number_of_word (word_of k (get_or fs 3 []))) (depth_of (get_or fs 1 [])) m.masks
             → p' ≡ sets places (2 * st.tree.len) (st.at ∷ (st.at + 4 + length (get_or fs 2 [])) ∷ [])
-            → StepIs f table places t' p' st end (record { refusal = 0; state = r })
+            → StepIs f table places t' p' st end (Ok r)
         tree_told r t' p' good is_state is-table is-places =
             let (fine, masks-are) = (masks_judged s.attributes (drop 4 fs) is-masks).1 good in
             record {
               refusal = sym (earlier_passed s fs k n line count passed_earlier ∙ rw fine);
-              next = λ z. rw (is_state, is-table, is-places, masks-are) (tree_next f table places st end k n ready at line count passed_earlier);
-              stays = λ some. absurd (some refl);
+              next = rw (is_state, is-table, is-places, masks-are) (tree_next f table places st end k n ready at line count passed_earlier);
+              stays = tt;
             }

@@ -5,6 +5,7 @@ ghost use Rattle.std.specs.Prelude.{◌≡◌, [], ◌∷◌, ◌+◌, ◌*◌, 
 ghost use Rattle.std.proofs.lemmas.List.Edits.{sets};
 ghost use Rattle.meaning.specs.Text.{cut, tab};
 ghost use Rattle.meaning.specs.Reading.{depth_of, word_of, Sofar, lowest};
+ghost use Rattle.refusals.specs.Numbers.{number_in};
 ghost use Rattle.table.specs.Rows.{with_row};
 ghost use Rattle.layout.specs.Places.{part, Named};
 ghost use Rattle.syntax.specs.Fields.{number_of_word};
@@ -13,13 +14,14 @@ ghost use Rattle.element_lines.specs.Elements.{element_from, Behind, earlier_tes
 ghost use Rattle.attribute_lines.specs.Sofar.{TreeLine};
 ghost use Rattle.attribute_lines.specs.Steps.{BeforeLine, EndedLine, StepIs};
 
-use attribute_lines::{State, Step};
+use attribute_lines::State;
 use layout::{Attributes, Tree};
 use meaning::Kind;
+use refusals::Refusal;
 use table::Row;
 use tree_fields::FieldEnds;
 
-// The lowest of 3 to 7 that refuses a tree line of this kind, or 0.
+// The lowest of 3 to 7 that refuses a tree line of this kind.
 fn element_refusal(
     file: &[u8],
     a: Attributes,
@@ -28,32 +30,32 @@ fn element_refusal(
     kind: Kind,
     line: &[u8],
     e: FieldEnds,
-) -> usize
+) -> Result<(), Refusal>
     requires { Named file.now places.now tree.len × (tree.depth ≤ 7) × Headed line.now e × ((s : Sofar) × Behind file.now a places.now tree s) }
     ensures { (s : Sofar) → Behind file.now a places.now tree s
-        → result ≡ lowest (earlier_tests s (get_or (cut tab line.now) 3 []) (element_from s.attributes kind (cut tab line.now))) }
+        → number_in result ≡ lowest (earlier_tests s (get_or (cut tab line.now) 3 []) (element_from s.attributes kind (cut tab line.now))) }
 {
     let name = tree_fields::name_field(line, e);
     if !names::is_name(name) {
-        return 3;
+        return Err(Refusal::BadName);
     }
     if layout::known_element(file, places, tree.len, name) {
-        return 4;
+        return Err(Refusal::KnownName);
     }
     if 64 <= tree.len {
-        return 5;
+        return Err(Refusal::TooMany);
     }
     if a.len == 0 {
-        return 6;
+        return Err(Refusal::Misplaced);
     }
     let depth = syntax::depth_of(tree_fields::depth_field(line, e));
     if !layout::well_placed(kind, depth, tree) {
-        return 6;
+        return Err(Refusal::Misplaced);
     }
     if syntax::word_number(kind, tree_fields::word_field(line, e)) == 6 {
-        return 7;
+        return Err(Refusal::BadWord);
     }
-    0
+    Ok(())
 }
 
 // Lays the element of a tree line down behind the others.
@@ -103,7 +105,7 @@ pub fn tree_line(
     fields: usize,
     table: &mut [u16],
     places: &mut [usize],
-) -> Step
+) -> Result<State, Refusal>
     requires { BeforeLine file.now table.old places.old st × EndedLine file.now st end × TreeLine (cut tab (part file.now st.at end)) kind fields }
     ensures { StepIs file.now table.old places.old table.new places.new st end result }
 {
@@ -112,24 +114,14 @@ pub fn tree_line(
     let tree = st.tree;
     let line = &file[at..end];
     if fields != 4 + attributes.len {
-        return Step {
-            refusal: 2,
-            state: st,
-        };
+        return Err(Refusal::BadLine);
     }
     let e = tree_fields::field_ends(line);
-    let refusal = element_refusal(file, attributes, places, tree, kind, line, e);
-    if refusal != 0 {
-        return Step { refusal, state: st };
-    }
+    element_refusal(file, attributes, places, tree, kind, line, e)?;
     let m = tree_fields::line_masks(file, attributes, line, e);
     if !m.good {
-        return Step {
-            refusal: 8,
-            state: st,
-        };
+        return Err(Refusal::BadTarget);
     }
     let masks = m.masks;
-    let state = lay_line(st, end, kind, line, e, masks, table, places);
-    Step { refusal: 0, state }
+    Ok(lay_line(st, end, kind, line, e, masks, table, places))
 }

@@ -1,7 +1,7 @@
 -- One line among attribute lines: the step over an attribute line, and the refusals of any other.
-use Prim.Native.Nat.{ℕ, ◌+◌, ◌≤◌}
+use Rattle.std.specs.Prelude.{Result, Err}
+use Prim.Native.Nat.{ℕ, ◌+◌}
 use mathlib.Core.Path.{◌≡◌, refl, sym, ap, ◌∙◌}
-use native.Mathlib.Omega.{arith}
 use mathlib.Core.Bool.{Bool, true, false}
 use mathlib.Core.List.{List, [], ◌∷◌}
 use lib.Dec.{lit≤}
@@ -13,10 +13,12 @@ use Rattle.meaning.specs.Writing.{header_tests}
 use Rattle.laws.proofs.Reading.{lowest_zero}
 use Rattle.laws.proofs.Bounds.{header_numbered}
 use Rattle.laws.proofs.Reread.{no_element}
+use Rattle.refusals.specs.declared.Refusal.{Refusal}
+use Rattle.refusals.specs.declared.Refusal.TheVariants.{BadLine}
+use Rattle.refusals.specs.Numbers.{number_of}
 use Rattle.layout.specs.Places.{part}
 use Rattle.layout.proofs.Laws.{attributes_length}
 use Rattle.attribute_lines.specs.declared.State.{State}
-use Rattle.attribute_lines.specs.declared.Step.{Step}
 use Rattle.attribute_lines.specs.Sofar.{refusal_by, refusal_of, AttributeLine, TreeLine, ObligationLine}
 use Rattle.attribute_lines.specs.Steps.{Next, StepIs}
 use Rattle.attribute_lines.proofs.LineKinds.{wrong_refused}
@@ -57,17 +59,17 @@ module _ (h : Bytes) (st : State) (end : ℕ) where
   abbrev fields : List Bytes
   fields = cut tab (part h st.at end)
 
-  pub past_attribute : {several : Bool} {n : ℕ} (r : Step) → AttributeLine several fields n → StepIs h blank blank blank blank st end r → Past h st end r
-  past_attribute r line step = record { refusal = step.refusal ∙ sym (attribute_alike (sofar_at h st) fields line); next = step.next; stays = λ some. (step.stays some).state }
+  pub past_attribute : {several : Bool} {n : ℕ} (r : Result State Refusal) → AttributeLine several fields n → StepIs h blank blank blank blank st end r → Past h st end r
+  past_attribute r line step = record { refusal = step.refusal ∙ sym (attribute_alike (sofar_at h st) fields line); next = step.next }
 
-  pub past_tree : (a refusal : ℕ) → a ≡ st.attributes.len → ((s : Sofar) → length s.attributes ≡ a → refusal ≡ refusal_by header_tests s fields) × (1 ≤ refusal) → Past h st end (record { refusal = refusal; state = st })
-  past_tree a refusal count (is-refusal, some) = record { refusal = is-refusal (sofar_at h st) (attributes_length h st.attributes ∙ sym count); next = λ z. absurd (omega arith); stays = λ some. refl }
+  pub past_tree : (a : ℕ) (why : Refusal) → a ≡ st.attributes.len → ((s : Sofar) → length s.attributes ≡ a → number_of why ≡ refusal_by header_tests s fields) → Past h st end (Err why)
+  past_tree a why count is = record { refusal = is (sofar_at h st) (attributes_length h st.attributes ∙ sym count); next = tt }
 
-  pub past_obligation : (refusal : ℕ) → ((s : Sofar) → refusal ≡ refusal_by header_tests s fields) × (1 ≤ refusal) → Past h st end (record { refusal = refusal; state = st })
-  past_obligation refusal (is-refusal, some) = record { refusal = is-refusal (sofar_at h st); next = λ z. absurd (omega arith); stays = λ some. refl }
+  pub past_obligation : (why : Refusal) → ((s : Sofar) → number_of why ≡ refusal_by header_tests s fields) → Past h st end (Err why)
+  past_obligation why is = record { refusal = is (sofar_at h st); next = tt }
 
-  pub past_other : wrong_fields (sofar_at h st) fields (line_of fields) ≡ true → Past h st end (record { refusal = 2; state = st })
-  past_other wrong = record { refusal = sym (wrong_refused header_tests (sofar_at h st) fields wrong); next = λ z. absurd (omega (arith, z)); stays = λ some. refl }
+  pub past_other : wrong_fields (sofar_at h st) fields (line_of fields) ≡ true → Past h st end (Err BadLine)
+  past_other wrong = record { refusal = sym (wrong_refused header_tests (sofar_at h st) fields wrong); next = tt }
 
   -- behind a line that is not refused
   pub among_next : (next : State) → Among h st → refusal_by header_tests (sofar_at h st) fields ≡ 0 → Next h blank blank blank blank st end next → Among h next

@@ -1,4 +1,5 @@
 -- Attribute lines, read one by one: what is left of them, read behind what was read so far.
+use Rattle.std.specs.Prelude.{Ok, Err}
 use Prim.Native.Nat.{ℕ, ◌+◌, ◌≤◌, ◌<◌, zero-le}
 use mathlib.Core.Path.{◌≡◌, refl, sym, ap, ◌∙◌, subst⁻¹}
 use native.Mathlib.Omega.{arith}
@@ -12,16 +13,19 @@ use Rattle.meaning.specs.Model.{Result, refused, given, ◌then◌}
 use Rattle.meaning.specs.Reading.{Line, attribute_line, tree_line, obligation_line, other_line, line_of, Sofar, wrong_fields, read_text, short}
 use Rattle.meaning.specs.Writing.{header_tests}
 use Rattle.meaning.specs.Claims.Texts.{All}
+use Rattle.refusals.specs.declared.Refusal.{Refusal}
+use Rattle.refusals.specs.Numbers.{number_of}
+use Rattle.refusals.proofs.Numbers.{from_one, not_zero}
 use Rattle.table.specs.Rows.{Rows}
 use Rattle.layout.specs.Places.{part, Clear}
 use Rattle.layout.proofs.Slots.{zeros_clear}
 use Rattle.attribute_lines.specs.declared.State.{State}
 use Rattle.attribute_lines.specs.Sofar.{refusal_by}
-use Rattle.attribute_lines.specs.Steps.{beginning, Next}
+use Rattle.attribute_lines.specs.Steps.{beginning}
 use Rattle.attribute_lines.proofs.Beginning.{beginning_ready}
 use Rattle.attribute_lines.proofs.Remaining.{lines_from, none_left, one_refused, one_read, lowest_within}
 use Rattle.header.specs.declared.Header.{Header}
-use Rattle.header.specs.Among.{blank, sofar_at, Among}
+use Rattle.header.specs.Among.{blank, sofar_at, Among, Past}
 use Rattle.header.specs.Told.{refused_with, HeaderAs}
 use Rattle.header.proofs.HeaderLines.{among_next}
 
@@ -94,17 +98,19 @@ module _ (h : Bytes) (st : State) (keeps : Keeps h st) (end : ℕ) (ends : end �
         })
 
   -- a line that is refused, and one that is not
-  module _ (inside : end < length h) (refusal : ℕ) (is-refusal : refusal ≡ refusal_by header_tests (sofar_at h st) (cut tab (part h st.at end))) where
-    pub refused_here : {r : Header} → r ≡ refused_with refusal st.line → (refusal ≡ 0 → ⊥) → HeaderAs h r (read_header h)
-    refused_here is some =
+  module _ (inside : end < length h) where
+    pub refused_here : (why : Refusal) → Past h st end (Err why) → {r : Header} → r ≡ refused_with (number_of why) st.line → HeaderAs h r (read_header h)
+    refused_here why past is =
         let fs = cut tab (part h st.at end) in
-        let reads = keeps.reads ∙ one_refused header_tests h st.at st.line (sofar_at h st) end ends inside (λ z. some (is-refusal ∙ z)) ∙ ap (λ k. refused k st.line) (sym is-refusal) in
-        told refusal reads is (omega arith) (omega (arith, is-refusal, refusal_low (sofar_at h st) fs))
+        let reads = keeps.reads ∙ one_refused header_tests h st.at st.line (sofar_at h st) end ends inside (λ z. not_zero why (past.refusal ∙ z)) ∙ ap (λ k. refused k st.line) (sym past.refusal) in
+        told (number_of why) reads is (from_one why) (omega (arith, past.refusal, refusal_low (sofar_at h st) fs))
 
-    pub keeps_next : (next : State) → refusal ≡ 0 → Next h blank blank blank blank st end next → Keeps h next
-    keeps_next next z n =
+    pub keeps_next : (next : State) → Past h st end (Ok next) → Keeps h next
+    keeps_next next past =
+        let n = past.next in
+        let none = sym past.refusal in
         record {
-          among = among_next h st end next keeps.among (sym is-refusal ∙ z) n;
+          among = among_next h st end next keeps.among none n;
           size = keeps.size;
-          reads = keeps.reads ∙ one_read header_tests h st.at st.line (sofar_at h st) end ends inside (sym is-refusal ∙ z) ∙ sym (rw (n.at_next, n.line_next, ap (λ x. x.sofar) n.laid));
+          reads = keeps.reads ∙ one_read header_tests h st.at st.line (sofar_at h st) end ends inside none ∙ sym (rw (n.at_next, n.line_next, ap (λ x. x.sofar) n.laid));
         }

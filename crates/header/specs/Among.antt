@@ -1,11 +1,12 @@
 -- A state of the reader among attribute lines, and the step over one line.
-use Rattle.std.specs.Prelude.{ℕ, ◌≡◌, List, [], replicate}
+use Rattle.std.specs.Prelude.{ℕ, ◌≡◌, List, [], replicate, Result, IfOk}
 use Rattle.meaning.specs.Text.{Bytes, cut, tab}
 use Rattle.meaning.specs.Reading.{Sofar}
 use Rattle.meaning.specs.Writing.{header_tests}
+use Rattle.refusals.specs.declared.Refusal.{Refusal}
+use Rattle.refusals.specs.Numbers.{number_in}
 use Rattle.layout.specs.Places.{part}
 use Rattle.attribute_lines.specs.declared.State.{State}
-use Rattle.attribute_lines.specs.declared.Step.{Step}
 use Rattle.attribute_lines.specs.Sofar.{refusal_by}
 use Rattle.attribute_lines.specs.Steps.{BeforeLine, Next, read_sofar}
 
@@ -20,8 +21,7 @@ pub record Among (h : Bytes) (st : State) : Type 0 where
   pub ready : BeforeLine h blank blank st
   pub no_element : (sofar_at h st).before ≡ []
 
--- One line, which a newline at `end` ends: the state behind it, or its refusal and the same state
-pub record Past (h : Bytes) (st : State) (end : ℕ) (r : Step) : Type 0 where
-  pub refusal : r.refusal ≡ refusal_by header_tests (sofar_at h st) (cut tab (part h st.at end))
-  pub next : r.refusal ≡ 0 → Next h blank blank blank blank st end r.state
-  pub stays : (r.refusal ≡ 0 → ⊥) → r.state ≡ st
+-- One line, which a newline at `end` ends: the state behind it, or its refusal
+pub record Past (h : Bytes) (st : State) (end : ℕ) (r : Result State Refusal) : Type 0 where
+  pub refusal : number_in r ≡ refusal_by header_tests (sofar_at h st) (cut tab (part h st.at end))
+  pub next : IfOk r (Next h blank blank blank blank st end)

@@ -7,13 +7,15 @@ ghost use Rattle.meaning.specs.Text.{cut, tab};
 ghost use Rattle.meaning.specs.Model.{◌then◌};
 ghost use Rattle.meaning.specs.Reading.{Sofar, read_text, short};
 ghost use Rattle.meaning.specs.Writing.{header_tests};
+ghost use Rattle.refusals.specs.Numbers.{number_of};
 ghost use Rattle.attribute_lines.specs.Sofar.{TreeLine, ObligationLine, refusal_by};
 ghost use Rattle.attribute_lines.specs.Steps.{EndedLine};
 ghost use Rattle.header.specs.Among.{Among, Past};
 ghost use Rattle.header.specs.Told.{refused_with, HeaderAs};
 
-use attribute_lines::{State, Step};
+use attribute_lines::State;
 use layout::Attributes;
+use refusals::Refusal;
 use syntax::LineKind;
 
 // What attribute lines hold, or the refusal's number and line and no attribute; number 0 is none.
@@ -24,36 +26,36 @@ pub struct Header {
     pub attributes: Attributes,
 }
 
-// The number that refuses a tree line of so many fields behind so many attributes.
-fn tree_refusal(line: &[u8], attributes: usize, fields: usize) -> usize
+// What refuses a tree line of so many fields behind so many attributes.
+fn tree_refusal(line: &[u8], attributes: usize, fields: usize) -> Refusal
     requires { (attributes ≤ 6) × ((k : Kind) × TreeLine (cut tab line.now) k fields) }
-    ensures { ((s : Sofar) → length s.attributes ≡ attributes → result ≡ refusal_by header_tests s (cut tab line.now)) × (1 ≤ result) }
+    ensures { (s : Sofar) → length s.attributes ≡ attributes → number_of result ≡ refusal_by header_tests s (cut tab line.now) }
 {
     if fields != 4 + attributes {
-        return 2;
+        return Refusal::BadLine;
     }
     if !names::is_name(fields::field(line, 2)) {
-        return 3;
+        return Refusal::BadName;
     }
-    6
+    Refusal::Misplaced
 }
 
-// The number that refuses an obligation's line of so many fields.
-fn obligation_refusal(line: &[u8], fields: usize) -> usize
+// What refuses an obligation's line of so many fields.
+fn obligation_refusal(line: &[u8], fields: usize) -> Refusal
     requires { ObligationLine (cut tab line.now) fields }
-    ensures { ((s : Sofar) → result ≡ refusal_by header_tests s (cut tab line.now)) × (1 ≤ result) }
+    ensures { (s : Sofar) → number_of result ≡ refusal_by header_tests s (cut tab line.now) }
 {
     if fields != 3 {
-        return 2;
+        return Refusal::BadLine;
     }
     if !names::is_name(fields::field(line, 1)) {
-        return 3;
+        return Refusal::BadName;
     }
-    14
+    Refusal::NoObligation
 }
 
 // One line, which a newline at `end` ends.
-fn header_line(header: &[u8], st: State, end: usize) -> Step
+fn header_line(header: &[u8], st: State, end: usize) -> Result<State, Refusal>
     requires { Among header.now st × EndedLine header.now st end }
     ensures { Past header.now st end result }
 {
@@ -66,19 +68,9 @@ fn header_line(header: &[u8], st: State, end: usize) -> Step
         LineKind::Attribute(several) => {
             attribute_lines::attribute_line(header, st, end, several, fields)
         }
-        LineKind::Tree(_) => {
-            let attributes = st.attributes;
-            let refusal = tree_refusal(line, attributes.len, fields);
-            Step { refusal, state: st }
-        }
-        LineKind::Obligation => {
-            let refusal = obligation_refusal(line, fields);
-            Step { refusal, state: st }
-        }
-        LineKind::Other => Step {
-            refusal: 2,
-            state: st,
-        },
+        LineKind::Tree(_) => Err(tree_refusal(line, st.attributes.len, fields)),
+        LineKind::Obligation => Err(obligation_refusal(line, fields)),
+        LineKind::Other => Err(Refusal::BadLine),
     }
 }
 
@@ -117,11 +109,9 @@ pub fn read_header(header: &[u8]) -> Header
                 attributes,
             };
         }
-        let step = header_line(header, st, end);
-        let refusal = step.refusal;
-        if refusal != 0 {
-            return refuse(refusal, line);
+        match header_line(header, st, end) {
+            Ok(next) => st = next,
+            Err(why) => return refuse(why.number() as usize, line),
         }
-        st = step.state;
     }
 }

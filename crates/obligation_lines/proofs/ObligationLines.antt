@@ -1,4 +1,5 @@
 -- An obligation's line that is read: what it laid down is the obligation of the nearest element, and the state behind it.
+use Rattle.std.specs.Prelude.{Result, Ok, Err}
 use mathlib.Core.Path.{◌≡◌, refl, sym, ap, ap₂, ◌∙◌, subst, subst⁻¹}
 use mathlib.Core.Logic.{◌≢◌, ⊎_elim}
 use Prim.Native.Nat.{ℕ, zero, suc, ◌+◌, ◌-◌, ◌≤◌, ◌<◌, zero-le, suc-le-suc}
@@ -8,7 +9,7 @@ use mathlib.Core.List.{List, [], ◌∷◌}
 use lib.Dec.{eqb, leb, ltb}
 use lib.ListN.{length, get_or}
 use lib.Seq.{length-sets}
-use borrow.Author.Tests.{eq-eqb, ne_eqb, leb-true, ltb-true, eqb-true, eqb-false, not-false}
+use borrow.Author.Tests.{leb-true, ltb-true, eqb-true, eqb-false, not-false}
 use Rattle.meaning.specs.declared.Word.{Word}
 use Rattle.meaning.specs.Text.{Bytes, bytes, is_none, cut, join, tab}
 use Rattle.meaning.specs.Model.{padded}
@@ -20,6 +21,7 @@ use Rattle.laws.proofs.Lines.{obligation_fields_lem}
 use Rattle.laws.proofs.Words.{word_again, word_allowed, word_had}
 use Rattle.laws.proofs.Bounds.{stored}
 use Rattle.laws.proofs.Reading.{Passes, lowest_zero, obligation_numbered}
+use Rattle.refusals.specs.declared.Refusal.{Refusal}
 use Rattle.layout.specs.declared.Tree.{Tree}
 use Rattle.layout.specs.Nearest.{nearest, Stands}
 use Rattle.layout.specs.Places.{part, effect_at, obligation_place, obligation_in, obligation_count, elements_to, Named, line_start, lines_to, Lined}
@@ -27,7 +29,6 @@ use Rattle.layout.proofs.Slots.{count_is, clear_still}
 use Rattle.layout.proofs.Obligations.{obligations_in_lem}
 use Rattle.layout.proofs.Obliging.{Oblige, elements_obliged, named_still, lined_obliged, obliged_still}
 use Rattle.attribute_lines.specs.declared.State.{State}
-use Rattle.attribute_lines.specs.declared.Step.{Step}
 use Rattle.attribute_lines.specs.Sofar.{refusal_of, ObligationLine}
 use Rattle.attribute_lines.specs.Steps.{BeforeLine, EndedLine, read_sofar, Next, StepIs}
 use Rattle.attribute_lines.proofs.LineKinds.{wrong_refused}
@@ -187,13 +188,11 @@ module _ {f table places : List ℕ} {st : State} {end n : ℕ} (ready : BeforeL
         }
 
   -- what the code tells of the line is the step of reading over it
-  pub obligation_told : {p : List ℕ} {r : Step} → ObligationStep f places p st end r → StepIs f table places table p st end r
-  obligation_told {p} {r} step =
-      let refusal = step.refusal s (follows ready) in
-      record {
-        refusal = refusal;
-        next = λ z. let p-is : p ≡ obliged places st.tree st.at fs = step.places_are ∙ rw (eq-eqb r.refusal 0 z) in
-            let state-is : r.state ≡ behind_obligation st end = step.state ∙ rw (eq-eqb r.refusal 0 z) in
-            rw (p-is, state-is) (obligation_next (sym refusal ∙ z));
-        stays = λ some. record { state = step.state ∙ rw (ne_eqb r.refusal 0 some); table_is = refl; places_are = step.places_are ∙ rw (ne_eqb r.refusal 0 some) };
-      }
+  pub obligation_told : {p : List ℕ} {r : Result State Refusal} → ObligationStep f places p st end r → StepIs f table places table p st end r
+  obligation_told {p} {r} step = go r step
+    where
+      go : (r : Result State Refusal) → ObligationStep f places p st end r → StepIs f table places table p st end r
+      go (Ok next) step =
+          let refusal = step.refusal s (follows ready) in
+          record { refusal = refusal; next = rw (step.laid, step.state) (obligation_next (sym refusal)); stays = tt }
+      go (Err why) step = record { refusal = step.refusal s (follows ready); next = tt; stays = record { table_is = refl; places_are = step.stays } }

@@ -1,18 +1,21 @@
 -- The step over an obligation's line: each of its refusals, and the line that is read.
+use Rattle.std.specs.Prelude.{Ok, Err}
 use Prim.Native.Nat.{ℕ, ◌+◌}
 use mathlib.Core.Path.{◌≡◌, refl, sym, ap₂, ◌∙◌}
 use mathlib.Core.List.{List, [], ◌∷◌}
 use lib.ListN.{length}
 use lib.Seq.{sets}
-use borrow.Author.Tests.{eq-eqb, ne_eqb}
 use Rattle.meaning.specs.Text.{Bytes, cut, tab}
-use Rattle.meaning.specs.Reading.{line_tests}
+use Rattle.meaning.specs.Reading.{Sofar, line_tests}
+use Rattle.refusals.specs.declared.Refusal.{Refusal}
+use Rattle.refusals.specs.declared.Refusal.TheVariants.{BadLine}
+use Rattle.refusals.specs.Numbers.{number_of}
 use Rattle.layout.specs.Places.{part, obligation_place}
 use Rattle.attribute_lines.specs.declared.State.{State}
-use Rattle.attribute_lines.specs.Sofar.{ObligationLine}
+use Rattle.attribute_lines.specs.Sofar.{refusal_of, ObligationLine}
 use Rattle.attribute_lines.proofs.LineKinds.{wrong_refused}
 use Rattle.attribute_lines.proofs.ObligationShape.{not_three, by_obligation_tests}
-use Rattle.obligation_lines.specs.Obligations.{ObligationRefusal, obliged, behind_obligation, ObligationStep}
+use Rattle.obligation_lines.specs.Obligations.{Follows, ObligationRefusal, obliged, behind_obligation, ObligationStep}
 
 -- equal places of a name
 pub same_slot : (places : List ℕ) (i start : ℕ) {k k' : ℕ} {name name' : Bytes} → k ≡ k' → name ≡ name' → sets places (obligation_place i k) (start ∷ (start + length name) ∷ []) ≡ sets places (obligation_place i k') (start ∷ (start + length name') ∷ [])
@@ -23,24 +26,17 @@ module _ (f places : List ℕ) (st : State) (end n : ℕ) (line : ObligationLine
   fs = cut tab (part f st.at end)
 
   -- a wrong field count
-  pub count_told : (n ≡ 3 → ⊥) → ObligationStep f places places st end (record { refusal = 2; state = st })
-  count_told h = record { refusal = λ s follows. sym (wrong_refused line_tests s fs (not_three s fs n line h)); state = refl; places_are = refl }
+  pub count_told : (n ≡ 3 → ⊥) → ObligationStep f places places st end (Err BadLine)
+  count_told h = record { refusal = λ s follows. sym (wrong_refused line_tests s fs (not_three s fs n line h)); state = tt; laid = tt; stays = refl }
 
-  module _ (three : n ≡ 3) (r : ℕ) (is : ObligationRefusal f places st.tree fs r) where
+  module _ (three : n ≡ 3) where
+    line_refusal : {r : ℕ} → ObligationRefusal f places st.tree fs r → (s : Sofar) → Follows f places st.tree s → r ≡ refusal_of s fs
+    line_refusal is s follows = is.is_lowest s follows ∙ sym (by_obligation_tests s fs n line three line_tests)
+
     -- one of 3, 4, 14 and 7
-    pub refused_told : (r ≡ 0 → ⊥) → ObligationStep f places places st end (record { refusal = r; state = st })
-    refused_told some =
-        record {
-          refusal = λ s follows. is.is_lowest s follows ∙ sym (by_obligation_tests s fs n line three line_tests);
-          state = rw (ne_eqb r 0 some);
-          places_are = rw (ne_eqb r 0 some);
-        }
+    pub refused_told : (why : Refusal) → ObligationRefusal f places st.tree fs (number_of why) → ObligationStep f places places st end (Err why)
+    refused_told why is = record { refusal = line_refusal is; state = tt; laid = tt; stays = refl }
 
     -- the line is read
-    pub read_told : r ≡ 0 → {next : State} {p : List ℕ} → next ≡ behind_obligation st end → p ≡ obliged places st.tree st.at fs → ObligationStep f places p st end (record { refusal = r; state = next })
-    read_told none is_state is-places =
-        record {
-          refusal = λ s follows. is.is_lowest s follows ∙ sym (by_obligation_tests s fs n line three line_tests);
-          state = rw (eq-eqb r 0 none) is_state;
-          places_are = rw (eq-eqb r 0 none) is-places;
-        }
+    pub read_told : ObligationRefusal f places st.tree fs 0 → {next : State} {p : List ℕ} → next ≡ behind_obligation st end → p ≡ obliged places st.tree st.at fs → ObligationStep f places p st end (Ok next)
+    read_told is is_state is-places = record { refusal = line_refusal is; state = is_state; laid = is-places; stays = tt }

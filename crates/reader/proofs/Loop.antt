@@ -1,4 +1,5 @@
 -- Reading line by line: what is left of a file, read behind what was read so far.
+use Rattle.std.specs.Prelude.{Ok, Err}
 use mathlib.Core.Path.{◌≡◌, refl, sym, ap, ◌∙◌, subst⁻¹}
 use Prim.Native.Nat.{ℕ, ◌+◌, ◌≤◌, ◌<◌, zero-le}
 use native.Mathlib.Omega.{arith}
@@ -11,11 +12,13 @@ use Rattle.meaning.specs.Text.{Bytes, cut, newline, tab}
 use Rattle.meaning.specs.Model.{Policy, Result, refused, given, ◌then◌}
 use Rattle.meaning.specs.Reading.{Line, attribute_line, tree_line, obligation_line, other_line, line_of, Sofar, wrong_fields, line_tests, extended, nothing, finished, read}
 use Rattle.meaning.specs.Claims.Texts.{All}
+use Rattle.refusals.specs.declared.Refusal.{Refusal}
+use Rattle.refusals.specs.Numbers.{number_of}
+use Rattle.refusals.proofs.Numbers.{from_one, not_zero}
 use Rattle.layout.specs.Places.{part}
 use Rattle.attribute_lines.specs.declared.State.{State}
 use Rattle.reader.specs.declared.Reading.{Reading}
 use Rattle.attribute_lines.specs.Sofar.{refusal_by, refusal_of}
-use Rattle.attribute_lines.specs.declared.Step.{Step}
 use Rattle.attribute_lines.specs.Laid.{Laid, with_line}
 use Rattle.reader.specs.Laid.{laid_by, laid_in}
 use Rattle.attribute_lines.specs.Steps.{BeforeLine, beginning, read_sofar, laid_at, StepIs}
@@ -114,23 +117,20 @@ module _ (f table₀ places₀ table places : List ℕ) (st : State) (ready : Be
       told (rw is (subst⁻¹ (ReadAs f table places (ended_at st end)) reads (ending f table places st end ready few_lines e))) (keeps.lays ∙ none_laid f st.at end (laid_at f table places st) ends e)
 
   -- a line that is refused, and one that is not
-  module _ (inside : end < length f) {t p : List ℕ} {step : Step} (is-step : StepIs f table places t p st end step) where
-    pub refused_here : {r : Reading} → (step.refusal ≡ 0 → ⊥) → r ≡ refused_with step.refusal st.line → ReadIs f table₀ places₀ t p r
-    refused_here {r} some is =
+  module _ (inside : end < length f) {t p : List ℕ} where
+    pub refused_here : (why : Refusal) → StepIs f table places t p st end (Err why) → {r : Reading} → r ≡ refused_with (number_of why) st.line → ReadIs f table₀ places₀ t p r
+    refused_here why is-step {r} is =
         let s = read_sofar f table places st in
         let fs = cut tab (part f st.at end) in
-        let other : (refusal_of s fs ≡ 0 → ⊥) = λ z. some (is-step.refusal ∙ z) in
+        let other : (refusal_of s fs ≡ 0 → ⊥) = λ z. not_zero why (is-step.refusal ∙ z) in
         let reads = keeps.reads ∙ line_refused f st.at st.line s end ends inside other ∙ ap (λ k. refused k st.line) (sym is-step.refusal) in
-        let same = is-step.stays some in
-        rw (same.table_is, same.places_are) (told (refusal_told f table places r step.refusal st.line reads is (not_zero step.refusal some) (omega (arith, is-step.refusal, refusal_low s fs)) few_lines) (keeps.lays ∙ stop_laid f st.at end (laid_at f table places st) ends inside other))
-      where
-        not_zero : (k : ℕ) → (k ≡ 0 → ⊥) → 1 ≤ k
-        not_zero k h = omega arith
+        let same = is-step.stays in
+        rw (same.table_is, same.places_are) (told (refusal_told f table places r (number_of why) st.line reads is (from_one why) (omega (arith, is-step.refusal, refusal_low s fs)) few_lines) (keeps.lays ∙ stop_laid f st.at end (laid_at f table places st) ends inside other))
 
-    pub keeps_next : step.refusal ≡ 0 → Keeps f table₀ places₀ t p step.state
-    keeps_next z =
-        let n = is-step.next z in
-        let none = sym is-step.refusal ∙ z in
+    pub keeps_next : (next : State) → StepIs f table places t p st end (Ok next) → Keeps f table₀ places₀ t p next
+    keeps_next next is-step =
+        let n = is-step.next in
+        let none = sym is-step.refusal in
         record {
           reads = keeps.reads ∙ line_read f st.at st.line (read_sofar f table places st) end ends inside none ∙ sym (rw (n.at_next, n.line_next, ap (λ x. x.sofar) n.laid));
           lays = keeps.lays ∙ next_laid f st.at end (laid_at f table places st) ends inside none ∙ sym (rw (n.at_next, n.laid));

@@ -9,9 +9,10 @@ ghost use Rattle.attribute_lines.specs.Sofar.{CountIs};
 ghost use Rattle.attribute_lines.specs.Steps.{BeforeLine, EndedLine, StepIs};
 ghost use Rattle.reader.specs.Told.{LineAt, refused_with, policy_shape, ended_at, ReadIs};
 
-use attribute_lines::{State, Step};
+use attribute_lines::State;
 use layout::Attributes;
 use meaning::Answer;
+use refusals::Refusal;
 use syntax::LineKind;
 use table::Shape;
 use text::Counted;
@@ -45,7 +46,7 @@ fn read_line(
     fields: usize,
     table: &mut [u16],
     places: &mut [usize],
-) -> Step
+) -> Result<State, Refusal>
     requires { BeforeLine file.now table.old places.old st × EndedLine file.now st end × CountIs (cut tab (part file.now st.at end)) fields }
     ensures { StepIs file.now table.old places.old table.new places.new st end result }
 {
@@ -59,10 +60,7 @@ fn read_line(
         }
         LineKind::Tree(k) => element_lines::tree_line(file, st, end, k, fields, table, places),
         LineKind::Obligation => obligation_lines::obligation_line(file, st, end, fields, places),
-        LineKind::Other => Step {
-            refusal: 2,
-            state: st,
-        },
+        LineKind::Other => Err(Refusal::BadLine),
     }
 }
 
@@ -120,12 +118,10 @@ pub fn read(file: &[u8], table: &mut [u16], places: &mut [usize]) -> Reading
         if end == file.len() {
             return finish(st, end);
         }
-        let step = read_line(file, st, end, found.fields, table, places);
-        let refusal = step.refusal;
-        if refusal != 0 {
-            return refuse(refusal, line);
+        match read_line(file, st, end, found.fields, table, places) {
+            Ok(next) => st = next,
+            Err(why) => return refuse(why.number() as usize, line),
         }
-        st = step.state;
     }
 }
 

@@ -1,15 +1,11 @@
 -- `attribute_line` meets its contract: what its tests say, and the places of its name and its values.
 use Prim.Native.Nat.{◌+◌, ◌-◌}
-use mathlib.Core.Path.{ap, ◌∙◌}
+use mathlib.Core.Path.{refl, ap, ◌∙◌}
 use native.Mathlib.Omega.{arith}
 use lib.ListN.{length}
-use borrow.Author.Tests.{eq-eqb, ne_eqb}
 use Rattle.layout.specs.Places.{added}
 use Rattle.attribute_lines.proofs.AttributeLines.{attribute_parts}
 use Rattle.attribute_lines.proofs.attribute_line.Goals as goal
-
-pub returns-then-refusal-ne0 : goal.returns-then-refusal-ne0
-returns-then-refusal-ne0 c = record { refusal = c.attribute_refusal-refusal.ensures; state = rw (ne_eqb _ 0 c.if-refusal-ne0.true) }
 
 pub overflow_add-first-2 : goal.overflow_add-first-2
 overflow_add-first-2 c =
@@ -18,18 +14,18 @@ overflow_add-first-2 c =
     omega arith
 
 pub with_attribute-attributes-requires : goal.with_attribute-attributes-requires
-with_attribute-attributes-requires c = c.attribute_refusal-refusal.ensures.few c.if-refusal-ne0.false
+with_attribute-attributes-requires c = c.in_ok-attribute_refusal.ensures.few refl
 
 pub choices-requires : goal.choices-requires
-choices-requires c = c.attribute_refusal-refusal.ensures.few_values c.if-refusal-ne0.false
+choices-requires c = c.in_ok-attribute_refusal.ensures.few_values refl
 
-pub overflow_mul-state : goal.overflow_mul-state
-overflow_mul-state c =
-    let small = c.attribute_refusal-refusal.ensures.small_space c.if-refusal-ne0.false in
+pub overflow_mul-result : goal.overflow_mul-result
+overflow_mul-result c =
+    let small = c.in_ok-attribute_refusal.ensures.small_space refl in
     rw c.choices.ensures (omega arith)
 
 pub returns : goal.returns
 returns c =
     let a = c.args in
     let attributes = c.with_attribute-attributes.ensures ∙ ap (λ name. added a.st.attributes a.several (a.st.at + 2) (a.st.at + 3 + length name) a.end (a.fields - 2)) c.field-name.ensures in
-    record { refusal = c.attribute_refusal-refusal.ensures; state = rw (eq-eqb _ 0 c.if-refusal-ne0.false, attributes, c.choices.ensures) }
+    record { refusal = c.in_ok-attribute_refusal.ensures; state = rw (attributes, c.choices.ensures) }

@@ -1,8 +1,10 @@
 -- `tree_line` meets its contract. Each answer is a step of `TreeSteps`, by what was found on the way to it.
 use Prim.Native.Nat.{ℕ}
-use mathlib.Core.Path.{refl, sym, ◌∙◌}
+use Rattle.std.specs.Prelude.{Err}
+use mathlib.Core.Path.{◌≡◌, refl, sym, ◌∙◌}
 use mathlib.Core.List.{List}
 use native.Mathlib.Omega.{arith}
+use borrow.Author.Rules.{rules}
 use borrow.Author.Tests.{not-true, not-false}
 use Rattle.layout.proofs.Laws.{element_names}
 use Rattle.attribute_lines.specs.declared.State.{State}
@@ -24,40 +26,40 @@ pub field_ends-e-requires : goal.field_ends-e-requires
 field_ends-e-requires c =
     omega (arith, c.requires.2.count)
 
-pub element_refusal-refusal-requires : goal.element_refusal-refusal-requires
-element_refusal-refusal-requires c =
+pub element_refusal-requires : goal.element_refusal-requires
+element_refusal-requires c =
     let pre = c.requires in
     (pre.0.rooms.named, pre.0.in_file.shallow, c.field_ends-e.ensures.headed, (_, behind pre.0))
 
-pub returns-then-refusal-ne0 : goal.returns-then-refusal-ne0
-returns-then-refusal-ne0 c =
+pub returns-in_err-element_refusal : goal.returns-in_err-element_refusal
+returns-in_err-element_refusal c =
     let pre = c.requires in
-    let lowest = c.element_refusal-refusal.ensures _ (behind pre.0) in
-    earlier_told _ _ _ _ _ _ _ pre.0 pre.1 pre.2 c.if-fields-attributes.false _ lowest c.if-refusal-ne0.true
+    let same : c.from_residual.result ≡ Err c.in_err-element_refusal.field-0.0 = search rules in
+    rw same (earlier_told _ _ _ _ _ _ _ pre.0 pre.1 pre.2 c.if-fields-attributes.false _ (c.in_err-element_refusal.ensures _ (behind pre.0)))
 
 pub line_masks-m-requires : goal.line_masks-m-requires
 line_masks-m-requires c =
     let pre = c.requires in
-    let lowest = c.element_refusal-refusal.ensures _ (behind pre.0) in
+    let passed = sym (c.in_ok-element_refusal.ensures _ (behind pre.0)) in
     let attributes = pre.0.in_file.attributes in
-    (attributes.standing, attributes.few_values, some_attribute _ _ _ _ _ _ _ pre.0 pre.1 pre.2 c.if-fields-attributes.false _ lowest c.if-refusal-ne0.false, sym pre.2.count ∙ c.if-fields-attributes.false, c.field_ends-e.ensures.headed)
+    (attributes.standing, attributes.few_values, some_attribute _ _ _ _ _ _ _ pre.0 pre.1 pre.2 c.if-fields-attributes.false passed, sym pre.2.count ∙ c.if-fields-attributes.false, c.field_ends-e.ensures.headed)
 
 pub returns-then-not-m : goal.returns-then-not-m
 returns-then-not-m c =
     let pre = c.requires in
-    let lowest = c.element_refusal-refusal.ensures _ (behind pre.0) in
-    targets_told _ _ _ _ _ _ _ pre.0 pre.1 pre.2 c.if-fields-attributes.false _ lowest c.if-refusal-ne0.false c.line_masks-m.ensures (not-true _ c.if-not-m.true)
+    let passed = sym (c.in_ok-element_refusal.ensures _ (behind pre.0)) in
+    targets_told _ _ _ _ _ _ _ pre.0 pre.1 pre.2 c.if-fields-attributes.false passed c.line_masks-m.ensures (not-true _ c.if-not-m.true)
 
-pub lay_line-state-requires : goal.lay_line-state-requires
-lay_line-state-requires c =
+pub lay_line-requires : goal.lay_line-requires
+lay_line-requires c =
     let pre = c.requires in
-    let lowest = c.element_refusal-refusal.ensures _ (behind pre.0) in
-    (room_there _ _ _ _ _ _ _ pre.0 pre.1 pre.2 c.if-fields-attributes.false _ lowest c.if-refusal-ne0.false (omega (arith, pre.1.ends)), c.field_ends-e.ensures.headed)
+    let passed = sym (c.in_ok-element_refusal.ensures _ (behind pre.0)) in
+    (room_there _ _ _ _ _ _ _ pre.0 pre.1 pre.2 c.if-fields-attributes.false passed (omega (arith, pre.1.ends)), c.field_ends-e.ensures.headed)
 
 pub returns : goal.returns
 returns c =
     let pre = c.requires in
-    let lowest = c.element_refusal-refusal.ensures _ (behind pre.0) in
+    let passed = sym (c.in_ok-element_refusal.ensures _ (behind pre.0)) in
     let good = not-false _ c.if-not-m.false in
-    let put = c.lay_line-state.ensures in
-    tree_told _ _ _ _ _ _ _ pre.0 pre.1 pre.2 c.if-fields-attributes.false _ lowest c.if-refusal-ne0.false c.line_masks-m.ensures _ _ _ good put.value put.table_after put.places_after
+    let put = c.lay_line.ensures in
+    tree_told _ _ _ _ _ _ _ pre.0 pre.1 pre.2 c.if-fields-attributes.false passed c.line_masks-m.ensures _ _ _ good put.value put.table_after put.places_after

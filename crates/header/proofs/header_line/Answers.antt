@@ -18,18 +18,18 @@ returns-in-Attribute c =
     let line = of_kind _ c.line_shape-shape.ensures c.in-Attribute.is in
     past_attribute _ _ _ _ line (attribute_told pre.0.ready pre.1 line c.attribute_line.ensures)
 
-pub tree_refusal-refusal-requires : goal.tree_refusal-refusal-requires
-tree_refusal-refusal-requires c =
+pub tree_refusal-requires : goal.tree_refusal-requires
+tree_refusal-requires c =
     (c.requires.0.ready.in_file.attributes.standing.few, (_, of_kind _ c.line_shape-shape.ensures c.in-Tree.is))
 
 pub returns-in-Tree : goal.returns-in-Tree
-returns-in-Tree c = past_tree _ _ _ _ _ refl c.tree_refusal-refusal.ensures
+returns-in-Tree c = past_tree _ _ _ _ _ refl c.tree_refusal.ensures
 
-pub obligation_refusal-refusal-requires : goal.obligation_refusal-refusal-requires
-obligation_refusal-refusal-requires c = of_kind _ c.line_shape-shape.ensures c.in-Obligation.is
+pub obligation_refusal-requires : goal.obligation_refusal-requires
+obligation_refusal-requires c = of_kind _ c.line_shape-shape.ensures c.in-Obligation.is
 
 pub returns-in-Obligation : goal.returns-in-Obligation
-returns-in-Obligation c = past_obligation _ _ _ _ c.obligation_refusal-refusal.ensures
+returns-in-Obligation c = past_obligation _ _ _ _ c.obligation_refusal.ensures
 
 pub returns-in-Other : goal.returns-in-Other
 returns-in-Other c =

@@ -1,5 +1,7 @@
 -- `read_header` meets its contract. The loop keeps that the lines left, read behind what was read so far, are the whole; the measure is the bytes left.
+use mathlib.Core.Path.{ap, ◌∙◌}
 use native.Mathlib.Omega.{arith}
+use Rattle.header.specs.Told.{refused_with}
 use Rattle.header.proofs.HeaderLoop.{too_long, keeps_first, left_over, all_read, refused_here, keeps_next}
 use Rattle.header.proofs.read_header.Goals as goal
 
@@ -18,21 +20,20 @@ returns-then-at-end c = left_over _ _ c.loop-st.invariant _ c.end_of-end.ensures
 pub returns-then-end-header : goal.returns-then-end-header
 returns-then-end-header c = all_read _ _ c.loop-st.invariant _ c.end_of-end.ensures.value c.if-end-header.true c.if-at-end.false
 
-pub header_line-step-requires : goal.header_line-step-requires
-header_line-step-requires c =
+pub header_line-requires : goal.header_line-requires
+header_line-requires c =
     let end = c.end_of-end.ensures in
     (c.loop-st.invariant.among, record { starts = end.within.0; ends = omega arith; all_of_it = end.value })
 
-pub returns-then-refusal-ne0 : goal.returns-then-refusal-ne0
-returns-then-refusal-ne0 c = refused_here _ _ c.loop-st.invariant _ c.end_of-end.ensures.value (omega arith) _ c.header_line-step.ensures.refusal c.refuse-then-refusal-ne0.ensures c.if-refusal-ne0.true
+pub returns-in-Err : goal.returns-in-Err
+returns-in-Err c =
+    let told = c.refuse-in-Err.ensures ∙ ap (λ n. refused_with n c.loop-st.st.line) c.number.ensures in
+    refused_here _ _ c.loop-st.invariant _ c.end_of-end.ensures.value (omega arith) c.in-Err.why c.in-Err.ensures told
 
 pub loop-st-smaller : goal.loop-st-smaller
 loop-st-smaller c =
-    let next = c.header_line-step.ensures.next c.if-refusal-ne0.false in
+    let next = c.in-Ok.ensures.next in
     omega (arith, next.at_next, next.ready.in_file.inside)
 
 pub loop-st-preserved : goal.loop-st-preserved
-loop-st-preserved c =
-    let past = c.header_line-step.ensures in
-    let none = c.if-refusal-ne0.false in
-    keeps_next _ _ c.loop-st.invariant _ c.end_of-end.ensures.value (omega arith) _ past.refusal _ none (past.next none)
+loop-st-preserved c = keeps_next _ _ c.loop-st.invariant _ c.end_of-end.ensures.value (omega arith) c.in-Ok.next c.in-Ok.ensures

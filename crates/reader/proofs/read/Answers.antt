@@ -1,11 +1,12 @@
 -- `read` meets its contract. The loop keeps that the lines left, read behind what was read so far, are the whole file, and
 -- that they lay down the rest of it. The measure is the bytes left.
 use Prim.Native.Nat.{◌≤◌, ◌<◌}
-use mathlib.Core.Path.{refl}
+use mathlib.Core.Path.{refl, ap, ◌∙◌}
 use native.Mathlib.Omega.{arith}
 use borrow.Author.Rules.{rules}
 use lib.ListN.{length}
 use Rattle.attribute_lines.proofs.Beginning.{beginning_ready}
+use Rattle.reader.specs.Told.{refused_with}
 use Rattle.reader.proofs.Loop.{keeps_first, long_told, ended, refused_here, keeps_next}
 use Rattle.reader.proofs.read.Goals as goal
 
@@ -27,28 +28,27 @@ returns-then-end-file c =
     let inv = c.loop-found.invariant in
     ended _ _ _ _ _ _ inv.2 inv.3 inv.4 _ c.line_at-found.ensures.all_of_it c.if-end-file.true c.finish.ensures
 
-pub read_line-step-requires : goal.read_line-step-requires
-read_line-step-requires c =
+pub read_line-requires : goal.read_line-requires
+read_line-requires c =
     let inv = c.loop-found.invariant in
     let here = c.line_at-found in
     let ends : here.result.end < length c.args.file.now = omega (arith, here.ensures.inside) in
     (inv.2, record { starts = here.ensures.starts; ends = ends; all_of_it = here.ensures.all_of_it }, here.ensures.count ends)
 
-pub returns-then-refusal-ne0 : goal.returns-then-refusal-ne0
-returns-then-refusal-ne0 c =
+pub returns-in-Err : goal.returns-in-Err
+returns-in-Err c =
     let inv = c.loop-found.invariant in
     let here = c.line_at-found.ensures in
-    refused_here _ _ _ _ _ _ inv.2 inv.3 inv.4 _ here.all_of_it (omega (arith, here.inside, c.if-end-file.false)) c.read_line-step.ensures c.if-refusal-ne0.true c.refuse-then-refusal-ne0.ensures
+    refused_here _ _ _ _ _ _ inv.2 inv.3 inv.4 _ here.all_of_it (omega (arith, here.inside, c.if-end-file.false)) c.in-Err.why c.in-Err.ensures (c.refuse-in-Err.ensures ∙ ap (λ n. refused_with n c.loop-found.st.line) c.number.ensures)
 
 pub loop-found-smaller : goal.loop-found-smaller
 loop-found-smaller c =
-    let next = c.read_line-step.ensures.next c.if-refusal-ne0.false in
+    let next = c.in-Ok.ensures.next in
     omega (arith, next.at_next, next.ready.in_file.inside)
 
 pub loop-found-preserved : goal.loop-found-preserved
 loop-found-preserved c =
     let inv = c.loop-found.invariant in
     let here = c.line_at-found.ensures in
-    let step = c.read_line-step.ensures in
-    let none = c.if-refusal-ne0.false in
-    (search rules, search rules, (step.next none).ready, inv.3, keeps_next _ _ _ _ _ _ inv.2 inv.3 inv.4 _ here.all_of_it (omega (arith, here.inside, c.if-end-file.false)) step none)
+    let step = c.in-Ok.ensures in
+    (search rules, search rules, step.next.ready, inv.3, keeps_next _ _ _ _ _ _ inv.2 inv.3 inv.4 _ here.all_of_it (omega (arith, here.inside, c.if-end-file.false)) c.in-Ok.next step)
