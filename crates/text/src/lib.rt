@@ -13,23 +13,7 @@ pub fn end_of(s: &[u8], at: usize, sep: u8) -> usize
     ensures value { result ≡ at + length (get_or (cut sep (drop at s.now)) 0 []) }
     ensures within { (at ≤ result) × (result ≤ length s.now) }
 {
-    let mut i = at;
-    while 4 <= s.len() - i {
-        if s[i] == sep {
-            return i;
-        }
-        if s[i + 1] == sep {
-            return i + 1;
-        }
-        if s[i + 2] == sep {
-            return i + 2;
-        }
-        if s[i + 3] == sep {
-            return i + 3;
-        }
-        i += 4;
-    }
-    runs::end_near(s, i, sep)
+    runs::first_from(s, at, |b| b == sep)
 }
 
 // How many pieces the text has: one more than there are bytes `sep`.
@@ -37,13 +21,10 @@ pub fn count_pieces(s: &[u8], sep: u8) -> usize
     ensures { result ≡ length (cut sep s.now) }
 {
     let mut pieces = 1;
-    let mut i = 0;
-    while i < s.len() {
-        let b = s[i];
-        if b == sep {
+    for b in s {
+        if *b == sep {
             pieces += 1;
         }
-        i += 1;
     }
     pieces
 }
@@ -120,10 +101,8 @@ pub fn from_field(line: &[u8], k: usize) -> &[u8]
     ensures { cut tab result.now ≡ drop k (cut tab line.now) }
 {
     let mut at = 0;
-    let mut n = 0;
-    while n < k {
+    for _n in 0..k {
         at = end_of(line, at, b'\t') + 1;
-        n += 1;
     }
     &line[at..]
 }

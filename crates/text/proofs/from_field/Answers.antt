@@ -1,6 +1,6 @@
 -- `text::from_field` meets its contract. The loop keeps that field n of the line starts at `at`.
 use Prim.Native.Nat.{ℕ}
-use mathlib.Core.Path.{◌≡◌, refl, sym, ap, ◌∙◌}
+use mathlib.Core.Path.{◌≡◌, sym, ap, ◌∙◌}
 use native.Mathlib.Omega.{arith}
 use borrow.Author.Rules.{rules}
 use lib.ListN.{drop}
@@ -9,18 +9,17 @@ use Rattle.text.proofs.Pieces.{rest_of}
 use Rattle.text.proofs.Fields.{next_field, another_field}
 use Rattle.text.proofs.from_field.Goals as goal
 
-pub loop-n-init : goal.loop-n-init
-loop-n-init c = (search rules, search rules, refl)
-
 pub loop-n-preserved : goal.loop-n-preserved
 loop-n-preserved c =
     let s = c.args.line.now in
+    let l = c.loop-n in
     let e = c.end_of-at in
-    let more = another_field s c.loop-n.at e.result e.ensures.value c.loop-n.n c.loop-n.invariant.2 (search rules) (omega arith) in
-    (omega arith, omega arith, next_field s c.loop-n.at e.result e.ensures.value c.loop-n.n c.loop-n.invariant.2 more)
+    let more = another_field s l.at e.result e.ensures.value l._n l.invariant.1 (search rules) (omega arith) in
+    (omega arith, next_field s l.at e.result e.ensures.value l._n l.invariant.1 more)
 
 pub returns : goal.returns
 returns c =
     let s = c.args.line.now in
-    let reached : c.loop-n.n ≡ c.args.k = omega arith in
-    ap (cut tab) (rest_of s c.loop-n.at) ∙ sym c.loop-n.invariant.2 ∙ ap (λ (j : ℕ). drop j (cut tab s)) reached
+    let l = c.loop-n in
+    let reached : l._n ≡ c.args.k = omega arith in
+    ap (cut tab) (rest_of s l.at) ∙ sym l.invariant.1 ∙ ap (λ (j : ℕ). drop j (cut tab s)) reached
