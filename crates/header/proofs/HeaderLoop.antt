@@ -14,8 +14,9 @@ use Rattle.meaning.specs.Reading.{Line, attribute_line, tree_line, obligation_li
 use Rattle.meaning.specs.Writing.{header_tests}
 use Rattle.meaning.specs.Claims.Texts.{All}
 use Rattle.refusals.specs.declared.Refusal.{Refusal}
+use Rattle.refusals.specs.declared.Refusal.TheVariants.{LongFile, BadLine}
 use Rattle.refusals.specs.Numbers.{number_of}
-use Rattle.refusals.proofs.Numbers.{from_one, not_zero}
+use Rattle.refusals.proofs.Numbers.{not_zero}
 use Rattle.table.specs.Rows.{Rows}
 use Rattle.layout.specs.Places.{part, Clear}
 use Rattle.layout.proofs.Slots.{zeros_clear}
@@ -24,9 +25,8 @@ use Rattle.attribute_lines.specs.Sofar.{refusal_by}
 use Rattle.attribute_lines.specs.Steps.{beginning}
 use Rattle.attribute_lines.proofs.Beginning.{beginning_ready}
 use Rattle.attribute_lines.proofs.Remaining.{lines_from, none_left, one_refused, one_read, lowest_within}
-use Rattle.header.specs.declared.Header.{Header}
 use Rattle.header.specs.Among.{blank, sofar_at, Among, Past}
-use Rattle.header.specs.Told.{refused_with, HeaderAs}
+use Rattle.header.specs.Told.{HeaderAs}
 use Rattle.header.proofs.HeaderLines.{among_next}
 
 -- what the writer reads in attribute lines
@@ -42,8 +42,8 @@ unfolding blank
 blank_clear = zeros_clear 512
 
 -- 1: they are too long
-pub too_long : (h : Bytes) {r : Header} → r ≡ refused_with 1 0 → 16384 < length h → HeaderAs h r (read_header h)
-too_long h is l = rw (lt-ltb 16384 (length h) l) (record { is = is; not_zero = lit≤ tt; low = lit≤ tt; small = zero-le })
+pub too_long : (h : Bytes) → 16384 < length h → HeaderAs h (Err (record { why = LongFile; second = 0 })) (read_header h)
+too_long h l = rw (lt-ltb 16384 (length h) l) (record { is = refl; low = lit≤ tt; small = zero-le })
 
 -- What the loop keeps: they read as the lines that remain behind what was read so far
 pub record Keeps (h : Bytes) (st : State) : Type 0 where
@@ -68,28 +68,26 @@ refusal_low s fs = lowest_within 14 ((2, wrong_fields s fs (line_of fs)) ∷ hea
     by_line other_line = tt
 
 module _ (h : Bytes) (st : State) (keeps : Keeps h st) (end : ℕ) (ends : end ≡ st.at + length (get_or (cut newline (drop st.at h)) 0 [])) where
-  few_lines : st.line ≤ 16385
+  pub few_lines : st.line ≤ 16385
   few_lines = omega (arith, keeps.size, keeps.among.ready.in_file.inside, keeps.among.ready.in_file.lines_passed)
 
   -- what is told of a refusal
-  told : (n : ℕ) {r : Header} → read_header h ≡ refused n st.line → r ≡ refused_with n st.line → 1 ≤ n → n ≤ 14 → HeaderAs h r (read_header h)
-  told n {r} e is some low = subst⁻¹ (HeaderAs h r) e (record { is = is; not_zero = some; low = low; small = few_lines })
+  told : (why : Refusal) → read_header h ≡ refused (number_of why) st.line → number_of why ≤ 14 → HeaderAs h (Err (record { why = why; second = st.line })) (read_header h)
+  told why e low = subst⁻¹ (HeaderAs h (Err (record { why = why; second = st.line }))) e (record { is = refl; low = low; small = few_lines })
 
   module _ (whole : end ≡ length h) where
     ended : read_header h ≡ cond (eqb st.at end) (given (sofar_at h st)) (refused 2 st.line)
     ended = keeps.reads ∙ none_left header_tests h st.at st.line (sofar_at h st) end ends keeps.among.ready.in_file.inside whole
 
     -- bytes behind the last newline
-    pub left_over : {r : Header} → r ≡ refused_with 2 st.line → (st.at ≡ end → ⊥) → HeaderAs h r (read_header h)
-    left_over is more = told 2 (ended ∙ rw (ne_eqb st.at end more)) is (lit≤ tt) (lit≤ tt)
+    pub left_over : (st.at ≡ end → ⊥) → HeaderAs h (Err (record { why = BadLine; second = st.line })) (read_header h)
+    left_over more = told BadLine (ended ∙ rw (ne_eqb st.at end more)) (lit≤ tt)
 
     -- the attributes
-    pub all_read : st.at ≡ end → HeaderAs h (record { number = 0; second = 0; attributes = st.attributes }) (read_header h)
+    pub all_read : st.at ≡ end → HeaderAs h (Ok st.attributes) (read_header h)
     all_read none =
         let reads : read_header h ≡ given (sofar_at h st) = ended ∙ rw (eq-eqb st.at end none) in
-        subst⁻¹ (HeaderAs h (record { number = 0; second = 0; attributes = st.attributes })) reads (record {
-          number = refl;
-          second = refl;
+        subst⁻¹ (HeaderAs h (Ok st.attributes)) reads (record {
           attributes = refl;
           places_are = keeps.among.ready.places_are;
           no_element = keeps.among.no_element;
@@ -99,11 +97,11 @@ module _ (h : Bytes) (st : State) (keeps : Keeps h st) (end : ℕ) (ends : end �
 
   -- a line that is refused, and one that is not
   module _ (inside : end < length h) where
-    pub refused_here : (why : Refusal) → Past h st end (Err why) → {r : Header} → r ≡ refused_with (number_of why) st.line → HeaderAs h r (read_header h)
-    refused_here why past is =
+    pub refused_here : (why : Refusal) → Past h st end (Err why) → HeaderAs h (Err (record { why = why; second = st.line })) (read_header h)
+    refused_here why past =
         let fs = cut tab (part h st.at end) in
         let reads = keeps.reads ∙ one_refused header_tests h st.at st.line (sofar_at h st) end ends inside (λ z. not_zero why (past.refusal ∙ z)) ∙ ap (λ k. refused k st.line) (sym past.refusal) in
-        told (number_of why) reads is (from_one why) (omega (arith, past.refusal, refusal_low (sofar_at h st) fs))
+        told why reads (omega (arith, past.refusal, refusal_low (sofar_at h st) fs))
 
     pub keeps_next : (next : State) → Past h st end (Ok next) → Keeps h next
     keeps_next next past =

@@ -11,20 +11,12 @@ ghost use Rattle.refusals.specs.Numbers.{number_of};
 ghost use Rattle.attribute_lines.specs.Sofar.{TreeLine, ObligationLine, refusal_by};
 ghost use Rattle.attribute_lines.specs.Steps.{EndedLine};
 ghost use Rattle.header.specs.Among.{Among, Past};
-ghost use Rattle.header.specs.Told.{refused_with, HeaderAs};
+ghost use Rattle.header.specs.Told.{HeaderAs};
 
 use attribute_lines::State;
 use layout::Attributes;
-use refusals::Refusal;
+use refusals::{Refusal, Refused};
 use syntax::LineKind;
-
-// What attribute lines hold, or the refusal's number and line and no attribute; number 0 is none.
-#[derive(Clone, Copy)]
-pub struct Header {
-    pub number: usize,
-    pub second: usize,
-    pub attributes: Attributes,
-}
 
 // What refuses a tree line of so many fields behind so many attributes.
 fn tree_refusal(line: &[u8], attributes: usize, fields: usize) -> Refusal
@@ -74,44 +66,33 @@ fn header_line(header: &[u8], st: State, end: usize) -> Result<State, Refusal>
     }
 }
 
-// Attribute lines that are refused.
-fn refuse(number: usize, second: usize) -> Header
-    ensures { result ≡ refused_with number second }
-{
-    let attributes = layout::no_attributes();
-    Header {
-        number,
-        second,
-        attributes,
-    }
-}
-
-// Reads attribute lines.
-pub fn read_header(header: &[u8]) -> Header
+// The attributes that attribute lines hold, or the refusal.
+pub fn read_header(header: &[u8]) -> Result<Attributes, Refused>
     ensures { HeaderAs header.now result (short header.now then (read_text header_tests)) }
 {
     let mut st = attribute_lines::start();
     if 16384 < header.len() {
-        return refuse(1, 0);
+        return Err(Refused {
+            why: Refusal::LongFile,
+            second: 0,
+        });
     }
     loop {
         let at = st.at;
-        let line = st.line;
+        let line = st.line as u32;
         let end = text::end_of(header, at, 10);
         if end == header.len() {
             if at != end {
-                return refuse(2, line);
+                return Err(Refused {
+                    why: Refusal::BadLine,
+                    second: line,
+                });
             }
-            let attributes = st.attributes;
-            return Header {
-                number: 0,
-                second: 0,
-                attributes,
-            };
+            return Ok(st.attributes);
         }
         match header_line(header, st, end) {
             Ok(next) => st = next,
-            Err(why) => return refuse(why.number() as usize, line),
+            Err(why) => return Err(Refused { why, second: line }),
         }
     }
 }

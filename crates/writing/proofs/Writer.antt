@@ -1,4 +1,5 @@
 -- The answer of the writer, from what was read of the attribute lines and what the test of the elements gave.
+use Rattle.std.specs.Prelude.{Ok, Err}
 use mathlib.Core.Path.{◌≡◌, refl, sym, ap, ◌∙◌, subst}
 use Prim.Native.Nat.{ℕ, zero, suc, ◌≤◌, ◌<◌}
 use native.Mathlib.Omega.{arith}
@@ -16,13 +17,14 @@ use Rattle.meaning.specs.Operations.{answered, lent, write_answer, write_lent}
 use Rattle.meaning.specs.Claims.Texts.{All}
 use Rattle.laws.proofs.Reading.{short_given}
 use Rattle.laws.proofs.GoodLists.{Small, taken_small, taken_few}
+use Rattle.refusals.specs.declared.Refused.{Refused}
+use Rattle.refusals.specs.Numbers.{number_of, answer_of}
 use Rattle.layout.specs.declared.Attributes.{Attributes}
 use Rattle.layout.specs.Places.{attributes_of, value_counts}
 use Rattle.layout.proofs.Laws.{attributes_length}
 use Rattle.layout.proofs.Counts.{counts_are}
 use Rattle.elements.specs.declared.Elements.{Elements}
 use Rattle.elements.specs.Listed.{blank, elements_of}
-use Rattle.header.specs.declared.Header.{Header}
 use Rattle.header.specs.Told.{HeaderHolds, HeaderAs}
 use Rattle.checking.specs.declared.Checked.{Checked}
 use Rattle.checking.specs.Tested.{taken as kept, CheckedAs}
@@ -54,125 +56,114 @@ small_at (e ∷ es) (suc i) a l = small_at es i a.1 (omega arith)
 pub of_held : (header old : Bytes) {new : Bytes} {es fs : List Element} {x : Answer} → es ≡ fs → (x ≡ write_answer header es old) × (new ≡ write_lent header es old) → (x ≡ write_answer header fs old) × (new ≡ write_lent header fs old)
 of_held header old {new} {x = x} e w = subst (λ gs. (x ≡ write_answer header gs old) × (new ≡ write_lent header gs old)) e w
 
-module _ (header : Bytes) (r : Header) (is : HeaderAs header r (short header then (read_text header_tests))) (old : Bytes) where
-  pub small_header : (r.number ≡ 0 → ⊥) → (r.number < 4294967296) × (r.second < 4294967296)
-  small_header h = go (short header then (read_text header_tests)) is
+-- attribute lines that are refused
+pub header_refused : (header : Bytes) (r : Refused) → HeaderAs header (Err r) (short header then (read_text header_tests)) → (es : List Element) (old : Bytes) → (answer_of r ≡ write_answer header es old) × (old ≡ write_lent header es old)
+header_refused header r is es old = (ap (answered length) (sym all), ap (lent old) (sym all))
+  where
+    go : (x : Result Sofar) → HeaderAs header (Err r) x → (x then behind (length old) header es) ≡ refused (number_of r.why) r.second
+    go (refused n m) t = λ i. refused (sym t.is i).number (sym t.is i).second
+    go (given s) t = absurd t
+
+    all : write_file (length old) header es ≡ refused (number_of r.why) r.second
+    all = write_is (length old) header es ∙ go (short header then (read_text header_tests)) is
+
+module _ (header : Bytes) (a : Attributes) (is : HeaderAs header (Ok a) (short header then (read_text header_tests))) (old : Bytes) where
+  pub header_read : (s : Sofar) × ((short header then (read_text header_tests)) ≡ given s) × HeaderHolds header a s
+  header_read = go (short header then (read_text header_tests)) refl is
     where
-      go : (x : Result Sofar) → HeaderAs header r x → (r.number < 4294967296) × (r.second < 4294967296)
-      go (refused n m) t = rw t.is (omega (arith, t.low), omega (arith, t.small))
-      go (given s) t = absurd (h t.number)
+      go : (x : Result Sofar) → (short header then (read_text header_tests)) ≡ x → HeaderAs header (Ok a) x → (s : Sofar) × ((short header then (read_text header_tests)) ≡ given s) × HeaderHolds header a s
+      go (refused n m) e t = absurd t
+      go (given s) e t = (s, e, t)
 
-  -- attribute lines that are refused
-  pub header_refused : (es : List Element) → (r.number ≡ 0 → ⊥) → (told r.number r.second ≡ write_answer header es old) × (old ≡ write_lent header es old)
-  header_refused es h = (ap (answered length) (sym all), ap (lent old) (sym all))
-    where
-      go : (x : Result Sofar) → HeaderAs header r x → (x then behind (length old) header es) ≡ refused r.number r.second
-      go (refused n m) t = λ i. refused (sym t.is i).number (sym t.is i).second
-      go (given s) t = absurd (h t.number)
+  pub holds : HeaderHolds header a header_read.0
+  holds = header_read.2
 
-      all : write_file (length old) header es ≡ refused r.number r.second
-      all = write_is (length old) header es ∙ go (short header then (read_text header_tests)) is
+  -- what was read so far: these attributes, and no element
+  abbrev start : Sofar
+  start = record { attributes = attributes_of header a; before = [] }
 
-  module _ (z : r.number ≡ 0) where
-    pub header_read : (s : Sofar) × ((short header then (read_text header_tests)) ≡ given s) × HeaderHolds header r s
-    header_read = go (short header then (read_text header_tests)) refl is
+  written_behind : (es : List Element) → write_file (length old) header es ≡ behind (length old) header es start
+  written_behind es =
+      let (s, e, t) = header_read in
+      write_is (length old) header es ∙ ap (λ x. x then behind (length old) header es) e ∙ (λ i. behind (length old) header es (record { attributes = t.attributes i; before = t.no_element i }))
+
+  module _ (list : Elements) (room : length list.all ≡ 65) (few : list.len ≤ 65) (c : Checked)
+      (checks : (attrs : List _) → take a.len a.counts ≡ value_counts attrs → CheckedAs c (read_elements (suc a.len) (record { attributes = attrs; before = [] }) (elements_of list))) where
+    abbrev es : List Element
+    es = elements_of list
+
+    tested : CheckedAs c (read_elements (suc (length (attributes_of header a))) start es)
+    tested = subst (λ n. CheckedAs c (read_elements (suc n) start es)) (sym (attributes_length header a)) (checks (attributes_of header a) (counts_are header a holds.spaced.standing))
+
+    pub small_checked : (c.number ≡ 0 → ⊥) → (c.number < 4294967296) × (c.line < 4294967296)
+    small_checked h = go (read_elements (suc (length (attributes_of header a))) start es) tested
       where
-        go : (x : Result Sofar) → (short header then (read_text header_tests)) ≡ x → HeaderAs header r x → (s : Sofar) × ((short header then (read_text header_tests)) ≡ given s) × HeaderHolds header r s
-        go (refused n m) e t = absurd (omega (arith, ap (λ x. x.number) t.is, t.not_zero))
-        go (given s) e t = (s, e, t)
+        go : (x : Result Sofar) → CheckedAs c x → (c.number < 4294967296) × (c.line < 4294967296)
+        go (refused n m) t = (omega (arith, t.number, t.low), omega (arith, t.line, t.small))
+        go (given s) t = absurd (h t.number)
 
-    pub holds : HeaderHolds header r header_read.0
-    holds = header_read.2
+    -- an element that is refused
+    pub element_refused : (c.number ≡ 0 → ⊥) → (told c.number c.line ≡ write_answer header es old) × (old ≡ write_lent header es old)
+    element_refused h = (ap (answered length) (sym all), ap (lent old) (sym all))
+      where
+        rest : Result Sofar → Result Bytes
+        rest x = x then finished then λ p. short (header ++ gathered (element_lines p.attributes) p.elements) then fitted (length old)
 
-    abbrev a : Attributes
-    a = r.attributes
+        go : (x : Result Sofar) → CheckedAs c x → rest x ≡ refused c.number c.line
+        go (refused n m) t = λ i. refused (sym t.number i) (sym t.line i)
+        go (given s) t = absurd (h t.number)
 
-    -- what was read so far: these attributes, and no element
-    abbrev start : Sofar
-    start = record { attributes = attributes_of header a; before = [] }
+        all : write_file (length old) header es ≡ refused c.number c.line
+        all = written_behind es ∙ go (read_elements (suc (length (attributes_of header a))) start es) tested
 
-    written_behind : (es : List Element) → write_file (length old) header es ≡ behind (length old) header es start
-    written_behind es =
-        let (s, e, t) = header_read in
-        write_is (length old) header es ∙ ap (λ x. x then behind (length old) header es) e ∙ (λ i. behind (length old) header es (record { attributes = t.attributes i; before = t.no_element i }))
+    -- no element
+    pub none_given : list.len ≡ 0 → (told 9 0 ≡ write_answer header es old) × (old ≡ write_lent header es old)
+    none_given e =
+        let none : es ≡ [] = ap (λ k. take k list.all) e in
+        let all : write_file (length old) header es ≡ refused 9 0 = ap (write_file (length old) header) none ∙ written_behind [] in
+        (ap (answered length) (sym all), ap (lent old) (sym all))
 
-    module _ (list : Elements) (room : length list.all ≡ 65) (few : list.len ≤ 65) (c : Checked)
-        (checks : (attrs : List _) → take a.len a.counts ≡ value_counts attrs → CheckedAs c (read_elements (suc a.len) (record { attributes = attrs; before = [] }) (elements_of list))) where
-      abbrev es : List Element
-      es = elements_of list
-
-      tested : CheckedAs c (read_elements (suc (length (attributes_of header a))) start es)
-      tested = subst (λ n. CheckedAs c (read_elements (suc n) start es)) (sym (attributes_length header a)) (checks (attributes_of header a) (counts_are header a holds.spaced.standing))
-
-      pub small_checked : (c.number ≡ 0 → ⊥) → (c.number < 4294967296) × (c.line < 4294967296)
-      small_checked h = go (read_elements (suc (length (attributes_of header a))) start es) tested
+    -- elements that are good
+    module _ (fine : c.number ≡ 0) where
+      taken : (z : Sofar) × (read_elements (suc (length (attributes_of header a))) start es ≡ given z)
+      taken = go (read_elements (suc (length (attributes_of header a))) start es) refl tested
         where
-          go : (x : Result Sofar) → CheckedAs c x → (c.number < 4294967296) × (c.line < 4294967296)
-          go (refused n m) t = (omega (arith, t.number, t.low), omega (arith, t.line, t.small))
-          go (given s) t = absurd (h t.number)
+          go : (x : Result Sofar) → read_elements (suc (length (attributes_of header a))) start es ≡ x → CheckedAs c x → (z : Sofar) × (read_elements (suc (length (attributes_of header a))) start es ≡ given z)
+          go (refused n m) e t = absurd (omega (arith, t.number, t.from_three))
+          go (given z) e t = (z, e)
 
-      -- an element that is refused
-      pub element_refused : (c.number ≡ 0 → ⊥) → (told c.number c.line ≡ write_answer header es old) × (old ≡ write_lent header es old)
-      element_refused h = (ap (answered length) (sym all), ap (lent old) (sym all))
+      size : length es ≡ list.len
+      size = length-take-le list.len list.all (omega arith)
+
+      pub writable : Writable header a list
+      writable =
+          let (y, e) = taken in
+          let most = taken_few (suc (length (attributes_of header a))) start es y e (omega arith) in
+          record {
+            headed = record { short = holds.size; standing = holds.spaced.standing; few_values = holds.spaced.few_values };
+            few = omega (arith, size);
+            each = λ i l. let small = subst Small (get_or-take list.len list.all i blank l) (small_at es i (taken_small (suc (length (attributes_of header a))) start es y e) (omega (arith, size))) in
+                record { name = small.short; depth = small.shallow; few_obligations = small.few_obligations; obligations = small.short_obligations };
+          }
+
+      pub text_written : (list.len ≡ 0 → ⊥) → {new : Bytes} {x : _} → Gives (header ++ gathered (element_lines (attributes_of header a)) es) old new x → (x ≡ write_answer header es old) × (new ≡ write_lent header es old)
+      text_written some {new} {x} (answer, lends) = (answer ∙ ap (answered length) (sym all), lends ∙ ap (lent old) (sym all))
         where
           rest : Result Sofar → Result Bytes
           rest x = x then finished then λ p. short (header ++ gathered (element_lines p.attributes) p.elements) then fitted (length old)
 
-          go : (x : Result Sofar) → CheckedAs c x → rest x ≡ refused c.number c.line
-          go (refused n m) t = λ i. refused (sym t.number i) (sym t.line i)
-          go (given s) t = absurd (h t.number)
+          -- the policy that they make
+          made : (y : Sofar) → y.attributes ≡ attributes_of header a → reverse y.before ≡ map kept es → rest (given y) ≡ (short (header ++ gathered (element_lines (attributes_of header a)) es) then fitted (length old))
+          made y attributes elements = go y.before refl
+            where
+              go : (before : List Element) → y.before ≡ before → rest (given y) ≡ (short (header ++ gathered (element_lines (attributes_of header a)) es) then fitted (length old))
+              go [] e = absurd (some (sym size ∙ sym (length-map es kept) ∙ ap length (sym elements) ∙ ap (λ b. length (reverse b)) e))
+              go (x ∷ xs) e =
+                  rw e (λ i. short (header ++ gathered (element_lines (attributes i)) ((ap reverse (sym e) ∙ elements) i)) then fitted (length old))
+                  ∙ ap (λ t. short (header ++ t) then fitted (length old)) (lines_kept (attributes_of header a) es)
 
-          all : write_file (length old) header es ≡ refused c.number c.line
-          all = written_behind es ∙ go (read_elements (suc (length (attributes_of header a))) start es) tested
-
-      -- no element
-      pub none_given : list.len ≡ 0 → (told 9 0 ≡ write_answer header es old) × (old ≡ write_lent header es old)
-      none_given e =
-          let none : es ≡ [] = ap (λ k. take k list.all) e in
-          let all : write_file (length old) header es ≡ refused 9 0 = ap (write_file (length old) header) none ∙ written_behind [] in
-          (ap (answered length) (sym all), ap (lent old) (sym all))
-
-      -- elements that are good
-      module _ (fine : c.number ≡ 0) where
-        taken : (z : Sofar) × (read_elements (suc (length (attributes_of header a))) start es ≡ given z)
-        taken = go (read_elements (suc (length (attributes_of header a))) start es) refl tested
-          where
-            go : (x : Result Sofar) → read_elements (suc (length (attributes_of header a))) start es ≡ x → CheckedAs c x → (z : Sofar) × (read_elements (suc (length (attributes_of header a))) start es ≡ given z)
-            go (refused n m) e t = absurd (omega (arith, t.number, t.from_three))
-            go (given z) e t = (z, e)
-
-        size : length es ≡ list.len
-        size = length-take-le list.len list.all (omega arith)
-
-        pub writable : Writable header a list
-        writable =
-            let (y, e) = taken in
-            let most = taken_few (suc (length (attributes_of header a))) start es y e (omega arith) in
-            record {
-              headed = record { short = holds.size; standing = holds.spaced.standing; few_values = holds.spaced.few_values };
-              few = omega (arith, size);
-              each = λ i l. let small = subst Small (get_or-take list.len list.all i blank l) (small_at es i (taken_small (suc (length (attributes_of header a))) start es y e) (omega (arith, size))) in
-                  record { name = small.short; depth = small.shallow; few_obligations = small.few_obligations; obligations = small.short_obligations };
-            }
-
-        pub text_written : (list.len ≡ 0 → ⊥) → {new : Bytes} {x : _} → Gives (header ++ gathered (element_lines (attributes_of header a)) es) old new x → (x ≡ write_answer header es old) × (new ≡ write_lent header es old)
-        text_written some {new} {x} (answer, lends) = (answer ∙ ap (answered length) (sym all), lends ∙ ap (lent old) (sym all))
-          where
-            rest : Result Sofar → Result Bytes
-            rest x = x then finished then λ p. short (header ++ gathered (element_lines p.attributes) p.elements) then fitted (length old)
-
-            -- the policy that they make
-            made : (y : Sofar) → y.attributes ≡ attributes_of header a → reverse y.before ≡ map kept es → rest (given y) ≡ (short (header ++ gathered (element_lines (attributes_of header a)) es) then fitted (length old))
-            made y attributes elements = go y.before refl
-              where
-                go : (before : List Element) → y.before ≡ before → rest (given y) ≡ (short (header ++ gathered (element_lines (attributes_of header a)) es) then fitted (length old))
-                go [] e = absurd (some (sym size ∙ sym (length-map es kept) ∙ ap length (sym elements) ∙ ap (λ b. length (reverse b)) e))
-                go (x ∷ xs) e =
-                    rw e (λ i. short (header ++ gathered (element_lines (attributes i)) ((ap reverse (sym e) ∙ elements) i)) then fitted (length old))
-                    ∙ ap (λ t. short (header ++ t) then fitted (length old)) (lines_kept (attributes_of header a) es)
-
-            all : write_file (length old) header es ≡ (short (header ++ gathered (element_lines (attributes_of header a)) es) then fitted (length old))
-            all =
-                let (y, e) = taken in
-                let (attributes, elements) = elements_kept (suc (length (attributes_of header a))) start es y e in
-                written_behind es ∙ ap rest e ∙ made y attributes elements
+          all : write_file (length old) header es ≡ (short (header ++ gathered (element_lines (attributes_of header a)) es) then fitted (length old))
+          all =
+              let (y, e) = taken in
+              let (attributes, elements) = elements_kept (suc (length (attributes_of header a))) start es y e in
+              written_behind es ∙ ap rest e ∙ made y attributes elements

@@ -42,14 +42,10 @@ pub fn write(header: &[u8], list: Elements, out: &mut [u8]) -> Answer
     ensures out_after { out.new ≡ write_lent header.now (elements_of list) out.old }
 {
     let held = elements::held(list);
-    let read = header::read_header(header);
-    if read.number != 0 {
-        return Answer {
-            number: read.number as u32,
-            second: read.second as u32,
-        };
-    }
-    let a = read.attributes;
+    let a = match header::read_header(header) {
+        Ok(attributes) => attributes,
+        Err(refused) => return Answer::from(refused),
+    };
     let counts = a.counts;
     let checked = checking::check_elements(counts, a.len, held);
     if checked.number != 0 {

@@ -6,41 +6,35 @@ use mathlib.Core.List.{[]}
 use lib.ListN.{length}
 use Rattle.elements.specs.Listed.{elements_of}
 use Rattle.elements.proofs.Listing.{mapped_length, held_elements}
-use Rattle.writing.proofs.Writer.{of_held, small_header, header_refused, holds, small_checked, element_refused, none_given, writable, text_written}
+use Rattle.writing.proofs.Writer.{of_held, header_refused, holds, small_checked, element_refused, none_given, writable, text_written}
 use borrow.Author.Rules.{rules}
 use Rattle.writing.proofs.write.Goals as goal
 
-pub overflow_cast-result : goal.overflow_cast-result
-overflow_cast-result c = let small = small_header c.args.header.now c.read_header-read.result c.read_header-read.ensures [] c.if-read-ne0.true in omega (arith, small.0, small.1)
-
-pub overflow_cast-result-then-read-ne0 : goal.overflow_cast-result-then-read-ne0
-overflow_cast-result-then-read-ne0 c = let small = small_header c.args.header.now c.read_header-read.result c.read_header-read.ensures [] c.if-read-ne0.true in omega (arith, small.0, small.1)
-
-pub returns-then-read-ne0 : goal.returns-then-read-ne0
-returns-then-read-ne0 c =
-    let (value, after) = header_refused c.args.header.now c.read_header-read.result c.read_header-read.ensures c.args.out.now (elements_of c.args.list) c.if-read-ne0.true in
-    record { value = value; out_after = after }
+pub returns-in-Err : goal.returns-in-Err
+returns-in-Err c =
+    let (value, after) = header_refused c.args.header.now c.in-Err.refused c.in-Err.ensures (elements_of c.args.list) c.args.out.now in
+    record { value = c.from.ensures ∙ value; out_after = after }
 
 pub check_elements-checked-requires : goal.check_elements-checked-requires
 check_elements-checked-requires c =
     let few : c.held-held.result.len ≤ 65 = omega (arith, ap (λ l. l.len) c.held-held.ensures) in
-    let spaced = (holds c.args.header.now c.read_header-read.result c.read_header-read.ensures [] c.if-read-ne0.false).spaced in
+    let spaced = (holds c.args.header.now c.in-Ok.attributes c.in-Ok.ensures []).spaced in
     (record { few = spaced.standing.few; few_values = spaced.few_values }, few)
+
+pub overflow_cast-result : goal.overflow_cast-result
+overflow_cast-result c =
+    let places : length c.args.list.all ≡ 65 = search (rules, mapped_length) in
+    let room : length c.held-held.result.all ≡ 65 = ap (λ l. length l.all) c.held-held.ensures ∙ places in
+    let few : c.held-held.result.len ≤ 65 = omega (arith, ap (λ l. l.len) c.held-held.ensures) in
+    let small = small_checked c.args.header.now c.in-Ok.attributes c.in-Ok.ensures [] _ (room) (few) c.check_elements-checked.result c.check_elements-checked.ensures c.if-checked-ne0.true in
+    omega (arith, small.0, small.1)
 
 pub overflow_cast-result-then-checked-ne0 : goal.overflow_cast-result-then-checked-ne0
 overflow_cast-result-then-checked-ne0 c =
     let places : length c.args.list.all ≡ 65 = search (rules, mapped_length) in
     let room : length c.held-held.result.all ≡ 65 = ap (λ l. length l.all) c.held-held.ensures ∙ places in
     let few : c.held-held.result.len ≤ 65 = omega (arith, ap (λ l. l.len) c.held-held.ensures) in
-    let small = small_checked c.args.header.now c.read_header-read.result c.read_header-read.ensures [] c.if-read-ne0.false _ (room) (few) c.check_elements-checked.result c.check_elements-checked.ensures c.if-checked-ne0.true in
-    omega (arith, small.0, small.1)
-
-pub overflow_cast-result-then-checked-ne0-2 : goal.overflow_cast-result-then-checked-ne0-2
-overflow_cast-result-then-checked-ne0-2 c =
-    let places : length c.args.list.all ≡ 65 = search (rules, mapped_length) in
-    let room : length c.held-held.result.all ≡ 65 = ap (λ l. length l.all) c.held-held.ensures ∙ places in
-    let few : c.held-held.result.len ≤ 65 = omega (arith, ap (λ l. l.len) c.held-held.ensures) in
-    let small = small_checked c.args.header.now c.read_header-read.result c.read_header-read.ensures [] c.if-read-ne0.false _ (room) (few) c.check_elements-checked.result c.check_elements-checked.ensures c.if-checked-ne0.true in
+    let small = small_checked c.args.header.now c.in-Ok.attributes c.in-Ok.ensures [] _ (room) (few) c.check_elements-checked.result c.check_elements-checked.ensures c.if-checked-ne0.true in
     omega (arith, small.0, small.1)
 
 pub returns-then-checked-ne0 : goal.returns-then-checked-ne0
@@ -50,7 +44,7 @@ returns-then-checked-ne0 c =
     let few : c.held-held.result.len ≤ 65 = omega (arith, ap (λ l. l.len) c.held-held.ensures) in
     let same_elements : elements_of c.held-held.result ≡ elements_of c.args.list = ap elements_of c.held-held.ensures ∙ held_elements c.args.list (places) in
     let out = c.args.out.now in
-    let (value, after) = of_held c.args.header.now out (same_elements) (element_refused c.args.header.now c.read_header-read.result c.read_header-read.ensures out c.if-read-ne0.false _ (room) (few) c.check_elements-checked.result c.check_elements-checked.ensures c.if-checked-ne0.true) in
+    let (value, after) = of_held c.args.header.now out (same_elements) (element_refused c.args.header.now c.in-Ok.attributes c.in-Ok.ensures out _ (room) (few) c.check_elements-checked.result c.check_elements-checked.ensures c.if-checked-ne0.true) in
     record { value = value; out_after = after }
 
 pub returns-then-held-eq0 : goal.returns-then-held-eq0
@@ -60,7 +54,7 @@ returns-then-held-eq0 c =
     let few : c.held-held.result.len ≤ 65 = omega (arith, ap (λ l. l.len) c.held-held.ensures) in
     let same_elements : elements_of c.held-held.result ≡ elements_of c.args.list = ap elements_of c.held-held.ensures ∙ held_elements c.args.list (places) in
     let out = c.args.out.now in
-    let (value, after) = of_held c.args.header.now out (same_elements) (none_given c.args.header.now c.read_header-read.result c.read_header-read.ensures out c.if-read-ne0.false _ (room) (few) c.check_elements-checked.result c.check_elements-checked.ensures c.if-held-eq0.true) in
+    let (value, after) = of_held c.args.header.now out (same_elements) (none_given c.args.header.now c.in-Ok.attributes c.in-Ok.ensures out _ (room) (few) c.check_elements-checked.result c.check_elements-checked.ensures c.if-held-eq0.true) in
     record { value = value; out_after = after }
 
 pub write_text-requires : goal.write_text-requires
@@ -68,7 +62,7 @@ write_text-requires c =
     let places : length c.args.list.all ≡ 65 = search (rules, mapped_length) in
     let room : length c.held-held.result.all ≡ 65 = ap (λ l. length l.all) c.held-held.ensures ∙ places in
     let few : c.held-held.result.len ≤ 65 = omega (arith, ap (λ l. l.len) c.held-held.ensures) in
-    writable c.args.header.now c.read_header-read.result c.read_header-read.ensures [] c.if-read-ne0.false _ (room) (few) c.check_elements-checked.result c.check_elements-checked.ensures c.if-checked-ne0.false
+    writable c.args.header.now c.in-Ok.attributes c.in-Ok.ensures [] _ (room) (few) c.check_elements-checked.result c.check_elements-checked.ensures c.if-checked-ne0.false
 
 pub returns : goal.returns
 returns c =
@@ -77,5 +71,5 @@ returns c =
     let few : c.held-held.result.len ≤ 65 = omega (arith, ap (λ l. l.len) c.held-held.ensures) in
     let same_elements : elements_of c.held-held.result ≡ elements_of c.args.list = ap elements_of c.held-held.ensures ∙ held_elements c.args.list (places) in
     let out = c.args.out.now in
-    let (value, after) = of_held c.args.header.now out (same_elements) (text_written c.args.header.now c.read_header-read.result c.read_header-read.ensures out c.if-read-ne0.false _ (room) (few) c.check_elements-checked.result c.check_elements-checked.ensures c.if-checked-ne0.false c.if-held-eq0.false (c.write_text.ensures.value, c.write_text.ensures.out_after)) in
+    let (value, after) = of_held c.args.header.now out (same_elements) (text_written c.args.header.now c.in-Ok.attributes c.in-Ok.ensures out _ (room) (few) c.check_elements-checked.result c.check_elements-checked.ensures c.if-checked-ne0.false c.if-held-eq0.false (c.write_text.ensures.value, c.write_text.ensures.out_after)) in
     record { value = value; out_after = after }
