@@ -15,6 +15,7 @@ ghost use Rattle.trials.specs.Trial.{Laid};
 ghost use Rattle.trimmed_text.specs.Held.{PolicyHeld};
 ghost use Rattle.accepting.specs.Judged.{lines_from, judged_at, LeavesOthersOut};
 
+use differences::{PolicyFile, PolicyOutcomes};
 use meaning::Answer;
 use table::Shape;
 
@@ -37,26 +38,15 @@ fn line_of(places: &[usize], struck: &[u8], attributes: usize, i: usize) -> usiz
 }
 
 // The topmost needless rule, or n; the decisions are laid down.
-fn first_needless(
-    file: &[u8],
-    places: &[usize],
-    table: &[u16],
-    struck: &mut [u8],
-    hits: &[u64],
-    shape: Shape,
-    outcomes: &[u64],
-) -> usize
-    requires { Laid file.now places.now table.now struck.old hits.now outcomes.now shape }
-    ensures { (result ≡ place_or shape.n (first_from (needless_at file.now places.now table.now shape.n (hit_of shape) shape.space struck.old) 0 shape.n)) × (struck.new ≡ struck.old) }
+fn first_needless(o: &PolicyOutcomes, struck: &mut [u8]) -> usize
+    requires { let p = o.now.policy in Laid p.file.now p.places.now p.table.now struck.old o.now.hits.now o.now.outcomes.now p.shape }
+    ensures { let p = o.now.policy in (result ≡ place_or p.shape.n (first_from (needless_at p.file.now p.places.now p.table.now p.shape.n (hit_of p.shape) p.shape.space struck.old) 0 p.shape.n)) × (struck.new ≡ struck.old) }
 {
-    let n = shape.n;
-    let space = shape.space;
-    let obliged = obligations::any_obligations(places, n);
+    let n = o.policy.shape.n;
+    let space = o.policy.shape.space;
     let mut i = 0;
     while i < n {
-        let tried = trials::needless(
-            file, places, table, struck, hits, shape, outcomes, obliged, i, space,
-        );
+        let tried = trials::needless(o, struck, i, space);
         if tried.needless {
             return i;
         }
@@ -75,16 +65,26 @@ fn judge(file: &[u8], table: &[u16], places: &[usize], shape: Shape, struck: &mu
     let mut hits = [0u64; 4096];
     let mut outcomes = [0u64; 128];
     outcomes::find_outcomes(table, &none, shape, &mut hits, &mut outcomes);
-    let request = differences::first_difference(
-        file, places, table, &none, struck, &hits, shape, &outcomes,
-    );
+    let obliged = obligations::any_obligations(places, n);
+    let o = PolicyOutcomes {
+        policy: PolicyFile {
+            file,
+            places,
+            table,
+            shape,
+        },
+        hits: &hits,
+        outcomes: &outcomes,
+        obliged,
+    };
+    let request = o.first_difference(&none, struck);
     if request < shape.space {
         return Answer {
             number: 17,
             second: request as u32,
         };
     }
-    let rule = first_needless(file, places, table, struck, &hits, shape, &outcomes);
+    let rule = first_needless(&o, struck);
     if rule == n {
         return Answer {
             number: 0,

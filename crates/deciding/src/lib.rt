@@ -10,6 +10,7 @@ ghost use Rattle.chains.specs.Chain.{chained};
 ghost use Rattle.deciding.specs.Told.{outcome_on, Told, Asking};
 
 use meaning::{Answer, Decided};
+use obligations::Marks;
 use requests::Request;
 
 // The word whose lowest bit says this.
@@ -90,10 +91,16 @@ fn give(
     ask_one(table, n, q, &mut given);
     let permit = decision == 0;
     let mut none = [0u8; 0];
-    let needed = obligations::put_given(file, places, n, &given, 0, permit, &mut none, 0);
+    let marks = Marks {
+        file,
+        places,
+        n,
+        words: &given,
+    };
+    let needed = marks.put(0, permit, &mut none, 0);
     let room = out.len();
     let part = printing::lend(needed, room);
-    obligations::put_given(file, places, n, &given, 0, permit, &mut out[..part], 0);
+    marks.put(0, permit, &mut out[..part], 0);
     with_decision(printing::text_answer(needed, room), decision)
 }
 

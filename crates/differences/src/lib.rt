@@ -12,7 +12,27 @@ ghost use Rattle.obligations.specs.Given.{any_obliged, Giving};
 ghost use Rattle.differences.specs.Apart.{apart, Compared, Suspects, Untouched, Touched};
 ghost use Rattle.differences.specs.Marks.{Marked, LikeMarks, others_given, Among};
 
+use obligations::Marks;
 use table::Shape;
+
+// A policy file that was read: its bytes, where its elements and their obligations stand there, the table of the elements, and the policy's shape.
+#[derive(Clone, Copy)]
+pub struct PolicyFile<'a> {
+    pub file: &'a [u8],
+    pub places: &'a [usize],
+    pub table: &'a [u16],
+    pub shape: Shape,
+}
+
+// With it which requests match its elements and what each request gets, by words of 64, and whether an element has obligations.
+#[derive(Clone, Copy)]
+pub struct PolicyOutcomes<'a> {
+    pub policy: PolicyFile<'a>,
+    pub hits: &'a [u64],
+    pub outcomes: &'a [u64],
+    pub obliged: bool,
+    pub ghost told: { obliged ≡ any_obliged policy.places.now policy.shape.n },
+}
 
 // The requests on which an element that has obligations is marked in one of the two and not in the other.
 fn unlike(places: &[usize], n: usize, one: &[u64], other: &[u64]) -> u64
@@ -51,102 +71,6 @@ fn like_marks(words: &[u64], n: usize, v: usize, on: u64) -> u64
     like
 }
 
-// The first request from `from` on, of 64 at most and below `first`, that is among those of `on` and gets other obligations by the one marks than by the other; `first` if there is none. The requests of `permits` are permitted, the others denied. Requests with the marks and the decision of one that was compared need no comparison.
-fn first_given(
-    file: &[u8],
-    places: &[usize],
-    n: usize,
-    one: &[u64],
-    other: &[u64],
-    permits: u64,
-    on: u64,
-    from: usize,
-    first: usize,
-) -> usize
-    requires { Giving file.now places.now one.now n 0 × (n ≤ length other.now) × (from < 4096) }
-    ensures { Among (others_given file.now places.now n one.now other.now permits) on from first result }
-{
-    let mut left = on;
-    for v in 0..64 {
-        if first <= from + v {
-            return first;
-        }
-        if (left >> v) % 2 != 1 {
-            continue;
-        }
-        let permit = (permits >> v) % 2 == 1;
-        if !obligations::same_given(file, places, n, one, file, places, n, other, v, permit) {
-            return from + v;
-        }
-        let decided = like_bit(permits, v, left);
-        let like = like_marks(other, n, v, like_marks(one, n, v, decided));
-        left = blocks::without(left, like);
-    }
-    first
-}
-
-// The first request of the block that gets another decision under `struck` than under `before`, or other obligations; the number of requests if there is none. `first` is the first that gets another decision, and outside `on` no request gets anything else.
-fn obligation_difference(
-    file: &[u8],
-    places: &[usize],
-    table: &[u16],
-    before: &[u8],
-    struck: &[u8],
-    hits: &[u64],
-    shape: Shape,
-    outcomes: &[u64],
-    block: usize,
-    on: u64,
-    first: usize,
-) -> usize
-    requires { Compared file.now places.now table.now before.now struck.now hits.now outcomes.now shape × (64 * block < shape.space) × Suspects file.now places.now table.now before.now struck.now shape block on × InBlock (differs_at table.now shape.n (hit_of shape) outcomes.now struck.now) shape.space block first }
-    ensures { InBlock (apart file.now places.now table.now shape.n (hit_of shape) before.now struck.now) shape.space block result }
-{
-    let n = shape.n;
-    let mut one = [0u64; 64];
-    let mut other = [0u64; 64];
-    chains::ask_all(table, before, hits, n, block, &mut one);
-    chains::ask_all(table, struck, hits, n, block, &mut other);
-    let suspect = on & unlike(places, n, &one, &other);
-    first_given(
-        file,
-        places,
-        n,
-        &one,
-        &other,
-        outcomes[block],
-        suspect,
-        64 * block,
-        first,
-    )
-}
-
-// The same, where the first that gets another decision is to be found; `outcomes` has the decisions under `before`, and `obliged` says whether the file has obligations.
-pub fn difference_in(
-    file: &[u8],
-    places: &[usize],
-    table: &[u16],
-    before: &[u8],
-    struck: &[u8],
-    hits: &[u64],
-    shape: Shape,
-    outcomes: &[u64],
-    obliged: bool,
-    block: usize,
-    on: u64,
-) -> usize
-    requires { Compared file.now places.now table.now before.now struck.now hits.now outcomes.now shape × (obliged ≡ any_obliged places.now shape.n) × (64 * block < shape.space) × Suspects file.now places.now table.now before.now struck.now shape block on }
-    ensures { InBlock (apart file.now places.now table.now shape.n (hit_of shape) before.now struck.now) shape.space block result }
-{
-    let first = outcomes::change_in(table, struck, hits, shape, outcomes, block);
-    if !obliged {
-        return first;
-    }
-    obligation_difference(
-        file, places, table, before, struck, hits, shape, outcomes, block, on, first,
-    )
-}
-
 // The requests of the block that match an element struck.
 fn touched(struck: &[u8], hits: &[u64], n: usize, block: usize) -> u64
     requires { (n ≤ length struck.now) × (n ≤ 64) × (64 * n ≤ length hits.now) × (block < 64) }
@@ -161,33 +85,119 @@ fn touched(struck: &[u8], hits: &[u64], n: usize, block: usize) -> u64
     word
 }
 
-// The first request of all that gets another decision under `struck` than under `before`, or other obligations, or the number of requests; `outcomes` has the decisions under `before`. Only requests that match an element struck can.
-pub fn first_difference(
-    file: &[u8],
-    places: &[usize],
-    table: &[u16],
-    before: &[u8],
-    struck: &[u8],
-    hits: &[u64],
-    shape: Shape,
-    outcomes: &[u64],
-) -> usize
-    requires { Compared file.now places.now table.now before.now struck.now hits.now outcomes.now shape × Untouched file.now places.now table.now before.now struck.now shape }
-    ensures { result ≡ place_or shape.space (first_from (apart file.now places.now table.now shape.n (hit_of shape) before.now struck.now) 0 shape.space) }
-{
-    let space = shape.space;
-    let obliged = obligations::any_obligations(places, shape.n);
-    for block in 0..(space + 63) / 64 {
-        let on = touched(struck, hits, shape.n, block);
-        if on == 0 {
-            continue;
+impl<'a> PolicyFile<'a> {
+    // The first request from `from` on, of 64 at most and below `first`, that is among those of `on` and gets other obligations by the one marks than by the other; `first` if there is none. The requests of `permits` are permitted, the others denied. Requests with the marks and the decision of one that was compared need no comparison.
+    fn first_given(
+        &self,
+        one: &[u64],
+        other: &[u64],
+        permits: u64,
+        on: u64,
+        from: usize,
+        first: usize,
+    ) -> usize
+        requires { let p = self.now in Giving p.file.now p.places.now one.now p.shape.n 0 × (p.shape.n ≤ length other.now) × (from < 4096) }
+        ensures { let p = self.now in Among (others_given p.file.now p.places.now p.shape.n one.now other.now permits) on from first result }
+    {
+        let n = self.shape.n;
+        let ones = Marks {
+            file: self.file,
+            places: self.places,
+            n,
+            words: one,
+        };
+        let others = Marks {
+            file: self.file,
+            places: self.places,
+            n,
+            words: other,
+        };
+        let mut left = on;
+        for v in 0..64 {
+            if first <= from + v {
+                return first;
+            }
+            if (left >> v) % 2 != 1 {
+                continue;
+            }
+            let permit = (permits >> v) % 2 == 1;
+            if !ones.same(&others, v, permit) {
+                return from + v;
+            }
+            let decided = like_bit(permits, v, left);
+            let like = like_marks(other, n, v, like_marks(one, n, v, decided));
+            left = blocks::without(left, like);
         }
-        let first = difference_in(
-            file, places, table, before, struck, hits, shape, outcomes, obliged, block, on,
+        first
+    }
+}
+
+impl<'a> PolicyOutcomes<'a> {
+    // The first request of the block that gets another decision under `struck` than under `before`, or other obligations; the number of requests if there is none. `first` is the first that gets another decision, and outside `on` no request gets anything else.
+    fn obligation_difference(
+        &self,
+        before: &[u8],
+        struck: &[u8],
+        block: usize,
+        on: u64,
+        first: usize,
+    ) -> usize
+        requires { let p = self.now.policy in Compared p.file.now p.places.now p.table.now before.now struck.now self.now.hits.now self.now.outcomes.now p.shape × (64 * block < p.shape.space) × Suspects p.file.now p.places.now p.table.now before.now struck.now p.shape block on × InBlock (differs_at p.table.now p.shape.n (hit_of p.shape) self.now.outcomes.now struck.now) p.shape.space block first }
+        ensures { let p = self.now.policy in InBlock (apart p.file.now p.places.now p.table.now p.shape.n (hit_of p.shape) before.now struck.now) p.shape.space block result }
+    {
+        let policy = self.policy;
+        let n = policy.shape.n;
+        let mut one = [0u64; 64];
+        let mut other = [0u64; 64];
+        chains::ask_all(policy.table, before, self.hits, n, block, &mut one);
+        chains::ask_all(policy.table, struck, self.hits, n, block, &mut other);
+        let suspect = on & unlike(policy.places, n, &one, &other);
+        policy.first_given(
+            &one,
+            &other,
+            self.outcomes[block],
+            suspect,
+            64 * block,
+            first,
+        )
+    }
+
+    // The same, where the first that gets another decision is to be found; the outcomes are those under `before`.
+    pub fn difference_in(&self, before: &[u8], struck: &[u8], block: usize, on: u64) -> usize
+        requires { let p = self.now.policy in Compared p.file.now p.places.now p.table.now before.now struck.now self.now.hits.now self.now.outcomes.now p.shape × (64 * block < p.shape.space) × Suspects p.file.now p.places.now p.table.now before.now struck.now p.shape block on }
+        ensures { let p = self.now.policy in InBlock (apart p.file.now p.places.now p.table.now p.shape.n (hit_of p.shape) before.now struck.now) p.shape.space block result }
+    {
+        let policy = self.policy;
+        let first = outcomes::change_in(
+            policy.table,
+            struck,
+            self.hits,
+            policy.shape,
+            self.outcomes,
+            block,
         );
-        if first < space {
+        if !self.obliged {
             return first;
         }
+        self.obligation_difference(before, struck, block, on, first)
     }
-    space
+
+    // The first request of all that gets another decision under `struck` than under `before`, or other obligations, or the number of requests; the outcomes are those under `before`. Only requests that match an element struck can.
+    pub fn first_difference(&self, before: &[u8], struck: &[u8]) -> usize
+        requires { let p = self.now.policy in Compared p.file.now p.places.now p.table.now before.now struck.now self.now.hits.now self.now.outcomes.now p.shape × Untouched p.file.now p.places.now p.table.now before.now struck.now p.shape }
+        ensures { let p = self.now.policy in result ≡ place_or p.shape.space (first_from (apart p.file.now p.places.now p.table.now p.shape.n (hit_of p.shape) before.now struck.now) 0 p.shape.space) }
+    {
+        let shape = self.policy.shape;
+        for block in 0..(shape.space + 63) / 64 {
+            let on = touched(struck, self.hits, shape.n, block);
+            if on == 0 {
+                continue;
+            }
+            let first = self.difference_in(before, struck, block, on);
+            if first < shape.space {
+                return first;
+            }
+        }
+        shape.space
+    }
 }

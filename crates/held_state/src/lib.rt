@@ -6,6 +6,7 @@ ghost use Rattle.meaning.specs.Operations.{step_answer, step_lent};
 ghost use Rattle.trimmed_text.specs.Held.{PolicyHeld};
 ghost use Rattle.held_state.specs.Closed.{closed};
 
+use differences::PolicyFile;
 use meaning::Stepped;
 use table::Shape;
 
@@ -30,7 +31,13 @@ pub fn step(text: &mut [u8], table: &[u16], places: &[usize], shape: Shape) -> S
 {
     let n = shape.n;
     let mut struck = [0u8; 64];
-    let next = trimming::next_struck(text, places, table, &mut struck, shape);
+    let policy = PolicyFile {
+        file: text,
+        places,
+        table,
+        shape,
+    };
+    let next = trimming::next_struck(policy, &mut struck);
     let size = text.len();
     if next == n {
         return Stepped {

@@ -4,6 +4,7 @@
 ghost use Rattle.std.specs.Prelude.{◌≡◌};
 ghost use Rattle.meaning.specs.Operations.{decide_answer, decide_lent, trim_answer, trim_lent, next_rule_answer, next_rule_lent, strike_answer, strike_lent, step_answer, step_lent, accept_answer, join_answer, join_lent, report_answer, report_lent, value_pairs_answer, value_pairs_lent};
 
+use differences::PolicyFile;
 use meaning::{Answer, Decided, Stepped};
 
 // The answer of a request that is not decided.
@@ -55,7 +56,13 @@ pub fn jogimaduve_trim(file: &[u8], out: &mut [u8]) -> Answer
     let n = reading.elements;
     let mut struck = [0u8; 64];
     let shape = reader::policy_shape(reading);
-    trimming::strike(file, &places, &table, &mut struck, shape);
+    let policy = PolicyFile {
+        file,
+        places: &places,
+        table: &table,
+        shape,
+    };
+    trimming::strike(policy, &mut struck);
     let mut none = [0u8; 0];
     let needed = trimmed_text::put_text(file, &places, &struck, n, &mut none);
     let room = out.len();

@@ -59,50 +59,41 @@ fn put_own(
     put_obligation(file, places, i, 1, permit, out, first)
 }
 
-// Stores those of the n elements in whose word bit v is set.
-pub fn put_given(
-    file: &[u8],
-    places: &[usize],
-    n: usize,
-    given: &[u64],
-    v: usize,
-    permit: bool,
-    out: &mut [u8],
-    at: usize,
-) -> usize
-    requires { Giving file.now places.now given.now n v × (at + 2176 < 2 ^ 64) }
-    ensures { Wrote out.old at (given_text (effect permit) (marks_in given.now v) file.now places.now n) out.new result × (result ≤ at + 2176) }
-{
-    let mut end = at;
-    for i in 0..n {
-        if (given[i] >> v) % 2 == 1 {
-            end = put_own(file, places, i, permit, out, end);
-        }
-    }
-    end
+// A word of 64 requests for each of n elements, whose obligations lie in a file: bit v marks those that come with request v.
+#[derive(Clone, Copy)]
+pub struct Marks<'a> {
+    pub file: &'a [u8],
+    pub places: &'a [usize],
+    pub n: usize,
+    pub words: &'a [u64],
 }
 
-// Whether two such texts, of two files or of one, are the same bytes: both are laid down and compared.
-pub fn same_given(
-    file: &[u8],
-    places: &[usize],
-    n: usize,
-    given: &[u64],
-    other: &[u8],
-    other_places: &[usize],
-    m: usize,
-    other_given: &[u64],
-    v: usize,
-    permit: bool,
-) -> bool
-    requires { Giving file.now places.now given.now n v × Giving other.now other_places.now other_given.now m v }
-    ensures { result ≡ same (given_text (effect permit) (marks_in given.now v) file.now places.now n) (given_text (effect permit) (marks_in other_given.now v) other.now other_places.now m) }
-{
-    let mut one = [0u8; 2176];
-    let mut two = [0u8; 2176];
-    let end = put_given(file, places, n, given, v, permit, &mut one, 0);
-    let other_end = put_given(other, other_places, m, other_given, v, permit, &mut two, 0);
-    comparing::same(&one[0..end], &two[0..other_end])
+impl<'a> Marks<'a> {
+    // Stores the obligations of the elements in whose word bit v is set.
+    pub fn put(&self, v: usize, permit: bool, out: &mut [u8], at: usize) -> usize
+        requires { Giving self.now.file.now self.now.places.now self.now.words.now self.now.n v × (at + 2176 < 2 ^ 64) }
+        ensures { Wrote out.old at (given_text (effect permit) (marks_in self.now.words.now v) self.now.file.now self.now.places.now self.now.n) out.new result × (result ≤ at + 2176) }
+    {
+        let mut end = at;
+        for i in 0..self.n {
+            if (self.words[i] >> v) % 2 == 1 {
+                end = put_own(self.file, self.places, i, permit, out, end);
+            }
+        }
+        end
+    }
+
+    // Whether two such texts, of two files or of one, are the same bytes: both are laid down and compared.
+    pub fn same(&self, other: &Marks, v: usize, permit: bool) -> bool
+        requires { Giving self.now.file.now self.now.places.now self.now.words.now self.now.n v × Giving other.now.file.now other.now.places.now other.now.words.now other.now.n v }
+        ensures { result ≡ same (given_text (effect permit) (marks_in self.now.words.now v) self.now.file.now self.now.places.now self.now.n) (given_text (effect permit) (marks_in other.now.words.now v) other.now.file.now other.now.places.now other.now.n) }
+    {
+        let mut one = [0u8; 2176];
+        let mut two = [0u8; 2176];
+        let end = self.put(v, permit, &mut one, 0);
+        let other_end = other.put(v, permit, &mut two, 0);
+        comparing::same(&one[0..end], &two[0..other_end])
+    }
 }
 
 // Whether one of n elements has obligations.

@@ -11,6 +11,7 @@ ghost use Rattle.trials.specs.Trial.{Laid};
 ghost use Rattle.trimmed_text.specs.Held.{PolicyHeld};
 ghost use Rattle.reporting.specs.Found.{SegmentsFound, ConflictsFound, RulesFound};
 
+use differences::{PolicyFile, PolicyOutcomes};
 use meaning::Answer;
 use report_lines::{put_conflicts, put_kept, put_segments, put_struck};
 use table::Shape;
@@ -70,40 +71,13 @@ fn find_segments(
 }
 
 // Lays down the rules struck, in order, and for each rule kept the request that needs it. How many are struck, is the result.
-fn find_rules(
-    file: &[u8],
-    places: &[usize],
-    table: &[u16],
-    hits: &[u64],
-    shape: Shape,
-    outcomes: &[u64],
-    order: &mut [u8],
-    shown: &mut [usize],
-) -> usize
-    requires { Laid file.now places.now table.now none_struck hits.now outcomes.now shape × (64 ≤ length order.old) × (64 ≤ length shown.old) }
-    ensures { RulesFound file.now places.now table.now shape.n (hit_of shape) shape.space order.new shown.new result }
+fn find_rules(o: &PolicyOutcomes, order: &mut [u8], shown: &mut [usize]) -> usize
+    requires { let p = o.now.policy in Laid p.file.now p.places.now p.table.now none_struck o.now.hits.now o.now.outcomes.now p.shape × (64 ≤ length order.old) × (64 ≤ length shown.old) }
+    ensures { let p = o.now.policy in RulesFound p.file.now p.places.now p.table.now p.shape.n (hit_of p.shape) p.shape.space order.new shown.new result }
 {
     let mut struck = [0u8; 64];
-    let count = trimming::trim_flags(
-        file,
-        places,
-        table,
-        &mut struck,
-        hits,
-        shape,
-        outcomes,
-        order,
-    );
-    trials::needed_all(
-        file,
-        places,
-        table,
-        &mut struck,
-        hits,
-        shape,
-        outcomes,
-        shown,
-    );
+    let count = trimming::trim_flags(o, &mut struck, order);
+    trials::needed_all(o, &mut struck, shown);
     count
 }
 
@@ -138,9 +112,19 @@ fn write_lines(
     );
     let mut order = [0u8; 64];
     let mut shown = [0usize; 64];
-    let count = find_rules(
-        file, places, table, hits, shape, outcomes, &mut order, &mut shown,
-    );
+    let obliged = obligations::any_obligations(places, shape.n);
+    let o = PolicyOutcomes {
+        policy: PolicyFile {
+            file,
+            places,
+            table,
+            shape,
+        },
+        hits,
+        outcomes,
+        obliged,
+    };
+    let count = find_rules(&o, &mut order, &mut shown);
     let mut none = [0u8; 0];
     let conflicts = put_segments(file, places, shape, &words, &sizes, &decided, &mut none, 0);
     let struck = put_conflicts(file, places, shape, &parents, &pairs, &mut none, conflicts);

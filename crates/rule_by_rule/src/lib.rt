@@ -8,6 +8,7 @@ ghost use Rattle.printing.specs.Wrote.{Wrote};
 ghost use Rattle.trimmed_text.specs.Held.{PolicyHeld};
 ghost use Rattle.rule_by_rule.specs.Shown.{name_or_none};
 
+use differences::PolicyFile;
 use meaning::Answer;
 use table::Shape;
 
@@ -30,7 +31,13 @@ pub fn show(file: &[u8], table: &[u16], places: &[usize], shape: Shape, out: &mu
 {
     let n = shape.n;
     let mut struck = [0u8; 64];
-    let next = trimming::next_struck(file, places, table, &mut struck, shape);
+    let policy = PolicyFile {
+        file,
+        places,
+        table,
+        shape,
+    };
+    let next = trimming::next_struck(policy, &mut struck);
     let mut none = [0u8; 0];
     let needed = put_name(file, places, n, next, &mut none);
     let room = out.len();
@@ -61,7 +68,13 @@ pub fn strike(
         };
     }
     let mut struck = [0u8; 64];
-    if !trials::is_needless(file, places, table, &mut struck, shape, i) {
+    let policy = PolicyFile {
+        file,
+        places,
+        table,
+        shape,
+    };
+    if !trials::is_needless(policy, &mut struck, i) {
         return Answer {
             number: 15,
             second: 0,

@@ -1,4 +1,4 @@
--- Flags copied one after the other, and what requests get under flags that agree.
+-- Flags copied, and what requests get under flags that agree.
 use Prim.Native.Nat.{ℕ, zero, suc, ◌+◌, ◌-◌, ◌≤◌, ◌<◌}
 use mathlib.Core.Path.{◌≡◌, refl, sym, ◌∙◌}
 use mathlib.Core.Bool.{Bool}
@@ -18,7 +18,6 @@ use Rattle.table.specs.Tree.{left}
 use Rattle.decisions.specs.Replies.{replies_from, reply_at}
 use Rattle.chains.specs.Chain.{chained_in, chained}
 use Rattle.moves.specs.Moved.{kept}
-use Rattle.outcomes.proofs.Searching.{up_to}
 use Rattle.obligations.specs.Given.{given_text, outcome_left}
 use Rattle.trials.specs.Trial.{Copied}
 
@@ -50,13 +49,7 @@ module _ (t a b : List ℕ) (n : ℕ) (copied : Copied a n b) where
         let es : left t b 0 n ≡ left t a 0 n = left_copied n 0 (omega arith) in
         λ i. let d = first_decision hit (es i) in record { decision = d; obligations = given_text d (λ j. chained_copied some j i) f places n }
 
--- one flag more
-pub copied_next : (struck copy : List ℕ) (i : ℕ) → i < length copy → Copied struck i copy → Copied struck (i + 1) (set copy i (get_or struck i 0))
-copied_next struck copy i inside so_far =
-    let flag = get_or struck i 0 in
-    up_to (λ j. get_or (set copy i flag) j 0 ≡ get_or struck j 0) i (λ j l. get_or-set_other copy i j flag 0 (omega arith) ∙ so_far j l) (get_or-set_same copy i flag 0 inside)
-
--- and a rule left
+-- flags copied, and a rule left
 pub copied_kept : (struck copy : List ℕ) (n rule : ℕ) → rule < length struck → rule < length copy → Copied struck n copy → Copied (kept struck rule) n (set copy rule 0)
 copied_kept struck copy n rule l m same j inside = go (test (eqb j rule))
   where

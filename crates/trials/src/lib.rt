@@ -9,12 +9,11 @@ ghost use Rattle.table.specs.Rows.{Rows};
 ghost use Rattle.table.specs.Tree.{place_or, rule_left};
 ghost use Rattle.table.specs.Shape.{hit_of};
 ghost use Rattle.outcomes.specs.PolicyTable.{PolicyTable};
-ghost use Rattle.obligations.specs.Given.{any_obliged};
 ghost use Rattle.trials.specs.Decided.{changes_at, apart_at, first_change_at, shown_at, needless_at};
 ghost use Rattle.trials.specs.Steady.{Steady};
 ghost use Rattle.trials.specs.Trial.{Grouped, Laid, Trial, Tries};
 
-use table::Shape;
+use differences::{PolicyFile, PolicyOutcomes};
 
 // Whether a rule is needless, and a request to try first the next time.
 #[derive(Clone, Copy)]
@@ -43,29 +42,16 @@ fn group_over(table: &[u16], n: usize, rule: usize) -> usize
 }
 
 // The first request that gets another decision than the one laid down, or other obligations, or the number of requests. Only requests that match the rule can.
-fn first_change(
-    file: &[u8],
-    places: &[usize],
-    table: &[u16],
-    struck: &[u8],
-    hits: &[u64],
-    shape: Shape,
-    outcomes: &[u64],
-    obliged: bool,
-    up: usize,
-    rule: usize,
-) -> usize
-    requires { Trial file.now places.now table.now struck.now hits.now outcomes.now shape rule × (obliged ≡ any_obliged places.now shape.n) × Grouped table.now shape.n rule up }
-    ensures { result ≡ place_or shape.space (first_from (apart_at file.now places.now table.now shape.n (hit_of shape) struck.now rule) 0 shape.space) }
+fn first_change(o: &PolicyOutcomes, struck: &[u8], up: usize, rule: usize) -> usize
+    requires { let p = o.now.policy in Trial p.file.now p.places.now p.table.now struck.now o.now.hits.now o.now.outcomes.now p.shape rule × Grouped p.table.now p.shape.n rule up }
+    ensures { let p = o.now.policy in result ≡ place_or p.shape.space (first_from (apart_at p.file.now p.places.now p.table.now p.shape.n (hit_of p.shape) struck.now rule) 0 p.shape.space) }
 {
-    let space = shape.space;
+    let space = o.policy.shape.space;
     for block in 0..(space + 63) / 64 {
-        if hits[64 * rule + block] == 0 {
+        if o.hits[64 * rule + block] == 0 {
             continue;
         }
-        let first = trial::change_at(
-            file, places, table, struck, hits, shape, outcomes, obliged, up, rule, block,
-        );
+        let first = trial::change_at(o, struck, up, rule, block);
         if first < space {
             return first;
         }
@@ -74,37 +60,15 @@ fn first_change(
 }
 
 // Whether every request gets the decision laid down and the same obligations without the rule, the hint's block tried first.
-fn alike(
-    file: &[u8],
-    places: &[usize],
-    table: &[u16],
-    struck: &[u8],
-    hits: &[u64],
-    shape: Shape,
-    outcomes: &[u64],
-    obliged: bool,
-    rule: usize,
-    hint: usize,
-) -> Tried
-    requires { Trial file.now places.now table.now struck.now hits.now outcomes.now shape rule × (obliged ≡ any_obliged places.now shape.n) }
-    ensures { Tries (apart_at file.now places.now table.now shape.n (hit_of shape) struck.now rule) shape.space result }
+fn alike(o: &PolicyOutcomes, struck: &[u8], rule: usize, hint: usize) -> Tried
+    requires { let p = o.now.policy in Trial p.file.now p.places.now p.table.now struck.now o.now.hits.now o.now.outcomes.now p.shape rule }
+    ensures { let p = o.now.policy in Tries (apart_at p.file.now p.places.now p.table.now p.shape.n (hit_of p.shape) struck.now rule) p.shape.space result }
 {
+    let shape = o.policy.shape;
     let space = shape.space;
-    let up = group_over(table, shape.n, rule);
+    let up = group_over(o.policy.table, shape.n, rule);
     if hint < space {
-        let near = trial::change_at(
-            file,
-            places,
-            table,
-            struck,
-            hits,
-            shape,
-            outcomes,
-            obliged,
-            up,
-            rule,
-            hint / 64,
-        );
+        let near = trial::change_at(o, struck, up, rule, hint / 64);
         if near < space {
             return Tried {
                 needless: false,
@@ -112,9 +76,7 @@ fn alike(
             };
         }
     }
-    let first = first_change(
-        file, places, table, struck, hits, shape, outcomes, obliged, up, rule,
-    );
+    let first = first_change(o, struck, up, rule);
     if first == space {
         Tried {
             needless: true,
@@ -129,132 +91,70 @@ fn alike(
 }
 
 // Whether element i is a rule without which every request gets the same decision and the same obligations; the decisions with it are laid down.
-pub fn needless(
-    file: &[u8],
-    places: &[usize],
-    table: &[u16],
-    struck: &mut [u8],
-    hits: &[u64],
-    shape: Shape,
-    outcomes: &[u64],
-    obliged: bool,
-    i: usize,
-    hint: usize,
-) -> Tried
-    requires { Laid file.now places.now table.now struck.old hits.now outcomes.now shape × (obliged ≡ any_obliged places.now shape.n) × (i < shape.n) }
-    ensures { (result.needless ≡ needless_at file.now places.now table.now shape.n (hit_of shape) shape.space struck.old i) × (result.shown < shape.space) × (result.needless ≡ false → rule_left table.now struck.old i ≡ true → changes_at file.now places.now table.now shape.n (hit_of shape) struck.old i result.shown ≡ true) × (struck.new ≡ struck.old) }
+pub fn needless(o: &PolicyOutcomes, struck: &mut [u8], i: usize, hint: usize) -> Tried
+    requires { let p = o.now.policy in Laid p.file.now p.places.now p.table.now struck.old o.now.hits.now o.now.outcomes.now p.shape × (i < p.shape.n) }
+    ensures { let p = o.now.policy in (result.needless ≡ needless_at p.file.now p.places.now p.table.now p.shape.n (hit_of p.shape) p.shape.space struck.old i) × (result.shown < p.shape.space) × (result.needless ≡ false → rule_left p.table.now struck.old i ≡ true → changes_at p.file.now p.places.now p.table.now p.shape.n (hit_of p.shape) struck.old i result.shown ≡ true) × (struck.new ≡ struck.old) }
 {
-    if !table::is_left(table, struck, i) {
+    if !table::is_left(o.policy.table, struck, i) {
         return Tried {
             needless: false,
             shown: 0,
         };
     }
     struck[i] = 1;
-    let tried = alike(
-        file, places, table, struck, hits, shape, outcomes, obliged, i, hint,
-    );
+    let tried = alike(o, struck, i, hint);
     struck[i] = 0;
     tried
 }
 
-// The same from file and table alone: the decisions with the rule are found first, and no hint is given.
-pub fn is_needless(
-    file: &[u8],
-    places: &[usize],
-    table: &[u16],
-    struck: &mut [u8],
-    shape: Shape,
-    i: usize,
-) -> bool
-    requires { Steady file.now places.now table.now shape × PolicyTable table.now struck.old shape × (i < shape.n) }
-    ensures { (result ≡ needless_at file.now places.now table.now shape.n (hit_of shape) shape.space struck.old i) × (struck.new ≡ struck.old) }
+// The same from the policy file alone: the decisions with the rule are found first, and no hint is given.
+pub fn is_needless(policy: PolicyFile, struck: &mut [u8], i: usize) -> bool
+    requires { Steady policy.file.now policy.places.now policy.table.now policy.shape × PolicyTable policy.table.now struck.old policy.shape × (i < policy.shape.n) }
+    ensures { let p = policy.entry in (result ≡ needless_at p.file.now p.places.now p.table.now p.shape.n (hit_of p.shape) p.shape.space struck.old i) × (struck.new ≡ struck.old) }
 {
+    let shape = policy.shape;
     let mut hits = [0u64; 4096];
     let mut outcomes = [0u64; 128];
-    outcomes::find_outcomes(table, struck, shape, &mut hits, &mut outcomes);
-    let obliged = obligations::any_obligations(places, shape.n);
-    let tried = needless(
-        file,
-        places,
-        table,
-        struck,
-        &hits,
-        shape,
-        &outcomes,
+    outcomes::find_outcomes(policy.table, struck, shape, &mut hits, &mut outcomes);
+    let obliged = obligations::any_obligations(policy.places, shape.n);
+    let o = PolicyOutcomes {
+        policy,
+        hits: &hits,
+        outcomes: &outcomes,
         obliged,
-        i,
-        shape.space,
-    );
-    tried.needless
+    };
+    needless(&o, struck, i, shape.space).needless
 }
 
 // The first request that gets another decision, or other obligations, without the rule, or the number of requests.
-fn needed_by(
-    file: &[u8],
-    places: &[usize],
-    table: &[u16],
-    struck: &mut [u8],
-    hits: &[u64],
-    shape: Shape,
-    outcomes: &[u64],
-    obliged: bool,
-    rule: usize,
-) -> usize
-    requires { Laid file.now places.now table.now struck.old hits.now outcomes.now shape × (obliged ≡ any_obliged places.now shape.n) × (rule < shape.n) × (rule_left table.now struck.old rule ≡ true) }
-    ensures { (result ≡ place_or shape.space (first_change_at file.now places.now table.now shape.n (hit_of shape) shape.space struck.old rule)) × (struck.new ≡ struck.old) }
+fn needed_by(o: &PolicyOutcomes, struck: &mut [u8], rule: usize) -> usize
+    requires { let p = o.now.policy in Laid p.file.now p.places.now p.table.now struck.old o.now.hits.now o.now.outcomes.now p.shape × (rule < p.shape.n) × (rule_left p.table.now struck.old rule ≡ true) }
+    ensures { let p = o.now.policy in (result ≡ place_or p.shape.space (first_change_at p.file.now p.places.now p.table.now p.shape.n (hit_of p.shape) p.shape.space struck.old rule)) × (struck.new ≡ struck.old) }
 {
-    let up = group_over(table, shape.n, rule);
+    let up = group_over(o.policy.table, o.policy.shape.n, rule);
     struck[rule] = 1;
-    let shown = first_change(
-        file, places, table, struck, hits, shape, outcomes, obliged, up, rule,
-    );
+    let shown = first_change(o, struck, up, rule);
     struck[rule] = 0;
     shown
 }
 
 // The same for every element, the number of requests for one that is no rule left.
-fn shown_by(
-    file: &[u8],
-    places: &[usize],
-    table: &[u16],
-    struck: &mut [u8],
-    hits: &[u64],
-    shape: Shape,
-    outcomes: &[u64],
-    obliged: bool,
-    i: usize,
-) -> usize
-    requires { Laid file.now places.now table.now struck.old hits.now outcomes.now shape × (obliged ≡ any_obliged places.now shape.n) × (i < shape.n) }
-    ensures { (result ≡ shown_at file.now places.now table.now shape.n (hit_of shape) shape.space struck.old i) × (struck.new ≡ struck.old) }
+fn shown_by(o: &PolicyOutcomes, struck: &mut [u8], i: usize) -> usize
+    requires { let p = o.now.policy in Laid p.file.now p.places.now p.table.now struck.old o.now.hits.now o.now.outcomes.now p.shape × (i < p.shape.n) }
+    ensures { let p = o.now.policy in (result ≡ shown_at p.file.now p.places.now p.table.now p.shape.n (hit_of p.shape) p.shape.space struck.old i) × (struck.new ≡ struck.old) }
 {
-    if !table::is_left(table, struck, i) {
-        return shape.space;
+    if !table::is_left(o.policy.table, struck, i) {
+        return o.policy.shape.space;
     }
-    needed_by(
-        file, places, table, struck, hits, shape, outcomes, obliged, i,
-    )
+    needed_by(o, struck, i)
 }
 
 // Lays down for each rule left the first request that gets another decision, or other obligations, without it, the number of requests where there is none and for every other element. What lies behind them stays.
-pub fn needed_all(
-    file: &[u8],
-    places: &[usize],
-    table: &[u16],
-    struck: &mut [u8],
-    hits: &[u64],
-    shape: Shape,
-    outcomes: &[u64],
-    shown: &mut [usize],
-)
-    requires { Laid file.now places.now table.now struck.old hits.now outcomes.now shape × (shape.n ≤ length shown.old) }
-    ensures { (shown.new ≡ map (shown_at file.now places.now table.now shape.n (hit_of shape) shape.space struck.old) (counting 0 shape.n) ++ drop shape.n shown.old) × (struck.new ≡ struck.old) }
+pub fn needed_all(o: &PolicyOutcomes, struck: &mut [u8], shown: &mut [usize])
+    requires { let p = o.now.policy in Laid p.file.now p.places.now p.table.now struck.old o.now.hits.now o.now.outcomes.now p.shape × (p.shape.n ≤ length shown.old) }
+    ensures { let p = o.now.policy in (shown.new ≡ map (shown_at p.file.now p.places.now p.table.now p.shape.n (hit_of p.shape) p.shape.space struck.old) (counting 0 p.shape.n) ++ drop p.shape.n shown.old) × (struck.new ≡ struck.old) }
 {
-    let n = shape.n;
-    let obliged = obligations::any_obligations(places, n);
-    for i in 0..n {
-        shown[i] = shown_by(
-            file, places, table, struck, hits, shape, outcomes, obliged, i,
-        );
+    for i in 0..o.policy.shape.n {
+        shown[i] = shown_by(o, struck, i);
     }
 }

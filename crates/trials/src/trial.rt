@@ -4,12 +4,11 @@ ghost use Rattle.table.specs.Shape.{hit_of};
 ghost use Rattle.blocks.specs.Bits.{Block};
 ghost use Rattle.moves.specs.Moved.{kept, Child};
 ghost use Rattle.outcomes.specs.Changes.{InBlock};
-ghost use Rattle.obligations.specs.Given.{any_obliged};
 ghost use Rattle.differences.specs.Apart.{Suspects};
 ghost use Rattle.trials.specs.Decided.{apart_at};
 ghost use Rattle.trials.specs.Trial.{Grouped, Trial, Copied, Reached};
 
-use table::Shape;
+use differences::PolicyOutcomes;
 
 // Copies n flags.
 fn copy_flags(struck: &[u8], n: usize, copy: &mut [u8])
@@ -19,32 +18,19 @@ fn copy_flags(struck: &[u8], n: usize, copy: &mut [u8])
     copy[..n].copy_from_slice(&struck[..n]);
 }
 
-// The first request of the block that gets another decision than the one laid down, or other obligations; the number of requests if there is none. Outside `on` no request gets anything else; `obliged` says whether the file has obligations, and only then are flags copied.
-fn change_among(
-    file: &[u8],
-    places: &[usize],
-    table: &[u16],
-    struck: &[u8],
-    hits: &[u64],
-    shape: Shape,
-    outcomes: &[u64],
-    obliged: bool,
-    rule: usize,
-    block: usize,
-    on: u64,
-) -> usize
-    requires { Trial file.now places.now table.now struck.now hits.now outcomes.now shape rule × (obliged ≡ any_obliged places.now shape.n) × (64 * block < shape.space) × Suspects file.now places.now table.now (kept struck.now rule) struck.now shape block on }
-    ensures { InBlock (apart_at file.now places.now table.now shape.n (hit_of shape) struck.now rule) shape.space block result }
+// The first request of the block that gets another decision than the one laid down, or other obligations; the number of requests if there is none. Outside `on` no request gets anything else; only where the file has obligations are flags copied.
+fn change_among(o: &PolicyOutcomes, struck: &[u8], rule: usize, block: usize, on: u64) -> usize
+    requires { let p = o.now.policy in Trial p.file.now p.places.now p.table.now struck.now o.now.hits.now o.now.outcomes.now p.shape rule × (64 * block < p.shape.space) × Suspects p.file.now p.places.now p.table.now (kept struck.now rule) struck.now p.shape block on }
+    ensures { let p = o.now.policy in InBlock (apart_at p.file.now p.places.now p.table.now p.shape.n (hit_of p.shape) struck.now rule) p.shape.space block result }
 {
-    if !obliged {
-        return outcomes::change_in(table, struck, hits, shape, outcomes, block);
+    let shape = o.policy.shape;
+    if !o.obliged {
+        return outcomes::change_in(o.policy.table, struck, o.hits, shape, o.outcomes, block);
     }
     let mut kept = [0u8; 64];
     copy_flags(struck, shape.n, &mut kept);
     kept[rule] = 0;
-    differences::difference_in(
-        file, places, table, &kept, struck, hits, shape, outcomes, obliged, block, on,
-    )
+    o.difference_in(&kept, struck, block, on)
 }
 
 // The requests of the block that may get something else without the rule: those on which it moves what the element over it decides; where there is none, those that match it.
@@ -68,29 +54,22 @@ fn reached(
 
 // The first request of the block that gets another decision than the one laid down, or other obligations, or the number of requests. The first element is asked only where the rule moves what the element over it decides.
 pub(crate) fn change_at(
-    file: &[u8],
-    places: &[usize],
-    table: &[u16],
+    o: &PolicyOutcomes,
     struck: &[u8],
-    hits: &[u64],
-    shape: Shape,
-    outcomes: &[u64],
-    obliged: bool,
     up: usize,
     rule: usize,
     block: usize,
 ) -> usize
-    requires { Trial file.now places.now table.now struck.now hits.now outcomes.now shape rule × (obliged ≡ any_obliged places.now shape.n) × Grouped table.now shape.n rule up × (64 * block < shape.space) }
-    ensures { InBlock (apart_at file.now places.now table.now shape.n (hit_of shape) struck.now rule) shape.space block result }
+    requires { let p = o.now.policy in Trial p.file.now p.places.now p.table.now struck.now o.now.hits.now o.now.outcomes.now p.shape rule × Grouped p.table.now p.shape.n rule up × (64 * block < p.shape.space) }
+    ensures { let p = o.now.policy in InBlock (apart_at p.file.now p.places.now p.table.now p.shape.n (hit_of p.shape) struck.now rule) p.shape.space block result }
 {
-    let moved = reached(table, struck, hits, shape.n, up, rule, block);
+    let shape = o.policy.shape;
+    let moved = reached(o.policy.table, struck, o.hits, shape.n, up, rule, block);
     if moved == 0 {
         return shape.space;
     }
     if up == 0 {
         return 64 * block + blocks::lowest(moved) as usize;
     }
-    change_among(
-        file, places, table, struck, hits, shape, outcomes, obliged, rule, block, moved,
-    )
+    change_among(o, struck, rule, block, moved)
 }

@@ -6,40 +6,26 @@ ghost use Rattle.table.specs.Tree.{place_or};
 ghost use Rattle.table.specs.Shape.{hit_of};
 ghost use Rattle.matching.specs.Hits.{bit_of};
 ghost use Rattle.outcomes.specs.PolicyTable.{PolicyTable};
-ghost use Rattle.obligations.specs.Given.{any_obliged};
 ghost use Rattle.trials.specs.Steady.{Steady};
 ghost use Rattle.trials.specs.Trial.{Laid};
 ghost use Rattle.trimming.specs.Decided.{next_at, trimming_at};
 ghost use Rattle.trimming.specs.Known.{HintsFit, Known, Forgets};
 ghost use Rattle.trimming.specs.Trims.{Trims};
 
-use table::Shape;
+use differences::{PolicyFile, PolicyOutcomes};
 
 // The last needless rule, or n. A rule's hint is a request that got something else without it when it was tried last; known rules need no other try.
-fn next_rule(
-    file: &[u8],
-    places: &[usize],
-    table: &[u16],
-    struck: &mut [u8],
-    hits: &[u64],
-    shape: Shape,
-    outcomes: &[u64],
-    obliged: bool,
-    hints: &mut [u16],
-    known: &mut [u8],
-) -> usize
-    requires { Laid file.now places.now table.now struck.old hits.now outcomes.now shape × (obliged ≡ any_obliged places.now shape.n) × (shape.n ≤ length hints.old) × (shape.n ≤ length known.old) × Known file.now places.now table.now shape struck.old hints.old known.old }
-    ensures { (result ≡ place_or shape.n (next_at file.now places.now table.now shape.n (hit_of shape) shape.space struck.old)) × (struck.new ≡ struck.old) × Known file.now places.now table.now shape struck.old hints.new known.new }
+fn next_rule(o: &PolicyOutcomes, struck: &mut [u8], hints: &mut [u16], known: &mut [u8]) -> usize
+    requires { let p = o.now.policy in Laid p.file.now p.places.now p.table.now struck.old o.now.hits.now o.now.outcomes.now p.shape × (p.shape.n ≤ length hints.old) × (p.shape.n ≤ length known.old) × Known p.file.now p.places.now p.table.now p.shape struck.old hints.old known.old }
+    ensures { let p = o.now.policy in (result ≡ place_or p.shape.n (next_at p.file.now p.places.now p.table.now p.shape.n (hit_of p.shape) p.shape.space struck.old)) × (struck.new ≡ struck.old) × Known p.file.now p.places.now p.table.now p.shape struck.old hints.new known.new }
 {
-    let n = shape.n;
+    let n = o.policy.shape.n;
     for i in (0..n).rev() {
         if known[i] != 0 {
             continue;
         }
         let hint = hints[i] as usize;
-        let tried = trials::needless(
-            file, places, table, struck, hits, shape, outcomes, obliged, i, hint,
-        );
+        let tried = trials::needless(o, struck, i, hint);
         if tried.needless {
             return i;
         }
@@ -49,26 +35,25 @@ fn next_rule(
     n
 }
 
-// The last needless rule, or n, from file and table alone: the decisions are found first, and no rule is known to be needed.
-pub fn next_struck(
-    file: &[u8],
-    places: &[usize],
-    table: &[u16],
-    struck: &mut [u8],
-    shape: Shape,
-) -> usize
-    requires { Steady file.now places.now table.now shape × PolicyTable table.now struck.old shape }
-    ensures { (result ≡ place_or shape.n (next_at file.now places.now table.now shape.n (hit_of shape) shape.space struck.old)) × (struck.new ≡ struck.old) }
+// The last needless rule, or n, from the policy file alone: the decisions are found first, and no rule is known to be needed.
+pub fn next_struck(policy: PolicyFile, struck: &mut [u8]) -> usize
+    requires { Steady policy.file.now policy.places.now policy.table.now policy.shape × PolicyTable policy.table.now struck.old policy.shape }
+    ensures { let p = policy.entry in (result ≡ place_or p.shape.n (next_at p.file.now p.places.now p.table.now p.shape.n (hit_of p.shape) p.shape.space struck.old)) × (struck.new ≡ struck.old) }
 {
+    let shape = policy.shape;
     let mut hits = [0u64; 4096];
     let mut outcomes = [0u64; 128];
-    outcomes::find_outcomes(table, struck, shape, &mut hits, &mut outcomes);
-    let obliged = obligations::any_obligations(places, shape.n);
+    outcomes::find_outcomes(policy.table, struck, shape, &mut hits, &mut outcomes);
+    let obliged = obligations::any_obligations(policy.places, shape.n);
+    let o = PolicyOutcomes {
+        policy,
+        hits: &hits,
+        outcomes: &outcomes,
+        obliged,
+    };
     let mut hints = [0u16; 64];
     let mut known = [0u8; 64];
-    next_rule(
-        file, places, table, struck, &hits, shape, &outcomes, obliged, &mut hints, &mut known,
-    )
+    next_rule(&o, struck, &mut hints, &mut known)
 }
 
 // Whether request m matches the rule.
@@ -97,68 +82,54 @@ fn forget(hits: &[u64], n: usize, rule: usize, hints: &[u16], known: &mut [u8])
 
 // Strikes the last needless rule while there is one. The places struck are laid down in order; how many, is the result.
 fn strike_rules(
-    file: &[u8],
-    places: &[usize],
-    table: &[u16],
+    o: &PolicyOutcomes,
     struck: &mut [u8],
-    hits: &[u64],
-    shape: Shape,
-    outcomes: &[u64],
-    obliged: bool,
     hints: &mut [u16],
     known: &mut [u8],
     order: &mut [u8],
 ) -> usize
-    requires { Laid file.now places.now table.now struck.old hits.now outcomes.now shape × (obliged ≡ any_obliged places.now shape.n) × (shape.n ≤ length hints.old) × (shape.n ≤ length known.old) × Known file.now places.now table.now shape struck.old hints.old known.old × (shape.n ≤ length order.old) }
-    ensures { Trims file.now places.now table.now outcomes.now shape struck.old struck.new order.old order.new result }
+    requires { let p = o.now.policy in Laid p.file.now p.places.now p.table.now struck.old o.now.hits.now o.now.outcomes.now p.shape × (p.shape.n ≤ length hints.old) × (p.shape.n ≤ length known.old) × Known p.file.now p.places.now p.table.now p.shape struck.old hints.old known.old × (p.shape.n ≤ length order.old) }
+    ensures { let p = o.now.policy in Trims p.file.now p.places.now p.table.now o.now.outcomes.now p.shape struck.old struck.new order.old order.new result }
 {
-    let n = shape.n;
+    let n = o.policy.shape.n;
     for count in 0..n {
-        let next = next_rule(
-            file, places, table, struck, hits, shape, outcomes, obliged, hints, known,
-        );
+        let next = next_rule(o, struck, hints, known);
         if next == n {
             return count;
         }
         struck[next] = 1;
         order[count] = next as u8;
-        forget(hits, n, next, hints, known);
+        forget(o.hits, n, next, hints, known);
     }
     n
 }
 
 // The same, with hints of its own, and no rule known to be needed.
-pub fn trim_flags(
-    file: &[u8],
-    places: &[usize],
-    table: &[u16],
-    struck: &mut [u8],
-    hits: &[u64],
-    shape: Shape,
-    outcomes: &[u64],
-    order: &mut [u8],
-) -> usize
-    requires { Laid file.now places.now table.now struck.old hits.now outcomes.now shape × (shape.n ≤ length order.old) }
-    ensures { Trims file.now places.now table.now outcomes.now shape struck.old struck.new order.old order.new result }
+pub fn trim_flags(o: &PolicyOutcomes, struck: &mut [u8], order: &mut [u8]) -> usize
+    requires { let p = o.now.policy in Laid p.file.now p.places.now p.table.now struck.old o.now.hits.now o.now.outcomes.now p.shape × (p.shape.n ≤ length order.old) }
+    ensures { let p = o.now.policy in Trims p.file.now p.places.now p.table.now o.now.outcomes.now p.shape struck.old struck.new order.old order.new result }
 {
-    let obliged = obligations::any_obligations(places, shape.n);
     let mut hints = [0u16; 64];
     let mut known = [0u8; 64];
-    strike_rules(
-        file, places, table, struck, hits, shape, outcomes, obliged, &mut hints, &mut known, order,
-    )
+    strike_rules(o, struck, &mut hints, &mut known, order)
 }
 
 // Strikes every rule that trimming strikes.
-pub fn strike(file: &[u8], places: &[usize], table: &[u16], struck: &mut [u8], shape: Shape)
-    requires { Steady file.now places.now table.now shape × PolicyTable table.now struck.old shape }
-    ensures { struck.new ≡ (trimming_at file.now places.now table.now shape.n (hit_of shape) shape.space shape.n struck.old).flags }
+pub fn strike(policy: PolicyFile, struck: &mut [u8])
+    requires { Steady policy.file.now policy.places.now policy.table.now policy.shape × PolicyTable policy.table.now struck.old policy.shape }
+    ensures { let p = policy.entry in struck.new ≡ (trimming_at p.file.now p.places.now p.table.now p.shape.n (hit_of p.shape) p.shape.space p.shape.n struck.old).flags }
 {
+    let shape = policy.shape;
     let mut hits = [0u64; 4096];
     let mut outcomes = [0u64; 128];
-    outcomes::find_outcomes(table, struck, shape, &mut hits, &mut outcomes);
+    outcomes::find_outcomes(policy.table, struck, shape, &mut hits, &mut outcomes);
+    let obliged = obligations::any_obligations(policy.places, shape.n);
+    let o = PolicyOutcomes {
+        policy,
+        hits: &hits,
+        outcomes: &outcomes,
+        obliged,
+    };
     let mut order = [0u8; 64];
-    trim_flags(
-        file, places, table, struck, &hits, shape, &outcomes, &mut order,
-    );
+    trim_flags(&o, struck, &mut order);
 }

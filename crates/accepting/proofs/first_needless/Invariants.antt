@@ -8,7 +8,8 @@ use Rattle.accepting.proofs.first_needless.Given as goal
 
 abbrev pub invariant-loop-i : goal.invariant-loop-i
 invariant-loop-i l =
-    let test = needless_at l.file l.places l.table l.shape.n (hit_of l.shape) l.shape.space l.initial.struck in
+    let p = l.o.policy in
+    let test = needless_at p.file.now p.places.now p.table.now p.shape.n (hit_of p.shape) p.shape.space l.initial.struck in
     (l.i ≤ l.n) × (l.struck ≡ l.initial.struck) × (first_from test 0 l.n ≡ first_from test l.i (l.n - l.i))
 
 abbrev pub decreases-loop-i : goal.decreases-loop-i

@@ -6,6 +6,9 @@ use Rattle.differences.proofs.Apart.{obligation_room}
 use Rattle.accepting.proofs.Judging.{none_there, one_there, inside, requests, rules, request_below, rule_below, same_laid, told_request, told_none, told_rule}
 use Rattle.accepting.proofs.judge.Goals as goal
 
+pub any_obligations-obliged-requires : goal.any_obligations-obliged-requires
+any_obligations-obliged-requires c = obligation_room c.requires.0.obliged c.requires.1
+
 pub returns-then-request-shape : goal.returns-then-request-shape
 returns-then-request-shape c = let a = c.args in (told_request a.file.now a.places.now a.table.now a.shape a.struck.now _ c.first_difference-request.ensures c.if-request-shape.true, refl)
 

@@ -9,22 +9,22 @@ use Rattle.deciding.proofs.give.Goals as goal
 pub ask_one-requires : goal.ask_one-requires
 ask_one-requires c = let ready = c.requires.0 in (ready.rows, ready.some, ready.few, ready.values, ready.few)
 
-pub put_given-needed-requires : goal.put_given-needed-requires
-put_given-needed-requires c =
+pub put-needed-requires : goal.put-needed-requires
+put-needed-requires c =
     (giving c.requires.0 (omega (arith, c.ask_one.ensures.1, c.requires.0.few)), omega arith)
 
-pub slice_bounds-put_given-end-5 : goal.slice_bounds-put_given-end-5
-slice_bounds-put_given-end-5 c = sym (length-take-le _ _ c.lend-part.ensures.within)
+pub slice_bounds-put-end-3 : goal.slice_bounds-put-end-3
+slice_bounds-put-end-3 c = sym (length-take-le _ _ c.lend-part.ensures.within)
 
-pub put_given-requires : goal.put_given-requires
-put_given-requires c =
+pub put-requires : goal.put-requires
+put-requires c =
     (giving c.requires.0 (omega (arith, c.ask_one.ensures.1, c.requires.0.few)), omega arith)
 
 pub text_answer-requires : goal.text_answer-requires
-text_answer-requires c = omega (arith, c.put_given-needed.ensures.1)
+text_answer-requires c = omega (arith, c.put-needed.ensures.1)
 
 pub returns : goal.returns
 returns c =
     let a = c.args in
-    let fits = written c.put_given-needed.ensures.0 a.out.now _ c.lend-part.ensures.value c.put_given.ensures.0 c.text_answer.ensures in
+    let fits = written c.put-needed.ensures.0 a.out.now _ c.lend-part.ensures.value c.put.ensures.0 c.text_answer.ensures in
     rw c.with_decision.ensures (given_told a.file.now a.table.now a.places.now a.n a.q a.decision c.requires.1 c.requires.2 c.ask_one.new.given c.ask_one.ensures.0 fits)

@@ -4,6 +4,8 @@ use native.Mathlib.Omega.{arith}
 use lib.Seq.{length-take-le}
 use Rattle.printing.proofs.Laws.{then, then_counted}
 use Rattle.printing.proofs.Fitting.{written}
+use Rattle.trials.proofs.Trying.{obligation_room}
+use Rattle.trimmed_text.proofs.Held.{steady_held}
 use Rattle.reporting.proofs.Finding.{laid, struck_named}
 use Rattle.reporting.proofs.ReportText.{reported}
 use Rattle.reporting.proofs.write_lines.Goals as goal
@@ -13,6 +15,9 @@ find_conflicts-requires c = let pre = c.requires in (pre.0.ready, pre.1, pre.2, 
 
 pub find_segments-requires : goal.find_segments-requires
 find_segments-requires c = let pre = c.requires in (pre.0.ready, pre.1, pre.2, pre.3, omega arith, omega arith, omega arith)
+
+pub any_obligations-obliged-requires : goal.any_obligations-obliged-requires
+any_obligations-obliged-requires c = let held = c.requires.0 in obligation_room (steady_held _ _ _ _ held) held.ready
 
 pub find_rules-count-requires : goal.find_rules-count-requires
 find_rules-count-requires c =

@@ -16,32 +16,32 @@ overflow_mul-rule c = let pre = c.requires in omega (arith, pre.0.aside.ready.fe
 pub overflow_add-rule : goal.overflow_add-rule
 overflow_add-rule c = let pre = c.requires in omega (arith, pre.0.aside.ready.few, pre.0.aside.element, pre.0.aside.ready.small, pre.0.matched.room)
 
-pub offset_bounds-hits-rule : goal.offset_bounds-hits-rule
-offset_bounds-hits-rule c = let pre = c.requires in omega (arith, pre.0.aside.ready.few, pre.0.aside.element, pre.0.aside.ready.small, pre.0.matched.room)
+pub offset_bounds-o-rule : goal.offset_bounds-o-rule
+offset_bounds-o-rule c = let pre = c.requires in omega (arith, pre.0.aside.ready.few, pre.0.aside.element, pre.0.aside.ready.small, pre.0.matched.room)
 
-pub bounds-hits-rule : goal.bounds-hits-rule
-bounds-hits-rule c = let pre = c.requires in omega (arith, pre.0.aside.ready.few, pre.0.aside.element, pre.0.aside.ready.small, pre.0.matched.room)
+pub bounds-o-rule : goal.bounds-o-rule
+bounds-o-rule c = let pre = c.requires in omega (arith, pre.0.aside.ready.few, pre.0.aside.element, pre.0.aside.ready.small, pre.0.matched.room)
 
-pub loop-block-preserved-then-hits-rule-eq0 : goal.loop-block-preserved-then-hits-rule-eq0
-loop-block-preserved-then-hits-rule-eq0 c =
+pub loop-block-preserved-then-o-rule-eq0 : goal.loop-block-preserved-then-o-rule-eq0
+loop-block-preserved-then-o-rule-eq0 c =
     let turn = c.loop-block in
-    let off = block_off _ _ _ _ _ _ c.args.shape c.args.rule c.requires.0 turn.block c.if-hits-rule-eq0.true in
-    block_passed _ c.args.shape.space turn.block turn.invariant off
+    let off = block_off _ _ _ _ _ _ c.args.o.now.policy.shape c.args.rule c.requires.0 turn.block c.if-o-rule-eq0.true in
+    block_passed _ c.args.o.now.policy.shape.space turn.block turn.invariant off
 
 pub change_at-first-requires : goal.change_at-first-requires
-change_at-first-requires c = let pre = c.requires in (pre.0, pre.1, pre.2, omega arith)
+change_at-first-requires c = let pre = c.requires in (pre.0, pre.1, omega arith)
 
 pub returns-then-first-space : goal.returns-then-first-space
 returns-then-first-space c =
     let turn = c.loop-block in
-    block_found _ c.args.shape.space turn.block turn.invariant _ c.change_at-first.ensures c.if-first-space.true
+    block_found _ c.args.o.now.policy.shape.space turn.block turn.invariant _ c.change_at-first.ensures c.if-first-space.true
 
 pub loop-block-preserved : goal.loop-block-preserved
 loop-block-preserved c =
     let turn = c.loop-block in
-    block_searched _ c.args.shape.space turn.block turn.invariant _ c.change_at-first.ensures (omega arith)
+    block_searched _ c.args.o.now.policy.shape.space turn.block turn.invariant _ c.change_at-first.ensures (omega arith)
 
 pub returns : goal.returns
 returns c =
     let turn = c.loop-block in
-    none_found_at_all _ c.args.shape.space turn.block turn.invariant (omega arith)
+    none_found_at_all _ c.args.o.now.policy.shape.space turn.block turn.invariant (omega arith)

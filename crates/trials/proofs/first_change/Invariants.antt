@@ -6,4 +6,5 @@ use Rattle.trials.proofs.first_change.Given as goal
 
 abbrev pub invariant-loop-block : goal.invariant-loop-block
 invariant-loop-block l =
-    NoneBelow (apart_at l.file l.places l.table l.shape.n (hit_of l.shape) l.struck l.rule) l.space l.block
+    let p = l.o.policy in
+    NoneBelow (apart_at p.file.now p.places.now p.table.now p.shape.n (hit_of p.shape) l.struck l.rule) p.shape.space l.block

@@ -7,4 +7,5 @@ use Rattle.trials.proofs.needed_all.Given as goal
 
 abbrev pub invariant-loop-i : goal.invariant-loop-i
 invariant-loop-i l =
-    (l.struck ≡ l.initial.struck) × Lays (shown_at l.file l.places l.table l.shape.n (hit_of l.shape) l.shape.space l.initial.struck) l.n l.initial.shown l.shown l.i
+    let p = l.o.policy in
+    (l.struck ≡ l.initial.struck) × Lays (shown_at p.file.now p.places.now p.table.now p.shape.n (hit_of p.shape) p.shape.space l.initial.struck) p.shape.n l.initial.shown l.shown l.i

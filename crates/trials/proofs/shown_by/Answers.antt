@@ -5,15 +5,15 @@ use Rattle.trials.proofs.shown_by.Goals as goal
 
 pub returns-then-not-is_left : goal.returns-then-not-is_left
 returns-then-not-is_left c =
-    (shown_other c.args.file.now c.args.places.now c.args.table.now c.args.struck.now c.args.shape _ (sym c.is_left.ensures ∙ c.if-not-is_left.true), refl)
+    (shown_other c.args.o.now.policy.file.now c.args.o.now.policy.places.now c.args.o.now.policy.table.now c.args.struck.now c.args.o.now.policy.shape _ (sym c.is_left.ensures ∙ c.if-not-is_left.true), refl)
 
 pub needed_by-requires : goal.needed_by-requires
 needed_by-requires c =
     let pre = c.requires in
-    (pre.0, pre.1, pre.2, sym c.is_left.ensures ∙ c.if-not-is_left.false)
+    (pre.0, pre.1, sym c.is_left.ensures ∙ c.if-not-is_left.false)
 
 pub returns : goal.returns
 returns c =
     let rule = sym c.is_left.ensures ∙ c.if-not-is_left.false in
     let needed = c.needed_by.ensures in
-    (shown_rule c.args.file.now c.args.places.now c.args.table.now c.args.struck.now c.args.shape _ _ rule needed.0, needed.1)
+    (shown_rule c.args.o.now.policy.file.now c.args.o.now.policy.places.now c.args.o.now.policy.table.now c.args.struck.now c.args.o.now.policy.shape _ _ rule needed.0, needed.1)

@@ -12,7 +12,7 @@ pub next_rule-requires : goal.next_rule-requires
 next_rule-requires c =
     let pre = c.requires in
     let found = c.find_outcomes.ensures in
-    (record { steady = pre.0; ready = pre.1; matched = found.0; holds = found.2 }, c.any_obligations-obliged.ensures, search rules, search rules, λ i l is_set. absurd (is_set (get_or-replicate 64 i 0 0 (omega (arith, pre.1.few)))))
+    (record { steady = pre.0; ready = pre.1; matched = found.0; holds = found.2 }, search rules, search rules, λ i l is_set. absurd (is_set (get_or-replicate 64 i 0 0 (omega (arith, pre.1.few)))))
 
 pub returns : goal.returns
 returns c = let next = c.next_rule.ensures in (next.0, next.1)

@@ -2,13 +2,9 @@
 use native.Mathlib.Omega.{arith}
 use borrow.Author.Rules.{rules}
 use lib.ListN.{get_or-replicate}
-use Rattle.trials.proofs.Trying.{obligation_room}
 use Rattle.trimming.proofs.trim_flags.Goals as goal
-
-pub any_obligations-obliged-requires : goal.any_obligations-obliged-requires
-any_obligations-obliged-requires c = let laid = c.requires.0 in obligation_room laid.steady laid.ready
 
 pub strike_rules-requires : goal.strike_rules-requires
 strike_rules-requires c =
     let pre = c.requires in
-    (pre.0, c.any_obligations-obliged.ensures, search rules, search rules, (λ i l is_set. absurd (is_set (get_or-replicate 64 i 0 0 (omega (arith, pre.0.ready.few))))), pre.1)
+    (pre.0, search rules, search rules, (λ i l is_set. absurd (is_set (get_or-replicate 64 i 0 0 (omega (arith, pre.0.ready.few))))), pre.1)

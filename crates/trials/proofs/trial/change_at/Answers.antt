@@ -5,22 +5,22 @@ use Rattle.trials.proofs.trial.change_at.Goals as goal
 
 pub reached-moved-requires : goal.reached-moved-requires
 reached-moved-requires c =
-    (block_ready c.args.file.now c.args.places.now c.args.table.now c.args.struck.now c.args.hits.now c.args.outcomes.now c.args.shape c.args.rule c.requires.0 c.args.block c.requires.3, c.requires.0.aside.element, λ inside. child c.args.file.now c.args.places.now c.args.table.now c.args.struck.now c.args.hits.now c.args.outcomes.now c.args.shape c.args.rule c.requires.0 c.args.up (c.requires.2.under inside))
+    (block_ready c.args.o.now.policy.file.now c.args.o.now.policy.places.now c.args.o.now.policy.table.now c.args.struck.now c.args.o.now.hits.now c.args.o.now.outcomes.now c.args.o.now.policy.shape c.args.rule c.requires.0 c.args.block c.requires.2, c.requires.0.aside.element, λ inside. child c.args.o.now.policy.file.now c.args.o.now.policy.places.now c.args.o.now.policy.table.now c.args.struck.now c.args.o.now.hits.now c.args.o.now.outcomes.now c.args.o.now.policy.shape c.args.rule c.requires.0 c.args.up (c.requires.1.under inside))
 
 pub returns-then-moved-eq0 : goal.returns-then-moved-eq0
 returns-then-moved-eq0 c =
-    none_moved c.args.file.now c.args.places.now c.args.table.now c.args.struck.now c.args.hits.now c.args.outcomes.now c.args.shape c.args.rule c.requires.0 c.args.up c.args.block _ c.requires.2 c.requires.3 c.reached-moved.ensures c.if-moved-eq0.true
+    none_moved c.args.o.now.policy.file.now c.args.o.now.policy.places.now c.args.o.now.policy.table.now c.args.struck.now c.args.o.now.hits.now c.args.o.now.outcomes.now c.args.o.now.policy.shape c.args.rule c.requires.0 c.args.up c.args.block _ c.requires.1 c.requires.2 c.reached-moved.ensures c.if-moved-eq0.true
 
 pub overflow_mul-result : goal.overflow_mul-result
-overflow_mul-result c = let pre = c.requires in omega (arith, pre.3, pre.0.aside.ready.small)
+overflow_mul-result c = let pre = c.requires in omega (arith, pre.2, pre.0.aside.ready.small)
 
 pub overflow_add-result : goal.overflow_add-result
-overflow_add-result c = let pre = c.requires in omega (arith, pre.3, pre.0.aside.ready.small, c.lowest.ensures.small)
+overflow_add-result c = let pre = c.requires in omega (arith, pre.2, pre.0.aside.ready.small, c.lowest.ensures.small)
 
 pub returns-then-up-eq0 : goal.returns-then-up-eq0
 returns-then-up-eq0 c =
-    first_moved c.args.file.now c.args.places.now c.args.table.now c.args.struck.now c.args.hits.now c.args.outcomes.now c.args.shape c.args.rule c.requires.0 c.args.up c.args.block _ c.requires.2 c.requires.3 c.reached-moved.ensures c.if-up-eq0.true _ c.lowest.ensures
+    first_moved c.args.o.now.policy.file.now c.args.o.now.policy.places.now c.args.o.now.policy.table.now c.args.struck.now c.args.o.now.hits.now c.args.o.now.outcomes.now c.args.o.now.policy.shape c.args.rule c.requires.0 c.args.up c.args.block _ c.requires.1 c.requires.2 c.reached-moved.ensures c.if-up-eq0.true _ c.lowest.ensures
 
 pub change_among-requires : goal.change_among-requires
 change_among-requires c =
-    (c.requires.0, c.requires.1, c.requires.3, suspects c.args.file.now c.args.places.now c.args.table.now c.args.struck.now c.args.hits.now c.args.outcomes.now c.args.shape c.args.rule c.requires.0 c.args.up c.args.block _ c.requires.2 c.requires.3 c.reached-moved.ensures)
+    (c.requires.0, c.requires.2, suspects c.args.o.now.policy.file.now c.args.o.now.policy.places.now c.args.o.now.policy.table.now c.args.struck.now c.args.o.now.hits.now c.args.o.now.outcomes.now c.args.o.now.policy.shape c.args.rule c.requires.0 c.args.up c.args.block _ c.requires.1 c.requires.2 c.reached-moved.ensures)

@@ -1,9 +1,9 @@
--- `obligation_difference`: the marks under both lists of flags tell which obligations come. Assumes nothing.
+-- `PolicyOutcomes::obligation_difference`: the marks under both lists of flags tell which obligations come. Assumes nothing.
 use native.Mathlib.Omega.{arith}
 use borrow.Author.Rules.{rules}
 use Rattle.differences.proofs.Apart.{obligation_room}
 use Rattle.differences.proofs.Marking.{first_of_both}
-use Rattle.differences.proofs.obligation_difference.Goals as goal
+use Rattle.differences.proofs.PolicyOutcomes.obligation_difference.Goals as goal
 
 pub unlike-requires : goal.unlike-requires
 unlike-requires c = let compared = c.requires.0 in (obligation_room compared.obliged compared.ready, search rules, search rules)
@@ -17,4 +17,6 @@ first_given-requires c =
 pub returns : goal.returns
 returns c =
     let args = c.args in
-    first_of_both args.file.now args.places.now args.table.now args.before.now args.struck.now args.hits.now args.outcomes.now args.shape c.requires.0 _ _ _ _ args.block c.requires.1 c.ask_all.ensures c.ask_all-2.ensures _ _ _ _ c.requires.2 c.unlike.ensures c.requires.3 c.first_given.ensures
+    let o = args.self.now in
+    let p = o.policy in
+    first_of_both p.file.now p.places.now p.table.now args.before.now args.struck.now o.hits.now o.outcomes.now p.shape c.requires.0 _ _ _ _ args.block c.requires.1 c.ask_all.ensures c.ask_all-2.ensures _ _ _ _ c.requires.2 c.unlike.ensures c.requires.3 c.first_given.ensures
