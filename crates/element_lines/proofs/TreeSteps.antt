@@ -1,5 +1,5 @@
 -- The step over a tree line: each of its refusals, and the line that is read.
-use Rattle.std.specs.Prelude.{Ok, Err}
+use Rattle.std.specs.Prelude.{Ok, Err, Some, None}
 use mathlib.Core.Path.{◌≡◌, sym, ap, ◌∙◌}
 use Prim.Native.Nat.{ℕ, ◌+◌, ◌*◌, ◌≤◌, ◌<◌}
 use native.Mathlib.Omega.{arith}
@@ -11,7 +11,7 @@ use Rattle.meaning.specs.declared.Kind.{Kind}
 use Rattle.meaning.specs.Text.{Bytes, empty, cut, tab}
 use Rattle.meaning.specs.Model.{Attribute, padded}
 use Rattle.meaning.specs.Reading.{depth_of, word_of, masks_of, Sofar, well_placed, lowest, bad_masks}
-use Rattle.laws.proofs.Bools.{Test, passed, failed, test, contradiction, or_false}
+use Rattle.laws.proofs.Bools.{Test, passed, failed, test, or_false}
 use Rattle.laws.proofs.Reading.{lowest_zero}
 use Rattle.laws.proofs.Bounds.{filled}
 use Rattle.refusals.specs.declared.Refusal.{Refusal}
@@ -24,7 +24,6 @@ use Rattle.layout.specs.Places.{part}
 use Rattle.layout.proofs.Laws.{attributes_length}
 use Rattle.attribute_lines.specs.declared.State.{State}
 use Rattle.attribute_lines.specs.Sofar.{TreeLine}
-use Rattle.tree_fields.specs.declared.Masks.{Masks}
 use Rattle.attribute_lines.specs.Steps.{BeforeLine, EndedLine, read_sofar, StepIs}
 use Rattle.element_lines.specs.Elements.{Fits, behind_tree}
 use Rattle.tree_fields.specs.Masks.{masks_in}
@@ -33,13 +32,19 @@ use Rattle.attribute_lines.proofs.TreeShape.{wrong_count_lem}
 use Rattle.element_lines.proofs.TreeLines.{earlier, earlier_numbered, earlier_refused, earlier_passed, el, room, tree_next}
 
 -- what the masks of a line say of its targets
-masks_judged : (attrs : List Attribute) (ts : List Bytes) {m : Masks} → m ≡ masks_in attrs ts
-    → (m.good ≡ false → bad_masks attrs (padded 6 (masks_of attrs ts)) ≡ true) × (m.good ≡ true → (bad_masks attrs (padded 6 (masks_of attrs ts)) ≡ false) × (m.masks ≡ padded 6 (masks_of attrs ts)))
-masks_judged attrs ts {m} is = go (test (bad_masks attrs (padded 6 (masks_of attrs ts))))
+masks_bad : (attrs : List Attribute) (ts : List Bytes) → masks_in attrs ts ≡ None → bad_masks attrs (padded 6 (masks_of attrs ts)) ≡ true
+masks_bad attrs ts is = go (test (bad_masks attrs (padded 6 (masks_of attrs ts))))
   where
-    go : Test (bad_masks attrs (padded 6 (masks_of attrs ts))) → (m.good ≡ false → bad_masks attrs (padded 6 (masks_of attrs ts)) ≡ true) × (m.good ≡ true → (bad_masks attrs (padded 6 (masks_of attrs ts)) ≡ false) × (m.masks ≡ padded 6 (masks_of attrs ts)))
-    go (passed bad) = (λ h. bad, λ h. contradiction h (ap (λ x. x.good) is ∙ rw bad))
-    go (failed fine) = (λ h. contradiction (ap (λ x. x.good) is ∙ rw fine) h, λ h. (fine, ap (λ x. x.masks) is ∙ rw fine))
+    go : Test (bad_masks attrs (padded 6 (masks_of attrs ts))) → bad_masks attrs (padded 6 (masks_of attrs ts)) ≡ true
+    go (passed bad) = bad
+    go (failed fine) = let some : Some (padded 6 (masks_of attrs ts)) ≡ None = rw fine at is in cc
+
+masks_good : (attrs : List Attribute) (ts : List Bytes) {masks : List ℕ} → masks_in attrs ts ≡ Some masks → (bad_masks attrs (padded 6 (masks_of attrs ts)) ≡ false) × (masks ≡ padded 6 (masks_of attrs ts))
+masks_good attrs ts {masks} is = go (test (bad_masks attrs (padded 6 (masks_of attrs ts))))
+  where
+    go : Test (bad_masks attrs (padded 6 (masks_of attrs ts))) → (bad_masks attrs (padded 6 (masks_of attrs ts)) ≡ false) × (masks ≡ padded 6 (masks_of attrs ts))
+    go (passed bad) = let none : None ≡ Some masks = rw bad at is in cc
+    go (failed fine) = let some : Some (padded 6 (masks_of attrs ts)) ≡ Some masks = rw fine at is in (fine, cc)
 
 module _ (f table places : List ℕ) (st : State) (end : ℕ) (k : Kind) (n : ℕ) (ready : BeforeLine f table places st) (at : EndedLine f st end) (line : TreeLine (cut tab (part f st.at end)) k n) where
   abbrev fs : List Bytes
@@ -71,20 +76,19 @@ module _ (f table places : List ℕ) (st : State) (end : ℕ) (k : Kind) (n : �
       pub room_there : end < 18446744073709551615 → Fits table places st end fs
       room_there l = room f table places st end k n ready at line count passed_earlier l
 
-      module _ {m : Masks} (is-masks : m ≡ masks_in s.attributes (drop 4 fs)) where
-        -- a bad target
-        pub targets_told : m.good ≡ false → StepIs f table places table places st end (Err BadTarget)
-        targets_told h = stopped BadTarget (sym (earlier_passed s fs k n line count passed_earlier ∙ rw ((masks_judged s.attributes (drop 4 fs) is-masks).0 h)))
+      -- a bad target
+      pub targets_told : masks_in s.attributes (drop 4 fs) ≡ None → StepIs f table places table places st end (Err BadTarget)
+      targets_told none = stopped BadTarget (sym (earlier_passed s fs k n line count passed_earlier ∙ rw (masks_bad s.attributes (drop 4 fs) none)))
 
-        -- the line is read
-        pub tree_told : (r : State) (t' p' : List ℕ) → m.good ≡ true → r ≡ behind_tree st end k fs
-            → t' ≡ with_row table st.tree.len (number_of_word (word_of k (get_or fs 3 []))) (depth_of (get_or fs 1 [])) m.masks
-            → p' ≡ sets places (2 * st.tree.len) (st.at ∷ (st.at + 4 + length (get_or fs 2 [])) ∷ [])
-            → StepIs f table places t' p' st end (Ok r)
-        tree_told r t' p' good is_state is-table is-places =
-            let (fine, masks-are) = (masks_judged s.attributes (drop 4 fs) is-masks).1 good in
-            record {
-              refusal = sym (earlier_passed s fs k n line count passed_earlier ∙ rw fine);
-              next = rw (is_state, is-table, is-places, masks-are) (tree_next f table places st end k n ready at line count passed_earlier);
-              stays = tt;
-            }
+      -- the line is read
+      pub tree_told : (r : State) (masks t' p' : List ℕ) → masks_in s.attributes (drop 4 fs) ≡ Some masks → r ≡ behind_tree st end k fs
+          → t' ≡ with_row table st.tree.len (number_of_word (word_of k (get_or fs 3 []))) (depth_of (get_or fs 1 [])) masks
+          → p' ≡ sets places (2 * st.tree.len) (st.at ∷ (st.at + 4 + length (get_or fs 2 [])) ∷ [])
+          → StepIs f table places t' p' st end (Ok r)
+      tree_told r masks t' p' some is_state is-table is-places =
+          let (fine, masks-are) = masks_good s.attributes (drop 4 fs) some in
+          record {
+            refusal = sym (earlier_passed s fs k n line count passed_earlier ∙ rw fine);
+            next = rw (is_state, is-table, is-places, masks-are) (tree_next f table places st end k n ready at line count passed_earlier);
+            stays = tt;
+          }

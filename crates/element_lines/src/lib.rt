@@ -118,10 +118,8 @@ pub fn tree_line(
     }
     let e = tree_fields::field_ends(line);
     element_refusal(file, attributes, places, tree, kind, line, e)?;
-    let m = tree_fields::line_masks(file, attributes, line, e);
-    if !m.good {
+    let Some(masks) = tree_fields::line_masks(file, attributes, line, e) else {
         return Err(Refusal::BadTarget);
-    }
-    let masks = m.masks;
+    };
     Ok(lay_line(st, end, kind, line, e, masks, table, places))
 }

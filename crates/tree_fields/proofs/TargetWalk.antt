@@ -1,4 +1,5 @@
 -- The masks of a tree line: the walk over the attributes and the target fields in step.
+use Rattle.std.specs.Prelude.{Some, None}
 use Prim.Native.Nat.{ℕ, zero, suc, ◌+◌, ◌-◌, ◌≤◌, ◌<◌, zero-le}
 use mathlib.Core.Path.{◌≡◌, refl, sym, ap, ◌∙◌}
 use mathlib.Core.Logic.{◌≢◌, ⊎_elim}
@@ -122,13 +123,13 @@ module _ {f : Bytes} {a : Attributes} {ts : List Bytes} {targets : Bytes} {masks
       }
 
   -- the answers
-  pub walk_bad : mask ≡ 0 → record { good = false; masks = replicate 6 0 } ≡ masks_in (attributes_of f a) ts
+  pub walk_bad : mask ≡ 0 → None ≡ masks_in (attributes_of f a) ts
   walk_bad zero-mask =
       let here-bad : bad_masks (rest f a i) (masks_from f a targets i at ++ padding f a ts) ≡ true =
       rw (this_attribute, this_target) (first_bad (attribute_at f a i) (rest f a (i + 1)) piece (behind tab targets e) (padding f a ts) mask is_mask zero-mask) in
       rw (sym w.judged ∙ here-bad)
 
-  pub walk_ends : mask ≢ 0 → i + 1 ≡ a.len → record { good = true; masks = set masks i mask } ≡ masks_in (attributes_of f a) ts
+  pub walk_ends : mask ≢ 0 → i + 1 ≡ a.len → Some (set masks i mask) ≡ masks_in (attributes_of f a) ts
   walk_ends some-bit l =
       let later = behind tab targets e in
       let none-bad : bad_masks (rest f a (i + 1)) (masks_of (rest f a (i + 1)) later ++ padding f a ts) ≡ false = rw (none_after l) (zeros (6 - length (all_masks f a ts))) in

@@ -18,13 +18,6 @@ pub struct FieldEnds {
     pub word: usize,
 }
 
-// The masks of a tree line where all its targets are good, else zeros.
-#[derive(Clone, Copy)]
-pub struct Masks {
-    pub good: bool,
-    pub masks: [u16; 6],
-}
-
 pub fn field_ends(line: &[u8]) -> FieldEnds
     requires { 4 ≤ length (cut tab line.now) }
     ensures value { result ≡ ends_of line.now }
@@ -78,8 +71,8 @@ pub fn target_fields(line: &[u8], e: FieldEnds) -> &[u8]
     &line[from..]
 }
 
-// The masks of a tree line, one for each attribute.
-pub fn line_masks(file: &[u8], a: Attributes, line: &[u8], e: FieldEnds) -> Masks
+// The masks of a tree line, one for each attribute, where all its targets are good.
+pub fn line_masks(file: &[u8], a: Attributes, line: &[u8], e: FieldEnds) -> Option<[u16; 6]>
     requires { AllStanding file.now a × FewValues a × (1 ≤ a.len) × (length (cut tab line.now) ≡ 4 + a.len) × Headed line.now e }
     ensures { result ≡ masks_in (attributes_of file.now a) (drop 4 (cut tab line.now)) }
 {
@@ -96,15 +89,12 @@ pub fn line_masks(file: &[u8], a: Attributes, line: &[u8], e: FieldEnds) -> Mask
         let last = ends[i];
         let mask = syntax::target_mask(&file[first..last], counts[i], &targets[at..end]);
         if mask == 0 {
-            return Masks {
-                good: false,
-                masks: [0; 6],
-            };
+            return None;
         }
         masks[i] = mask;
         i += 1;
         if i == a.len {
-            return Masks { good: true, masks };
+            return Some(masks);
         }
         at = end + 1;
     }

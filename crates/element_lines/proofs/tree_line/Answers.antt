@@ -5,7 +5,6 @@ use mathlib.Core.Path.{◌≡◌, refl, sym, ◌∙◌}
 use mathlib.Core.List.{List}
 use native.Mathlib.Omega.{arith}
 use borrow.Author.Rules.{rules}
-use borrow.Author.Tests.{not-true, not-false}
 use Rattle.layout.proofs.Laws.{element_names}
 use Rattle.attribute_lines.specs.declared.State.{State}
 use Rattle.element_lines.specs.Elements.{Behind}
@@ -37,18 +36,18 @@ returns-in_err-element_refusal c =
     let same : c.from_residual.result ≡ Err c.in_err-element_refusal.field-0.0 = search rules in
     rw same (earlier_told _ _ _ _ _ _ _ pre.0 pre.1 pre.2 c.if-fields-attributes.false _ (c.in_err-element_refusal.ensures _ (behind pre.0)))
 
-pub line_masks-m-requires : goal.line_masks-m-requires
-line_masks-m-requires c =
+pub line_masks-requires : goal.line_masks-requires
+line_masks-requires c =
     let pre = c.requires in
     let passed = sym (c.in_ok-element_refusal.ensures _ (behind pre.0)) in
     let attributes = pre.0.in_file.attributes in
     (attributes.standing, attributes.few_values, some_attribute _ _ _ _ _ _ _ pre.0 pre.1 pre.2 c.if-fields-attributes.false passed, sym pre.2.count ∙ c.if-fields-attributes.false, c.field_ends-e.ensures.headed)
 
-pub returns-then-not-m : goal.returns-then-not-m
-returns-then-not-m c =
+pub returns-in_default : goal.returns-in_default
+returns-in_default c =
     let pre = c.requires in
     let passed = sym (c.in_ok-element_refusal.ensures _ (behind pre.0)) in
-    targets_told _ _ _ _ _ _ _ pre.0 pre.1 pre.2 c.if-fields-attributes.false passed c.line_masks-m.ensures (not-true _ c.if-not-m.true)
+    targets_told _ _ _ _ _ _ _ pre.0 pre.1 pre.2 c.if-fields-attributes.false passed (sym c.in_default.ensures)
 
 pub lay_line-requires : goal.lay_line-requires
 lay_line-requires c =
@@ -60,6 +59,5 @@ pub returns : goal.returns
 returns c =
     let pre = c.requires in
     let passed = sym (c.in_ok-element_refusal.ensures _ (behind pre.0)) in
-    let good = not-false _ c.if-not-m.false in
     let put = c.lay_line.ensures in
-    tree_told _ _ _ _ _ _ _ pre.0 pre.1 pre.2 c.if-fields-attributes.false passed c.line_masks-m.ensures _ _ _ good put.value put.table_after put.places_after
+    tree_told _ _ _ _ _ _ _ pre.0 pre.1 pre.2 c.if-fields-attributes.false passed _ _ _ _ (sym c.in-Some.ensures) put.value put.table_after put.places_after
