@@ -29,19 +29,12 @@ fn word(s: &[u8], i: usize) -> u64
     below(s[i], h)
 }
 
-// Whether two texts of one length are equal. From the last byte: names that are alike mostly differ in a number at the end.
+// Whether two texts of one length are equal.
 fn same_bytes(a: &[u8], b: &[u8]) -> bool
     requires { length a.now ≡ length b.now }
     ensures { result ≡ same a.now b.now }
 {
-    let mut i = a.len();
-    while 0 < i {
-        i -= 1;
-        if a[i] != b[i] {
-            return false;
-        }
-    }
-    true
+    text::alike(a, b, |x, y| x == y)
 }
 
 // The same for 8 bytes or more. Two words, which may overlap, have all bytes of a name.

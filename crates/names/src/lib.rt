@@ -36,21 +36,6 @@ fn same_letter(x: u8, y: u8) -> bool
     first == second
 }
 
-// Whether two names of one length are equal. From the last byte: names that are alike mostly differ in a number at the end.
-fn same_letters(a: &[u8], b: &[u8]) -> bool
-    requires { length a.now ≡ length b.now }
-    ensures { result ≡ same_name a.now b.now }
-{
-    let mut i = a.len();
-    while 0 < i {
-        i -= 1;
-        if !same_letter(a[i], b[i]) {
-            return false;
-        }
-    }
-    true
-}
-
 // Whether two names are equal: they differ at most in letter case. Nothing else calls names equal; a target's are compared to
 // the byte, in `syntax`.
 pub fn same_name(a: &[u8], b: &[u8]) -> bool
@@ -59,7 +44,7 @@ pub fn same_name(a: &[u8], b: &[u8]) -> bool
     if a.len() != b.len() {
         return false;
     }
-    same_letters(a, b)
+    text::alike(a, b, |x, y| same_letter(x, y))
 }
 
 // Whether the texts that end at this place end otherwise than the name: a quick test that tells most names apart.

@@ -6,6 +6,7 @@ mod runs;
 ghost use Rattle.std.specs.Prelude.{◌≡◌, cond, [], ◌+◌, ◌≤◌, ◌<◌, length, drop, get_or};
 ghost use Rattle.meaning.specs.Text.{all, cut, newline, tab, is_field};
 ghost use Rattle.text.specs.Runs.{FirstLine};
+ghost use Rattle.text.specs.Alike.{Alike};
 
 // Where the piece that starts at `at` ends: the place of the next `sep`, or the length.
 pub fn end_of(s: &[u8], at: usize, sep: u8) -> usize
@@ -105,4 +106,19 @@ pub fn from_field(line: &[u8], k: usize) -> &[u8]
         at = end_of(line, at, b'\t') + 1;
     }
     &line[at..]
+}
+
+// Whether a test passes at each place of two texts of one length. From the last byte: names that are alike mostly differ in a
+// number at the end.
+pub fn alike<F: Fn(u8, u8) -> bool>(a: &[u8], b: &[u8], test: F) -> bool
+    requires may { F.IsAlwaysCallable test }
+    requires one_length { length a.now ≡ length b.now }
+    ensures { Alike (F.post test) a.now b.now result }
+{
+    for i in (0..a.len()).rev() {
+        if !test(a[i], b[i]) {
+            return false;
+        }
+    }
+    true
 }
