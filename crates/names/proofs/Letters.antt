@@ -4,13 +4,13 @@ use native.Mathlib.Omega.{arith}
 use mathlib.Core.Path.{◌≡◌, refl, sym, ap, ◌∙◌}
 use mathlib.Core.Logic.{◌≢◌}
 use mathlib.Core.List.{[], ◌∷◌}
-use mathlib.Core.Bool.{true, false, not}
+use mathlib.Core.Bool.{false, not}
 use lib.ListN.{length, get_or, length-map}
 use lib.Dec.{eqb}
-use borrow.Author.Tests.{eqb-true, eqb-false, not-false}
+use borrow.Author.Tests.{eqb-true, not-false}
 use Rattle.meaning.specs.Text.{Bytes, between, folded, lower, same_name}
 use Rattle.laws.proofs.Bools.{Test, passed, failed, test}
-use Rattle.laws.proofs.Text.{same_apart, same_length}
+use Rattle.laws.proofs.Text.{same_length}
 use Rattle.laws.proofs.Search.{first_none}
 use Rattle.laws.proofs.Reflects.{within}
 use Rattle.names.specs.Letters.{caseless}
@@ -43,11 +43,3 @@ lower_length s = length-map s folded
 
 pub other_length : (a b : Bytes) → (length a ≡ length b → ⊥) → same_name a b ≡ false
 other_length a b n = same_length (lower a) (lower b) (λ e. n (sym (lower_length a) ∙ e ∙ lower_length b))
-
--- Two names, and what the test of their letters at one place says
-module _ (a b : Bytes) (i : ℕ) where
-  pub one_letter : eqb (folded (get_or a i 0)) (folded (get_or b i 0)) ≡ true → get_or (lower a) i 0 ≡ get_or (lower b) i 0
-  one_letter e = lower_at a i ∙ eqb-true (folded (get_or a i 0)) (folded (get_or b i 0)) e ∙ sym (lower_at b i)
-
-  pub other_letter : eqb (folded (get_or a i 0)) (folded (get_or b i 0)) ≡ false → same_name a b ≡ false
-  other_letter e = same_apart (lower a) (lower b) (λ s. eqb-false (folded (get_or a i 0)) (folded (get_or b i 0)) e (sym (lower_at a i) ∙ ap (λ l. get_or l i 0) s ∙ lower_at b i))

@@ -11,13 +11,7 @@ ghost use Rattle.names.specs.Ends.{ends_otherwise};
 fn folded(b: u8) -> u8
     ensures { result ≡ folded b }
 {
-    if b < 65 {
-        return b;
-    }
-    if 90 < b {
-        return b;
-    }
-    b + 32
+    b.to_ascii_lowercase()
 }
 
 // Whether two bytes differ at most in letter case. Most are the same, or differ in more than the bit that tells the cases
@@ -64,16 +58,7 @@ pub fn ends_otherwise(s: &[u8], end: usize, name: &[u8]) -> bool
 fn name_byte(b: u8) -> bool
     ensures { result ≡ name_byte b }
 {
-    if 97 <= b {
-        return b <= 122;
-    }
-    if 65 <= b {
-        return b <= 90;
-    }
-    if 48 <= b {
-        return b <= 57;
-    }
-    b == 45
+    b.is_ascii_alphanumeric() || b == b'-'
 }
 
 // Whether a text is a name: its length and first byte first, then every byte.
@@ -89,12 +74,10 @@ pub fn is_name(s: &[u8]) -> bool
     if s[0] == b'-' {
         return false;
     }
-    let mut i = 0;
-    while i < s.len() {
-        if !name_byte(s[i]) {
+    for b in s {
+        if !name_byte(*b) {
             return false;
         }
-        i += 1;
     }
     true
 }

@@ -1,4 +1,4 @@
--- `names::is_name` meets its contract. The loop keeps the answer: a text that its length and first byte allow is a name if the bytes from i on are those of names.
+-- `names::is_name` meets its contract. The loop keeps the answer: a text that its length and first byte allow is a name if the bytes behind are those of names.
 use mathlib.Core.Path.{sym, ◌∙◌}
 use borrow.Author.Rules.{rules}
 use Rattle.meaning.specs.Text.{name_byte}
@@ -14,18 +14,18 @@ returns-then-s-gt16 c = sym (name_long c.args.s.now c.if-s-gt16.true)
 pub returns-then-s-eq45 : goal.returns-then-s-eq45
 returns-then-s-eq45 c = sym (name_hyphen c.args.s.now (search rules) c.if-s-eq45.true)
 
-pub loop-i-init : goal.loop-i-init
-loop-i-init c = (search rules, name_by_bytes c.args.s.now (search rules) (search rules) c.if-s-eq45.false)
+pub loop-b-init : goal.loop-b-init
+loop-b-init c = name_by_bytes c.args.s.now (search rules) (search rules) c.if-s-eq45.false
 
 pub returns-then-not-name_byte : goal.returns-then-not-name_byte
 returns-then-not-name_byte c =
     let s = c.args.s.now in
-    sym (c.loop-i.invariant.1 ∙ all_fail name_byte s c.loop-i.i (search rules) (sym c.name_byte.ensures ∙ c.if-not-name_byte.true))
+    sym (c.loop-b.invariant ∙ all_fail name_byte s c.loop-b.b-index (search rules) (sym c.name_byte.ensures ∙ c.if-not-name_byte.true))
 
-pub loop-i-preserved : goal.loop-i-preserved
-loop-i-preserved c =
+pub loop-b-preserved : goal.loop-b-preserved
+loop-b-preserved c =
     let s = c.args.s.now in
-    (search rules, c.loop-i.invariant.1 ∙ all_pass name_byte s c.loop-i.i (search rules) (sym c.name_byte.ensures ∙ c.if-not-name_byte.false))
+    c.loop-b.invariant ∙ all_pass name_byte s c.loop-b.b-index (search rules) (sym c.name_byte.ensures ∙ c.if-not-name_byte.false)
 
 pub returns : goal.returns
-returns c = sym (c.loop-i.invariant.1 ∙ all_end name_byte c.args.s.now c.loop-i.i (search rules))
+returns c = sym (c.loop-b.invariant ∙ all_end name_byte c.args.s.now c.loop-b.b-index (search rules))
