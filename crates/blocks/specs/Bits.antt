@@ -25,14 +25,13 @@ reply_bit r v = record { matched = bit r.matched v; decision = decision_bit r.gi
 abbrev pub Answers : List ℕ → List ℕ → ℕ → ℕ → ℕ → (Element → Bool) → Type 0
 Answers t hits n block v hit = (i : ℕ) → i < n → bit (get_or hits (64 * i + block) 0) v ≡ hit (element_at t i)
 
--- a table of n elements, a flag and 64 words for each, one of at most 64 blocks, and a place among the elements or their end
-pub record Block (t struck hits : List ℕ) (n block i : ℕ) : Type 0 where
+-- a table of n elements, a flag and 64 words for each, and one of at most 64 blocks
+pub record Fits (t struck hits : List ℕ) (n block : ℕ) : Type 0 where
   pub rows : Rows t n
   pub flags : n ≤ length struck
   pub words : 64 * n ≤ length hits
   pub few : n ≤ 64
   pub within : block < 64
-  pub place : i ≤ n
 
 -- bit r is set, and none below it
 pub record Lowest (word r : ℕ) : Type 0 where

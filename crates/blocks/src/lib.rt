@@ -1,13 +1,15 @@
 // Replies on 64 requests at once: a word has a bit for each request of a block.
 #![tactic(auto)]
 
-ghost use Rattle.std.specs.Prelude.{◌≡◌, ℕ, ◌+◌, ◌<◌, Bool, not, ◌&&◌, [], ◌∷◌};
+ghost use Rattle.std.specs.Prelude.{◌≡◌, ℕ, ◌+◌, ◌*◌, ◌≤◌, ◌<◌, Bool, not, ◌&&◌, [], ◌∷◌, get_or};
 ghost use Rattle.meaning.specs.declared.Element.{Element};
 ghost use Rattle.meaning.specs.declared.Word.TheVariants.{DenyOverrides, PermitOverrides, FirstApplicable, OnlyOneApplicable};
 ghost use Rattle.meaning.specs.Deciding.{bit, is, decision_number, combined};
-ghost use Rattle.table.specs.Rows.{algorithm_at};
+ghost use Rattle.table.specs.Rows.{algorithm_of};
 ghost use Rattle.decisions.specs.Replies.{next_of, step_of, replies_from, reply_at};
-ghost use Rattle.blocks.specs.Bits.{decision_bit, reply_bit, Answers, Block, Lowest};
+ghost use Rattle.blocks.specs.Bits.{decision_bit, reply_bit, Answers, Fits, Lowest};
+
+use meaning::Word;
 
 // Which requests are permitted and which denied: both is indeterminate, none not-applicable.
 #[derive(Clone, Copy)]
@@ -16,11 +18,37 @@ pub struct Effects {
     pub denies: u64,
 }
 
+impl Effects {
+    pub const NONE: Effects = Effects {
+        permits: 0,
+        denies: 0,
+    };
+}
+
 // Which requests match an element's own target, and what it gives on them.
 #[derive(Clone, Copy)]
 pub struct Replies {
     pub matched: u64,
     pub given: Effects,
+}
+
+impl Replies {
+    // Those of no children.
+    pub const NONE: Replies = Replies {
+        matched: 0,
+        given: Effects::NONE,
+    };
+}
+
+// One of at most 64 blocks of requests, over the first `n` elements of a table: a flag for each, and 64 words for each, of which one tells which of the block's requests match its own target.
+#[derive(Clone, Copy)]
+pub struct Block<'a> {
+    pub table: &'a [u16],
+    pub struck: &'a [u8],
+    pub hits: &'a [u64],
+    pub n: usize,
+    pub block: usize,
+    pub ghost fits: { Fits table.now struck.now hits.now n block },
 }
 
 // The bits of a word that another one does not have.
@@ -83,130 +111,87 @@ fn only_one(so_far: Replies, child: Replies) -> Effects
 }
 
 // The decision of the children so far and one more.
-fn next(algorithm: usize, so_far: Replies, child: Replies) -> Effects
-    ensures { (v : ℕ) → decision_bit result v ≡ combined (algorithm_at algorithm) (reply_bit so_far v ∷ reply_bit child v ∷ []) }
+fn next(algorithm: Word, so_far: Replies, child: Replies) -> Effects
+    ensures { (v : ℕ) → decision_bit result v ≡ combined (algorithm_of algorithm) (reply_bit so_far v ∷ reply_bit child v ∷ []) }
 {
-    if algorithm == 0 {
-        return deny_overrides(so_far.given, child.given);
+    match algorithm {
+        Word::DenyOverrides => deny_overrides(so_far.given, child.given),
+        Word::PermitOverrides => permit_overrides(so_far.given, child.given),
+        Word::FirstApplicable => first_applicable(so_far.given, child.given),
+        _ => only_one(so_far, child),
     }
-    if algorithm == 1 {
-        return permit_overrides(so_far.given, child.given);
-    }
-    if algorithm == 2 {
-        return first_applicable(so_far.given, child.given);
-    }
-    only_one(so_far, child)
 }
 
 // The children so far and one more, taken as one.
-pub fn step(algorithm: usize, so_far: Replies, child: Replies) -> Replies
-    ensures { (v : ℕ) → reply_bit result v ≡ step_of (algorithm_at algorithm) (reply_bit so_far v) (reply_bit child v) }
+pub fn step(algorithm: Word, so_far: Replies, child: Replies) -> Replies
+    ensures { (v : ℕ) → reply_bit result v ≡ step_of (algorithm_of algorithm) (reply_bit so_far v) (reply_bit child v) }
 {
-    let given = next(algorithm, so_far, child);
     Replies {
         matched: so_far.matched | child.matched,
-        given,
+        given: next(algorithm, so_far, child),
     }
 }
 
-// The replies of element `at` on the requests of a block: behind it stand its children, and what comes after them.
-#[cycle(fold_reply)]
-pub fn reply(
-    table: &[u16],
-    struck: &[u8],
-    hits: &[u64],
-    n: usize,
-    block: usize,
-    at: usize,
-) -> Replies
-    requires { Block table.now struck.now hits.now n block (at + 1) }
-    ensures { (v : ℕ) (hit : Element → Bool) → Answers table.now hits.now n block v hit → reply_bit result v ≡ reply_at hit table.now struck.now n at }
-{
-    let matched = hits[64 * at + block];
-    if matched == 0 {
-        return Replies {
-            matched,
-            given: Effects {
-                permits: 0,
-                denies: 0,
-            },
-        };
+impl Block<'_> {
+    // The requests that match element i's own target.
+    pub fn matched(&self, i: usize) -> u64
+        requires { i < self.now.n }
+        ensures { result ≡ get_or self.now.hits.now (64 * i + self.now.block) 0 }
+    {
+        self.hits[64 * i + self.block]
     }
-    let word = table::word_at(table, at);
-    if word == 0 {
-        return Replies {
-            matched,
-            given: Effects {
+
+    // The replies of element `at`: behind it stand its children, and what comes after them.
+    #[cycle(fold_reply)]
+    pub fn reply(&self, at: usize) -> Replies
+        requires { at < self.now.n }
+        ensures { (v : ℕ) (hit : Element → Bool) → Answers self.now.table.now self.now.hits.now self.now.n self.now.block v hit → reply_bit result v ≡ reply_at hit self.now.table.now self.now.struck.now self.now.n at }
+    {
+        let matched = self.matched(at);
+        if matched == 0 {
+            return Replies::NONE;
+        }
+        let given = match table::word_at(self.table, at) {
+            Word::Permit => Effects {
                 permits: matched,
                 denies: 0,
             },
-        };
-    }
-    if word == 1 {
-        return Replies {
-            matched,
-            given: Effects {
+            Word::Deny => Effects {
                 permits: 0,
                 denies: matched,
             },
+            algorithm => {
+                let depth = table::depth_at(self.table, at) + 1;
+                let given = self.fold(at + 1, depth, algorithm);
+                Effects {
+                    permits: matched & given.permits,
+                    denies: matched & given.denies,
+                }
+            }
         };
+        Replies { matched, given }
     }
-    let depth = table::depth_at(table, at) + 1;
-    let given = fold(table, struck, hits, n, block, at + 1, depth, word - 2);
-    Replies {
-        matched,
-        given: Effects {
-            permits: matched & given.permits,
-            denies: matched & given.denies,
-        },
-    }
-}
 
-// What the algorithm gives of the children at the depth from `from` on, up to the first element of a lower depth.
-#[cycle(fold_reply)]
-fn fold(
-    table: &[u16],
-    struck: &[u8],
-    hits: &[u64],
-    n: usize,
-    block: usize,
-    from: usize,
-    depth: usize,
-    algorithm: usize,
-) -> Effects
-    requires { Block table.now struck.now hits.now n block from }
-    ensures { (v : ℕ) (hit : Element → Bool) → Answers table.now hits.now n block v hit → decision_bit result v ≡ combined (algorithm_at algorithm) (replies_from hit table.now struck.now n depth from) }
-{
-    let mut so_far = Replies {
-        matched: 0,
-        given: Effects {
-            permits: 0,
-            denies: 0,
-        },
-    };
-    let mut at = from;
-    while at < n {
-        if struck[at] != 0 {
-            at += 1;
-            continue;
+    // What the algorithm gives of the children at the depth from `from` on, up to the first element of a lower depth.
+    #[cycle(fold_reply)]
+    fn fold(&self, from: usize, depth: usize, algorithm: Word) -> Effects
+        requires { from ≤ self.now.n }
+        ensures { (v : ℕ) (hit : Element → Bool) → Answers self.now.table.now self.now.hits.now self.now.n self.now.block v hit → decision_bit result v ≡ combined (algorithm_of algorithm) (replies_from hit self.now.table.now self.now.struck.now self.now.n depth from) }
+    {
+        let mut so_far = Replies::NONE;
+        for at in from..self.n {
+            if self.struck[at] == 0 {
+                let d = table::depth_at(self.table, at);
+                if d < depth {
+                    return so_far.given;
+                }
+                if d == depth && self.matched(at) != 0 {
+                    so_far = step(algorithm, so_far, self.reply(at));
+                }
+            }
         }
-        let d = table::depth_at(table, at);
-        if d < depth {
-            return so_far.given;
-        }
-        if depth < d {
-            at += 1;
-            continue;
-        }
-        if hits[64 * at + block] == 0 {
-            at += 1;
-            continue;
-        }
-        let child = reply(table, struck, hits, n, block, at);
-        so_far = step(algorithm, so_far, child);
-        at += 1;
+        so_far.given
     }
-    so_far.given
 }
 
 // The number of the decision on the request whose bit is v.

@@ -1,26 +1,28 @@
 -- The words that `ask` keeps: the bits set, and those that the children from the next one on are still to set.
-use Prim.Native.Nat.{ℕ, suc, ◌+◌, ◌≤◌, ◌<◌}
+use Prim.Native.Nat.{ℕ, suc, ◌+◌, ◌-◌, ◌≤◌, ◌<◌}
 use mathlib.Core.Path.{◌≡◌, refl, sym, ap, ◌∙◌}
 use mathlib.Core.Bool.{Bool, true, false, not, ◌&&◌, ◌||◌, and-true, and-false, or-false}
 use mathlib.Core.List.{List}
-use native.Mathlib.Omega.{arith}
 use lib.Bits.{bit_and, bit_or}
 use lib.Dec.{eqb}
 use lib.ListN.{length, get_or, set}
 use lib.Seq.{get_or-set_same, get_or-set_other}
-use borrow.Author.Tests.{lt-ltb, eqb-true, eqb-false}
+use borrow.Author.Tests.{eqb-true, eqb-false}
+use Rattle.std.specs.Prelude.{Some, None}
+use Rattle.meaning.specs.declared.Word.{Word}
+use Rattle.meaning.specs.declared.Word.TheVariants.{FirstApplicable}
 use Rattle.meaning.specs.declared.Element.{Element}
 use Rattle.meaning.specs.Deciding.{bit}
 use Rattle.laws.proofs.Bits.{bit_and_lem, bit_or_lem, bit_zero}
+use Rattle.laws.specs.Found.{found}
 use Rattle.laws.proofs.Bools.{Test, passed, failed, test}
 use Rattle.table.specs.Rows.{word_at, word_number, depth_of}
 use Rattle.table.specs.Tree.{next_child}
 use Rattle.decisions.specs.Replies.{reply_at}
 use Rattle.blocks.specs.declared.Effects.{Effects}
 use Rattle.blocks.specs.Bits.{decision_bit, Answers}
-use Rattle.chains.specs.Chain.{alike, settles, chained_from, chained}
-use Rattle.chains.proofs.Words.{effect_asks, algorithm_asks}
-use Rattle.chains.proofs.Places.{from_child, from_none, from_idle, none_in, next_is}
+use Rattle.chains.specs.Chain.{alike, asks, settles, chained_from, chained}
+use Rattle.chains.proofs.Places.{none_in, at_child, no_child, one_child}
 
 -- bits set in a word
 set_bits : (l : List ℕ) (at w v j : ℕ) → at < length l → bit (get_or (set l at (bit_or (get_or l at 0) w)) j 0) v ≡ (bit (get_or l j 0) v || (eqb j at && bit w v))
@@ -35,60 +37,53 @@ regrouped true p q r = refl
 regrouped false true q r = refl
 regrouped false false q r = refl
 
--- The children at depth k of a parent whose word is number w, asked from place `from` on, on the requests of `on`
-module _ (t s hits : List ℕ) (n block from k w on : ℕ) (first : Effects) where
-  -- what `old` and all children come to, `given` and the children from the child `at` on come to, which are asked on those of `left`
+-- The children at depth k of a parent with the word w, asked from place `from` on, on the requests of `on`
+module _ (t s hits : List ℕ) (n block from k : ℕ) (w : Word) (on : ℕ) (first : Effects) where
+  -- what `old` and all children come to, `given` and the children from place `at` on come to, which are asked on those of `left`
   abbrev pub Marking : (old given : List ℕ) (left at : ℕ) → Type 0
   Marking old given left at =
       (v : ℕ) (hit : Element → Bool) → Answers t hits n block v hit → (j : ℕ)
-      → (bit (get_or old j 0) v || chained_from hit (decision_bit first v) t s n (word_at w) k (bit on v) j from)
-      ≡ (bit (get_or given j 0) v || from_child hit (decision_bit first v) t s n (word_at w) k (bit left v) j at)
+      → (bit (get_or old j 0) v || chained_from hit (decision_bit first v) t s n w k (bit on v) j from)
+      ≡ (bit (get_or given j 0) v || chained_from hit (decision_bit first v) t s n w k (bit left v) j at)
 
   -- what is asked for in the end
   abbrev pub Marked : (old given : List ℕ) → Type 0
   Marked old given =
       (v : ℕ) (hit : Element → Bool) → Answers t hits n block v hit → (j : ℕ)
-      → bit (get_or given j 0) v ≡ (bit (get_or old j 0) v || chained_from hit (decision_bit first v) t s n (word_at w) k (bit on v) j from)
-
-  pub effect_marks : (old : List ℕ) → w < 2 → Marked old old
-  effect_marks old l v hit answers j =
-      let none = ap (λ a. bit on v && a) (effect_asks w (omega arith)) ∙ and-false (bit on v) in
-      sym (or-false (bit (get_or old j 0) v)) ∙ ap (λ x. bit (get_or old j 0) v || x) (sym (none_in hit (decision_bit first v) t s n (word_at w) k (bit on v) j from _ none))
-
-  pub begins : (old : List ℕ) (at : ℕ) → from ≤ n → at ≡ next_child t s n k from → Marking old old on at
-  begins old at l e v hit answers j = ap (λ x. bit (get_or old j 0) v || x) (next_is hit (decision_bit first v) t s n (word_at w) k (bit on v) j from at l e)
+      → bit (get_or given j 0) v ≡ (bit (get_or old j 0) v || chained_from hit (decision_bit first v) t s n w k (bit on v) j from)
 
   module _ (old given : List ℕ) (left at : ℕ) (marking : Marking old given left at) where
-    settles_all : ((v : ℕ) (hit : Element → Bool) (j : ℕ) → from_child hit (decision_bit first v) t s n (word_at w) k (bit left v) j at ≡ false) → Marked old given
+    settles_all : ((v : ℕ) (hit : Element → Bool) (j : ℕ) → chained_from hit (decision_bit first v) t s n w k (bit left v) j at ≡ false) → Marked old given
     settles_all none v hit answers j = sym (marking v hit answers j ∙ ap (λ x. bit (get_or given j 0) v || x) (none v hit j) ∙ or-false (bit (get_or given j 0) v))
 
-    -- no child is left, or none is asked any more
-    pub ends : n ≤ at → Marked old given
-    ends l = settles_all (λ v hit j. from_none hit (decision_bit first v) t s n (word_at w) k (bit left v) j at l)
+    -- no child is left, or none is asked any more, or none is asked at all
+    pub ends : at ≤ n → None ≡ found (next_child t s n k at) → Marked old given
+    ends l e = settles_all (λ v hit j. no_child hit (decision_bit first v) t s n w k (bit left v) j at l e)
 
-    pub stops : at < n → left ≡ 0 → Marked old given
-    stops l e = settles_all (λ v hit j. from_idle hit (decision_bit first v) t s n (word_at w) k (bit left v) j at l (rw (e, bit_zero v)))
+    pub stops : left ≡ 0 → Marked old given
+    stops e = settles_all (λ v hit j. none_in hit (decision_bit first v) t s n w k (bit left v) j at (n - at) (rw (e, bit_zero v)))
 
-    -- the child `at` is asked, and those below it, and those behind it are left
-    module _ (inside : at < n) (group : 2 ≤ w) (room : n ≤ length given) (gives : Effects) (agrees ended left' at' : ℕ) (new : List ℕ)
-        (replies : (v : ℕ) (hit : Element → Bool) → Answers t hits n block v hit → decision_bit gives v ≡ (reply_at hit t s n at).decision)
+    pub effect_marks : asks w ≡ false → Marked old given
+    effect_marks e = settles_all (λ v hit j. none_in hit (decision_bit first v) t s n w k (bit left v) j at (n - at) (rw (e, and-false (bit left v))))
+
+    -- the next child, `child`, is asked, and those below it, and those behind it are left
+    module _ (low : at ≤ n) (child : ℕ) (is : Some child ≡ found (next_child t s n k at)) (group : asks w ≡ true) (room : child < length given) (gives : Effects) (agrees ended left' : ℕ) (new : List ℕ)
+        (replies : (v : ℕ) (hit : Element → Bool) → Answers t hits n block v hit → decision_bit gives v ≡ (reply_at hit t s n child).decision)
         (agreed : (v : ℕ) → bit agrees v ≡ alike (decision_bit first v) (decision_bit gives v))
-        (settled : (v : ℕ) → bit ended v ≡ settles (word_at w) (decision_bit gives v))
-        (fewer : (v : ℕ) → bit left' v ≡ (bit left v && not (bit ended v)))
-        (next : at' ≡ next_child t s n k (at + 1)) where
+        (settled : (v : ℕ) → bit ended v ≡ settles w (decision_bit gives v))
+        (fewer : (v : ℕ) → bit left' v ≡ (bit left v && not (bit ended v))) where
       abbrev same : ℕ
       same = bit_and left agrees
 
       pub asks_one : ((v : ℕ) (hit : Element → Bool) → Answers t hits n block v hit → (j : ℕ)
           → bit (get_or new j 0) v
-          ≡ (bit (get_or (set given at (bit_or (get_or given at 0) same)) j 0) v || chained_from hit (decision_bit first v) t s n (word_at (word_number t at)) (suc (depth_of t at)) (bit same v) j (at + 1)))
-          → Marking old new left' at'
+          ≡ (bit (get_or (set given child (bit_or (get_or given child 0) same)) j 0) v || chained_from hit (decision_bit first v) t s n (word_at (word_number t child)) (suc (depth_of t child)) (bit same v) j (child + 1)))
+          → Marking old new left' (child + 1)
       asks_one below v hit answers j =
           let d = decision_bit first v in
-          let one : (bit (get_or given j 0) v || from_child hit d t s n (word_at w) k (bit left v) j at) ≡ (bit (get_or new j 0) v || chained_from hit d t s n (word_at w) k (bit left' v) j (at + 1)) =
+          let one : (bit (get_or given j 0) v || at_child hit d t s n w k (bit left v) j child) ≡ (bit (get_or new j 0) v || chained_from hit d t s n w k (bit left' v) j (child + 1)) =
           rw (
-            lt-ltb at n inside,
-            algorithm_asks w group,
+            group,
             and-true (bit left v),
             ← replies v hit answers,
             ← agreed v,
@@ -96,19 +91,11 @@ module _ (t s hits : List ℕ) (n block from k w on : ℕ) (first : Effects) whe
             ← settled v,
             ← fewer v,
             regrouped,
-            ← set_bits given at same v j (omega arith),
+            ← set_bits given child same v j room,
             ← below v hit answers j,
           )
           in
-          marking v hit answers j ∙ one ∙ ap (λ x. bit (get_or new j 0) v || x) (next_is hit d t s n (word_at w) k (bit left' v) j (at + 1) at' (omega arith) next)
-
--- words that are set to 0, one after the other
-pub cleared : (l : List ℕ) (i : ℕ) → i < length l → ((j : ℕ) → j < i → get_or l j 0 ≡ 0) → (j : ℕ) → j < i + 1 → get_or (set l i 0) j 0 ≡ 0
-cleared l i h zeros j below = go (test (eqb j i))
-  where
-    go : Test (eqb j i) → get_or (set l i 0) j 0 ≡ 0
-    go (passed e) = rw (eqb-true j i e) (get_or-set_same l i 0 0 h)
-    go (failed e) = let other = eqb-false j i e in get_or-set_other l i j 0 0 other ∙ zeros j (omega arith)
+          marking v hit answers j ∙ ap (λ x. bit (get_or given j 0) v || x) (one_child hit d t s n w k (bit left v) j at low child is) ∙ one
 
 -- the first element is asked where it gives permit or deny, over words that are 0
 pub root_asked : (t s hits : List ℕ) (n block depth on : ℕ) (first : Effects) (zeros new : List ℕ)
@@ -116,7 +103,7 @@ pub root_asked : (t s hits : List ℕ) (n block depth on : ℕ) (first : Effects
     → ((v : ℕ) → bit on v ≡ alike (decision_bit first v) (decision_bit first v))
     → depth ≡ depth_of t 0
     → ((j : ℕ) → j < n → get_or zeros j 0 ≡ 0)
-    → Marked t s hits n block 0 depth 4 on first zeros new
+    → Marked t s hits n block 0 depth FirstApplicable on first zeros new
     → (v : ℕ) (hit : Element → Bool) → Answers t hits n block v hit → (i : ℕ) → i < n → bit (get_or new i 0) v ≡ chained hit t s n i
 unfolding chained
 root_asked t s hits n block depth on first zeros new replies agreed deep clear marks v hit answers i l =

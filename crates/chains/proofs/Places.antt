@@ -4,14 +4,18 @@ use mathlib.Core.Path.{◌≡◌, refl, sym, ap, ◌∙◌}
 use mathlib.Core.Bool.{Bool, true, false, cond, ◌&&◌, ◌||◌, and-false}
 use mathlib.Core.List.{List}
 use native.Mathlib.Omega.{arith}
-use lib.Dec.{compare_is_eq, is_le, eqb, ltb}
+use lib.Dec.{compare_is_eq, is_le, eqb}
 use lib.ListN.{get_or}
-use borrow.Author.Tests.{eq-eqb, ne_eqb, eqb-true, eqb-false, leb-true, leb-false, lt-ltb, le-ltb}
+use borrow.Author.Tests.{eq-eqb, ne_eqb, eqb-true, eqb-false, leb-true, leb-false}
 use Rattle.meaning.specs.declared.Word.{Word}
 use Rattle.meaning.specs.declared.Decision.{Decision}
 use Rattle.meaning.specs.declared.Element.{Element}
 use Rattle.meaning.specs.Deciding.{by_order}
+use Rattle.laws.specs.Found.{found}
 use Rattle.laws.proofs.Bools.{Test, passed, failed, test}
+use Rattle.laws.proofs.Found.{found_some, found_none}
+use mathlib.Core.Option.{Option, none, some}
+use Rattle.std.specs.Prelude.{Some, None}
 use Rattle.table.specs.Rows.{word_at, word_number, depth_of}
 use Rattle.table.specs.Tree.{next_child}
 use Rattle.table.proofs.Children.{child_none, passes_struck, passes_deeper, child_here, child_behind}
@@ -73,20 +77,16 @@ module _ (hit : Element → Bool) (d : Decision) (t s : List ℕ) (n : ℕ) wher
   none_struck w k b j i m flag = none_there w k b j i m (λ p h live. ne_eqb j p (λ e. flag (ap (λ q. get_or s q 0) e ∙ live)))
 
   module _ (w : Word) (k : ℕ) (b : Bool) (j : ℕ) where
-    -- from a child on, which stands at place i, or from the end
-    abbrev pub from_child : ℕ → Bool
-    from_child i =
-        cond (ltb i n)
-        ((eqb j i && Gives w b i)
-        || (chained_from hit d t s n (word_at (word_number t i)) (suc (depth_of t i)) (Gives w b i) j (i + 1) || chained_from hit d t s n w k (asks_next hit d t s n w b i) j (i + 1)))
-        false
+    -- a child at place i, with those behind it
+    abbrev pub at_child : ℕ → Bool
+    at_child i =
+        (eqb j i && Gives w b i)
+        || (chained_from hit d t s n (word_at (word_number t i)) (suc (depth_of t i)) (Gives w b i) j (i + 1) || chained_from hit d t s n w k (asks_next hit d t s n w b i) j (i + 1))
 
-    pub from_none : (i : ℕ) → n ≤ i → from_child i ≡ false
-    from_none i l = rw (le-ltb i n l)
-
-    pub from_idle : (i : ℕ) → i < n → (b && asks w) ≡ false → from_child i ≡ false
-    from_idle i l e =
-        rw (lt-ltb i n l) (none_here w b e j i _ _ (none_in _ (suc (depth_of t i)) (Gives w b i) j (i + 1) (n - (i + 1)) (below_none w b e i)) (none_in w k (asks_next hit d t s n w b i) j (i + 1) (n - (i + 1)) (idle b _ (asks w) e)))
+    -- from a child on that was found, or from the end
+    abbrev from_child : Option ℕ → Bool
+    from_child none = false
+    from_child (some i) = at_child i
 
     module _ (i : ℕ) (l : i < n) where
       one_more : n - i ≡ suc (n - (i + 1))
@@ -96,13 +96,13 @@ module _ (hit : Element → Bool) (d : Decision) (t s : List ℕ) (n : ℕ) wher
       unfolding chained_in
       struck_one flag = rw (one_more, ne_eqb (get_or s i 0) 0 flag)
 
-      live_one : get_or s i 0 ≡ 0 → (o : Ordering) → compare (depth_of t i) k ≡ o → chained_from hit d t s n w k b j i ≡ by_order o false (from_child i) (chained_from hit d t s n w k b j (i + 1))
+      live_one : get_or s i 0 ≡ 0 → (o : Ordering) → compare (depth_of t i) k ≡ o → chained_from hit d t s n w k b j i ≡ by_order o false (at_child i) (chained_from hit d t s n w k b j (i + 1))
       unfolding chained_in
-      live_one live o c = rw (one_more, eq-eqb (get_or s i 0) 0 live, c, lt-ltb i n l)
+      live_one live o c = rw (one_more, eq-eqb (get_or s i 0) 0 live, c)
 
     next_first : (m i : ℕ) → i + m ≡ n → chained_from hit d t s n w k b j i ≡ from_child (next_child t s n k i)
     unfolding chained_in
-    next_first zero i e = let z : n - i ≡ 0 = omega arith in rw (z, child_none t s n i k (omega arith)) (sym (from_none n (omega arith)))
+    next_first zero i e = let z : n - i ≡ 0 = omega arith in rw (z, child_none t s n i k (omega arith))
     next_first (suc m) i e = go (test (eqb (get_or s i 0) 0)) (compare (depth_of t i) k) refl (next_first m (i + 1) (omega arith))
       where
         l : i < n
@@ -114,7 +114,7 @@ module _ (hit : Element → Bool) (d : Decision) (t s : List ℕ) (n : ℕ) wher
             let live = eqb-true (get_or s i 0) 0 x in
             let unlike : (depth_of t i ≡ k → ⊥) = eqb-false (depth_of t i) k (ap compare_is_eq c) in
             let over-it : depth_of t i < k = omega (arith, leb-true (depth_of t i) k (ap is_le c)) in
-            live_one i l live Ordering.lt c ∙ sym (ap from_child (child_behind t s n i k l live over-it) ∙ from_none n (omega arith))
+            live_one i l live Ordering.lt c ∙ sym (ap from_child (child_behind t s n i k l live over-it))
         go (passed x) Ordering.eq c later =
             let live = eqb-true (get_or s i 0) 0 x in
             live_one i l live Ordering.eq c ∙ sym (ap from_child (child_here t s n i k l live (eqb-true (depth_of t i) k (ap compare_is_eq c))))
@@ -122,5 +122,10 @@ module _ (hit : Element → Bool) (d : Decision) (t s : List ℕ) (n : ℕ) wher
             let live = eqb-true (get_or s i 0) 0 x in
             live_one i l live Ordering.gt c ∙ later ∙ sym (ap from_child (passes_deeper t s n i k l (leb-false (depth_of t i) k (ap is_le c))))
 
-    pub next_is : (i r : ℕ) → i ≤ n → r ≡ next_child t s n k i → chained_from hit d t s n w k b j i ≡ from_child r
-    next_is i r l e = next_first (n - i) i (omega arith) ∙ ap from_child (sym e)
+    -- the next child from place i on, which was looked for
+    module _ (i : ℕ) (l : i ≤ n) where
+      pub no_child : None ≡ found (next_child t s n k i) → chained_from hit d t s n w k b j i ≡ false
+      no_child e = next_first (n - i) i (omega arith) ∙ ap from_child (found_none (next_child t s n k i) (sym e))
+
+      pub one_child : (r : ℕ) → Some r ≡ found (next_child t s n k i) → chained_from hit d t s n w k b j i ≡ at_child r
+      one_child r e = next_first (n - i) i (omega arith) ∙ ap from_child (found_some (next_child t s n k i) (sym e))

@@ -1,14 +1,13 @@
 -- Decisions by words: where two agree, and where one settles the answer, bit by bit.
 use mathlib.Core.Path.{◌≡◌, refl, ap}
-use Prim.Native.Nat.{ℕ, zero, suc, ◌≤◌}
+use Prim.Native.Nat.{ℕ}
+use mathlib.Core.Logic.{◌⊎◌, inl, inr}
 use mathlib.Core.Bool.{Bool, true, false, not, ◌&&◌, ◌||◌}
-use native.Mathlib.Omega.{arith}
 use lib.Bits.{bit_and, bit_or}
 use Rattle.meaning.specs.declared.Word.{Word}
 use Rattle.meaning.specs.declared.Decision.{Decision}
 use Rattle.meaning.specs.Deciding.{is, bit}
 use Rattle.laws.proofs.Bits.{bit_and_lem, bit_or_lem}
-use Rattle.table.specs.Rows.{word_at}
 use Rattle.blocks.specs.Bits.{decision_by}
 use Rattle.chains.specs.Chain.{alike, asks, settles}
 
@@ -31,27 +30,18 @@ any_settles true false = refl
 any_settles false true = refl
 any_settles false false = refl
 
-pub none_settles : (w : ℕ) (e : Decision) → (w ≡ 2 → ⊥) → (w ≡ 3 → ⊥) → (w ≡ 4 → ⊥) → false ≡ settles (word_at w) e
-none_settles zero e a b c = refl
-none_settles (suc zero) e a b c = refl
-none_settles (suc (suc zero)) e a b c = absurd (a refl)
-none_settles (suc (suc (suc zero))) e a b c = absurd (b refl)
-none_settles (suc (suc (suc (suc zero)))) e a b c = absurd (c refl)
-none_settles (suc (suc (suc (suc (suc w))))) e a b c = refl
-
 -- effects ask nothing, algorithms do
-pub effect_asks : (w : ℕ) → suc w ≤ 2 → asks (word_at w) ≡ false
-effect_asks zero l = refl
-effect_asks (suc zero) l = refl
-effect_asks (suc (suc w)) l = let no : ⊥ = omega arith in absurd no
+pub effect_asks : (w : Word) → (w ≡ Word.Permit) ⊎ (w ≡ Word.Deny) → asks w ≡ false
+effect_asks w (inl e) = rw e
+effect_asks w (inr e) = rw e
 
-pub algorithm_asks : (w : ℕ) → 2 ≤ w → asks (word_at w) ≡ true
-algorithm_asks zero l = let no : ⊥ = omega arith in absurd no
-algorithm_asks (suc zero) l = let no : ⊥ = omega arith in absurd no
-algorithm_asks (suc (suc zero)) l = refl
-algorithm_asks (suc (suc (suc zero))) l = refl
-algorithm_asks (suc (suc (suc (suc zero)))) l = refl
-algorithm_asks (suc (suc (suc (suc (suc w))))) l = refl
+pub algorithm_asks : (w : Word) → (w ≡ Word.Permit → ⊥) → (w ≡ Word.Deny → ⊥) → asks w ≡ true
+algorithm_asks Word.Permit permit deny = absurd (permit refl)
+algorithm_asks Word.Deny permit deny = absurd (deny refl)
+algorithm_asks Word.DenyOverrides permit deny = refl
+algorithm_asks Word.PermitOverrides permit deny = refl
+algorithm_asks Word.FirstApplicable permit deny = refl
+algorithm_asks Word.OnlyOneApplicable permit deny = refl
 
 -- two decisions, each by its bits
 denied_bits : (p d : Bool) → (d && not p) ≡ is Decision.Deny (decision_by p d)

@@ -9,6 +9,7 @@ ghost use Rattle.blocks.specs.Bits.{Answers};
 ghost use Rattle.chains.specs.Chain.{chained};
 ghost use Rattle.deciding.specs.Told.{outcome_on, Told, Asking};
 
+use blocks::Block;
 use meaning::{Answer, Decided};
 use obligations::Marks;
 use requests::Request;
@@ -40,7 +41,14 @@ fn ask_one(table: &[u16], n: usize, q: Request, given: &mut [u64])
     let struck = [0u8; 64];
     let mut hits = [0u64; 4096];
     match_one(table, n, q, &mut hits);
-    chains::ask_all(table, &struck, &hits, n, 0, given);
+    let b = Block {
+        table,
+        struck: &struck,
+        hits: &hits,
+        n,
+        block: 0,
+    };
+    chains::ask_all(&b, given);
 }
 
 // The answer of a decision whose obligations were told.

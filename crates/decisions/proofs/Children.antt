@@ -3,14 +3,20 @@ use Prim.Native.Nat.{ℕ, zero, suc, ◌+◌, ◌-◌, ◌≤◌, ◌<◌, compa
 use mathlib.Core.Path.{◌≡◌, refl, sym, ap, ◌∙◌}
 use mathlib.Core.Bool.{Bool, true, false, cond}
 use mathlib.Core.List.{List, [], ◌∷◌}
+use mathlib.Core.Option.{Option, none, some}
+use Rattle.std.specs.Prelude.{Some, None}
 use native.Mathlib.Omega.{arith}
 use lib.Dec.{compare_is_eq, is_le, eqb, ltb}
 use lib.ListN.{get_or}
 use borrow.Author.Tests.{eqb-true, eqb-false, leb-true, leb-false, lt-ltb, le-ltb}
+use Rattle.meaning.specs.declared.Word.{Word}
+use Rattle.meaning.specs.declared.Word.TheVariants.{Permit, Deny, DenyOverrides, PermitOverrides, FirstApplicable, OnlyOneApplicable}
 use Rattle.meaning.specs.declared.Element.{Element}
 use Rattle.meaning.specs.Deciding.{Reply as ChildReply, combined, child_replies, first_decision}
+use Rattle.laws.specs.Found.{found}
 use Rattle.laws.proofs.Bools.{Test, passed, failed, test}
-use Rattle.table.specs.Rows.{word_at, algorithm_at, depth_of, element_at, word_number}
+use Rattle.laws.proofs.Found.{found_some, found_none}
+use Rattle.table.specs.Rows.{word_at, algorithm_at, algorithm_of, depth_of, element_at, word_number}
 use Rattle.table.specs.Tree.{left, next_child}
 use Rattle.table.proofs.Children.{left_struck, left_here, child_none, passes_struck, passes_deeper, child_here, child_behind}
 use Rattle.decisions.specs.Replies.{step_of, replies_from, reply_at}
@@ -55,21 +61,16 @@ module _ (hit : Element → Bool) (t s : List ℕ) (n i : ℕ) where
 
 -- What the children of depth d give, of n places
 module _ (hit : Element → Bool) (t s : List ℕ) (n d : ℕ) where
-  -- from a child on, which stands at place i, or from the end
-  abbrev from_child : ℕ → List ChildReply
-  from_child i = cond (ltb i n) (reply_at hit t s n i ∷ replies_from hit t s n d (i + 1)) []
-
-  from_none : (i : ℕ) → n ≤ i → from_child i ≡ []
-  from_none i l = rw (le-ltb i n l)
+  -- from a child on that was found, or from the end
+  abbrev from_child : Option ℕ → List ChildReply
+  from_child none = []
+  from_child (some i) = reply_at hit t s n i ∷ replies_from hit t s n d (i + 1)
 
   pub children_none : (i : ℕ) → n ≤ i → replies_from hit t s n d i ≡ []
   unfolding replies_from left
   children_none i l = let z : n - i ≡ 0 = omega arith in rw z
 
   module _ (i : ℕ) (l : i < n) where
-    here : from_child i ≡ reply_at hit t s n i ∷ replies_from hit t s n d (i + 1)
-    here = rw (lt-ltb i n l)
-
     struck_one : (get_or s i 0 ≡ 0 → ⊥) → replies_from hit t s n d i ≡ replies_from hit t s n d (i + 1)
     unfolding replies_from
     struck_one flag = ap (child_replies hit d) (left_struck t s n i l flag)
@@ -89,7 +90,7 @@ module _ (hit : Element → Bool) (t s : List ℕ) (n d : ℕ) where
 
   -- the next child is the first of them
   next_first : (k i : ℕ) → i + k ≡ n → replies_from hit t s n d i ≡ from_child (next_child t s n d i)
-  next_first zero i e = children_none i (omega arith) ∙ sym (ap from_child (child_none t s n i d (omega arith)) ∙ from_none n (omega arith))
+  next_first zero i e = children_none i (omega arith) ∙ sym (ap from_child (child_none t s n i d (omega arith)))
   next_first (suc k) i e = go (test (eqb (get_or s i 0) 0)) (compare (depth_of t i) d) refl (next_first k (i + 1) (omega arith))
     where
       l : i < n
@@ -101,27 +102,25 @@ module _ (hit : Element → Bool) (t s : List ℕ) (n d : ℕ) where
           let live = eqb-true (get_or s i 0) 0 x in
           let unlike : (depth_of t i ≡ d → ⊥) = eqb-false (depth_of t i) d (ap compare_is_eq c) in
           let over-it : depth_of t i < d = omega (arith, leb-true (depth_of t i) d (ap is_le c)) in
-          behind_all i l live over-it ∙ sym (ap from_child (child_behind t s n i d l live over-it) ∙ from_none n (omega arith))
+          behind_all i l live over-it ∙ sym (ap from_child (child_behind t s n i d l live over-it))
       go (passed x) Ordering.eq c later =
           let live = eqb-true (get_or s i 0) 0 x in
           let child = eqb-true (depth_of t i) d (ap compare_is_eq c) in
-          child_one i l live child ∙ sym (ap from_child (child_here t s n i d l live child) ∙ here i l)
+          child_one i l live child ∙ sym (ap from_child (child_here t s n i d l live child))
       go (passed x) Ordering.gt c later =
           let live = eqb-true (get_or s i 0) 0 x in
           let deep = leb-false (depth_of t i) d (ap is_le c) in
           deeper_one i l live deep ∙ later ∙ sym (ap from_child (passes_deeper t s n i d l deep))
 
-  -- r is the next child from place i on
-  module _ (i r : ℕ) (l : i ≤ n) (is : r ≡ next_child t s n d i) where
-    next_is : replies_from hit t s n d i ≡ from_child r
-    next_is = next_first (n - i) i (omega arith) ∙ ap from_child (sym is)
+  -- the next child from place i on is none
+  pub children_end : (i : ℕ) → i ≤ n → None ≡ found (next_child t s n d i) → replies_from hit t s n d i ≡ []
+  children_end i l is = next_first (n - i) i (omega arith) ∙ ap from_child (found_none (next_child t s n d i) (sym is))
 
-    pub children_end : r ≡ n → replies_from hit t s n d i ≡ []
-    children_end end = next_is ∙ from_none r (omega arith)
-
-    module _ (a : ℕ) (inside : r < n) (so : ChildReply) where
+  -- or it is r
+  module _ (i r : ℕ) (l : i ≤ n) (is : Some r ≡ found (next_child t s n d i)) where
+    module _ (a : ℕ) (so : ChildReply) where
       with_child : combined (algorithm_at a) (so ∷ replies_from hit t s n d i) ≡ combined (algorithm_at a) (so ∷ reply_at hit t s n r ∷ replies_from hit t s n d (r + 1))
-      with_child = ap (λ cs. combined (algorithm_at a) (so ∷ cs)) (next_is ∙ here r inside)
+      with_child = ap (λ cs. combined (algorithm_at a) (so ∷ cs)) (next_first (n - i) i (omega arith) ∙ ap from_child (found_some (next_child t s n d i) (sym is)))
 
       -- it does not match: it may be left out
       child_off : hit (element_at t r) ≡ false → combined (algorithm_at a) (so ∷ replies_from hit t s n d i) ≡ combined (algorithm_at a) (so ∷ replies_from hit t s n d (r + 1))
@@ -152,21 +151,24 @@ module _ (hit : Element → Bool) (t s : List ℕ) (n d i : ℕ) (l : i < n) whe
     replies_deeper h = deeper_one hit t s n d i l live (omega (arith, is))
 
     module _ (a : ℕ) (so : ChildReply) (h : r ≡ d) where
-      itself : i ≡ next_child t s n d i
-      itself = sym (child_here t s n i d l live (sym is ∙ h))
+      itself : Some i ≡ found (next_child t s n d i)
+      itself = sym (ap found (child_here t s n i d l live (sym is ∙ h)))
 
       pub replies_off : hit (element_at t i) ≡ false → combined (algorithm_at a) (so ∷ replies_from hit t s n d i) ≡ combined (algorithm_at a) (so ∷ replies_from hit t s n d (i + 1))
-      replies_off = child_off hit t s n d i i (omega arith) itself a l so
+      replies_off = child_off hit t s n d i i (omega arith) itself a so
 
       pub replies_step : (child next : ChildReply) → child ≡ reply_at hit t s n i → next ≡ step_of (algorithm_at a) so child
           → combined (algorithm_at a) (so ∷ replies_from hit t s n d i) ≡ combined (algorithm_at a) (next ∷ replies_from hit t s n d (i + 1))
-      replies_step = child_step hit t s n d i i (omega arith) itself a l so
+      replies_step = child_step hit t s n d i i (omega arith) itself a so
 
--- an algorithm, by the number of its word
-pub algorithm_word : (w : ℕ) → 2 ≤ w → word_at w ≡ algorithm_at (w - 2)
-algorithm_word zero l = let no : ⊥ = omega arith in absurd no
-algorithm_word (suc zero) l = let no : ⊥ = omega arith in absurd no
-algorithm_word (suc (suc n)) l = let e : suc (suc n) - 2 ≡ n = omega arith in rw e
+-- an algorithm is its word
+pub algorithm_word : (w : Word) → (w ≡ Permit → ⊥) → (w ≡ Deny → ⊥) → algorithm_of w ≡ w
+algorithm_word Permit permit deny = absurd (permit refl)
+algorithm_word Deny permit deny = absurd (deny refl)
+algorithm_word DenyOverrides permit deny = refl
+algorithm_word PermitOverrides permit deny = refl
+algorithm_word FirstApplicable permit deny = refl
+algorithm_word OnlyOneApplicable permit deny = refl
 
 -- The first element that is left from place i on
 pub first_left : (hit : Element → Bool) (t s : List ℕ) (n i : ℕ) → i < n → get_or s i 0 ≡ 0 → first_decision hit (left t s i (n - i)) ≡ (reply_at hit t s n i).decision

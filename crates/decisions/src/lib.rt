@@ -1,15 +1,16 @@
 // Decisions: what the elements of a policy, lent as a table of numbers, give on a request.
 #![tactic(auto)]
 
-ghost use Rattle.std.specs.Prelude.{◌≡◌, ◌+◌, ◌≤◌, ◌<◌, get_or};
+ghost use Rattle.std.specs.Prelude.{◌≡◌, [], ◌∷◌, ◌+◌, ◌≤◌, ◌<◌, get_or};
+ghost use Rattle.meaning.specs.declared.Word.TheVariants.{OnlyOneApplicable};
 ghost use Rattle.meaning.specs.Deciding.{decision_number, matches, combined, first_decision};
 ghost use Rattle.requests.specs.Values.{values_of, severals_of};
-ghost use Rattle.table.specs.Rows.{algorithm_at};
+ghost use Rattle.table.specs.Rows.{algorithm_at, algorithm_of};
 ghost use Rattle.table.specs.Tree.{left, Room};
 ghost use Rattle.decisions.specs.Replies.{reply_of, next_of, step_of, replies_from, reply_at};
 
-use meaning::Decision;
 use meaning::Decision::{Deny, Indeterminate, NotApplicable, Permit};
+use meaning::{Decision, Word};
 use requests::Request;
 
 // Whether an element's own target matches, and its decision.
@@ -18,6 +19,12 @@ pub struct Reply {
     pub matched: bool,
     pub decision: Decision,
 }
+
+// The reply of an element that a request does not match, and of no children.
+const UNMATCHED: Reply = Reply {
+    matched: false,
+    decision: NotApplicable,
+};
 
 // The next decision, by algorithm, decision so far and child's decision, these in the order of `Decision`.
 const NEXT: [[[Decision; 4]; 4]; 3] = [
@@ -44,7 +51,7 @@ const NEXT: [[[Decision; 4]; 4]; 3] = [
     ],
 ];
 
-// A decision's number.
+// A decision's number, as C callers get it: written out, so that it does not hang on the order of `Decision`.
 pub fn decision_number(d: Decision) -> usize
     ensures { (result ≡ decision_number d) × (result < 4) }
 {
@@ -63,41 +70,31 @@ fn next(algorithm: usize, so_far: Decision, child: Decision) -> Decision
     NEXT[algorithm][decision_number(so_far)][decision_number(child)]
 }
 
-// The children so far and one more, taken as one.
-fn step(algorithm: usize, so_far: Reply, child: Reply) -> Reply
-    ensures { reply_of result ≡ step_of (algorithm_at algorithm) (reply_of so_far) (reply_of child) }
+// The decision of the children so far and one more by only-one-applicable.
+fn only_one(so_far: Reply, child: Reply) -> Decision
+    ensures { result ≡ combined OnlyOneApplicable (reply_of so_far ∷ reply_of child ∷ []) }
 {
-    let before = so_far.decision;
-    let given = child.decision;
-    if algorithm < 3 {
-        let decision = next(algorithm, before, given);
-        return Reply {
-            matched: so_far.matched || child.matched,
-            decision,
-        };
+    match (so_far.matched, child.matched) {
+        (true, true) => Indeterminate,
+        (true, false) => so_far.decision,
+        (false, true) => child.decision,
+        (false, false) => NotApplicable,
     }
-    if so_far.matched {
-        if child.matched {
-            Reply {
-                matched: true,
-                decision: Indeterminate,
-            }
-        } else {
-            Reply {
-                matched: true,
-                decision: before,
-            }
-        }
-    } else if child.matched {
-        Reply {
-            matched: true,
-            decision: given,
-        }
-    } else {
-        Reply {
-            matched: false,
-            decision: NotApplicable,
-        }
+}
+
+// The children so far and one more, taken as one.
+fn step(algorithm: Word, so_far: Reply, child: Reply) -> Reply
+    ensures { reply_of result ≡ step_of (algorithm_of algorithm) (reply_of so_far) (reply_of child) }
+{
+    let decision = match algorithm {
+        Word::DenyOverrides => next(0, so_far.decision, child.decision),
+        Word::PermitOverrides => next(1, so_far.decision, child.decision),
+        Word::FirstApplicable => next(2, so_far.decision, child.decision),
+        _ => only_one(so_far, child),
+    };
+    Reply {
+        matched: so_far.matched || child.matched,
+        decision,
     }
 }
 
@@ -108,26 +105,16 @@ fn decide_at(table: &[u16], struck: &[u8], n: usize, at: usize, q: Request) -> R
     ensures { reply_of result ≡ reply_at (matches (severals_of q) (values_of q)) table.now struck.now n at }
 {
     if !table::matches(table, at, q) {
-        return Reply {
-            matched: false,
-            decision: NotApplicable,
-        };
+        return UNMATCHED;
     }
-    let word = table::word_at(table, at);
-    if word == 0 {
-        return Reply {
-            matched: true,
-            decision: Permit,
-        };
-    }
-    if word == 1 {
-        return Reply {
-            matched: true,
-            decision: Deny,
-        };
-    }
-    let depth = table::depth_at(table, at) + 1;
-    let decision = fold(table, struck, n, at + 1, depth, word - 2, q);
+    let decision = match table::word_at(table, at) {
+        Word::Permit => Permit,
+        Word::Deny => Deny,
+        algorithm => {
+            let depth = table::depth_at(table, at) + 1;
+            fold(table, struck, n, at + 1, depth, algorithm, q)
+        }
+    };
     Reply {
         matched: true,
         decision,
@@ -142,25 +129,18 @@ fn fold(
     n: usize,
     from: usize,
     depth: usize,
-    algorithm: usize,
+    algorithm: Word,
     q: Request,
 ) -> Decision
     requires { Room table.now struck.now n from × (q.len ≤ 6) }
-    ensures { result ≡ combined (algorithm_at algorithm) (replies_from (matches (severals_of q) (values_of q)) table.now struck.now n depth from) }
+    ensures { result ≡ combined (algorithm_of algorithm) (replies_from (matches (severals_of q) (values_of q)) table.now struck.now n depth from) }
 {
-    let mut so_far = Reply {
-        matched: false,
-        decision: NotApplicable,
-    };
-    let mut at = from;
-    while at < n {
-        at = table::next_child(table, struck, n, at, depth);
-        if at == n {
-            return so_far.decision;
-        }
+    let mut so_far = UNMATCHED;
+    let mut behind = from;
+    while let Some(at) = table::next_child(table, struck, n, behind, depth) {
         let child = decide_at(table, struck, n, at, q);
         so_far = step(algorithm, so_far, child);
-        at += 1;
+        behind = at + 1;
     }
     so_far.decision
 }
@@ -170,6 +150,5 @@ pub fn decide(table: &[u16], struck: &[u8], n: usize, q: Request) -> Decision
     requires { Room table.now struck.now n 1 × (q.len ≤ 6) × (get_or struck.now 0 0 ≡ 0) }
     ensures { result ≡ first_decision (matches (severals_of q) (values_of q)) (left table.now struck.now 0 n) }
 {
-    let first = decide_at(table, struck, n, 0, q);
-    first.decision
+    decide_at(table, struck, n, 0, q).decision
 }

@@ -12,6 +12,7 @@ ghost use Rattle.obligations.specs.Given.{any_obliged, Giving};
 ghost use Rattle.differences.specs.Apart.{apart, Compared, Suspects, Untouched, Touched};
 ghost use Rattle.differences.specs.Marks.{Marked, LikeMarks, others_given, Among};
 
+use blocks::Block;
 use obligations::Marks;
 use table::Shape;
 
@@ -149,8 +150,22 @@ impl<'a> PolicyOutcomes<'a> {
         let n = policy.shape.n;
         let mut one = [0u64; 64];
         let mut other = [0u64; 64];
-        chains::ask_all(policy.table, before, self.hits, n, block, &mut one);
-        chains::ask_all(policy.table, struck, self.hits, n, block, &mut other);
+        let with = Block {
+            table: policy.table,
+            struck: before,
+            hits: self.hits,
+            n,
+            block,
+        };
+        let without = Block {
+            table: policy.table,
+            struck,
+            hits: self.hits,
+            n,
+            block,
+        };
+        chains::ask_all(&with, &mut one);
+        chains::ask_all(&without, &mut other);
         let suspect = on & unlike(policy.places, n, &one, &other);
         policy.first_given(
             &one,

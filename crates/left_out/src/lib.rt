@@ -8,6 +8,8 @@ ghost use Rattle.layout.specs.Places.{part};
 ghost use Rattle.trimmed_text.specs.Copied.{Copies};
 ghost use Rattle.left_out.specs.Leaving.{leaving};
 
+use meaning::Word;
+
 // Whether the text from `at` on begins with the file's bytes from `start` to `end`.
 fn begins(text: &[u8], at: usize, file: &[u8], start: usize, end: usize) -> bool
     requires { (at ≤ length text.now) × (start ≤ end) × (end ≤ length file.now) }
@@ -46,10 +48,10 @@ pub fn leave_out(
             i += 1;
             continue;
         }
-        if 2 <= table::word_at(table, i) {
-            return false;
+        match table::word_at(table, i) {
+            Word::Permit | Word::Deny => struck[i] = 1,
+            _ => return false,
         }
-        struck[i] = 1;
         i += 1;
     }
     at == proposal.len()

@@ -1,7 +1,7 @@
 // One element by value, from where it and its obligations stand in a file and in the table.
 ghost use Rattle.std.specs.Prelude.{◌≡◌, ◌+◌, ◌*◌, ◌≤◌, ◌<◌, length};
 ghost use Rattle.meaning.specs.Model.{padded};
-ghost use Rattle.table.specs.Rows.{word_at, depth_of, Rows};
+ghost use Rattle.table.specs.Rows.{depth_of, Rows};
 ghost use Rattle.layout.specs.Places.{kind_at, effect_at, element_in, NameAt, Obliged};
 ghost use Rattle.lists.specs.Listed.{place_in};
 
@@ -18,20 +18,6 @@ fn kind_at(b: u8) -> Kind
         return Kind::Policy;
     }
     Kind::Rule
-}
-
-// The word of that number.
-fn word_of(number: usize) -> Word
-    ensures { result ≡ word_at number }
-{
-    match number {
-        0 => Word::Permit,
-        1 => Word::Deny,
-        2 => Word::DenyOverrides,
-        3 => Word::PermitOverrides,
-        4 => Word::FirstApplicable,
-        _ => Word::OnlyOneApplicable,
-    }
 }
 
 // A name, and zero bytes behind it.
@@ -87,7 +73,7 @@ pub(crate) fn element_at(file: &[u8], table: &[u16], places: &[usize], i: usize)
     let end = places[2 * i + 1];
     let kind = kind_at(file[line]);
     let name = padded_name(&file[start..end]);
-    let word = word_of(table::word_at(table, i));
+    let word = table::word_at(table, i);
     let masks = table::masks_at(table, i);
     let first = obligation_at(file, places, i, 0);
     let second = obligation_at(file, places, i, 1);

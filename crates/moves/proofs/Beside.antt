@@ -12,7 +12,7 @@ use borrow.Author.Tests.{eqb-true, eqb-false}
 use Rattle.meaning.specs.declared.Element.{Element}
 use Rattle.meaning.specs.Deciding.{Reply as ChildReply, combined}
 use Rattle.laws.proofs.Bools.{Test, passed, failed, test}
-use Rattle.table.specs.Rows.{algorithm_at, depth_of, element_at, word_number}
+use Rattle.table.specs.Rows.{algorithm_at, depth_of, element_at, word_number, word_at, algorithm_number}
 use Rattle.decisions.specs.Replies.{step_of, replies_from, reply_at}
 use Rattle.decisions.proofs.Combining.{same_so_far, still_unchanged}
 use Rattle.decisions.proofs.Children.{replies_struck, replies_deeper, replies_step}
@@ -61,9 +61,9 @@ module _ (hit : Element → Bool) (t struck : List ℕ) (n up rule a : ℕ) (chi
       let flag : (get_or struck rule 0 ≡ 0 → ⊥) = λ none. let no : ⊥ = omega (arith, child.flag) in absurd no in
       ap (λ cs. combined (algorithm_at a) (so ∷ cs)) (replies_struck hit t struck n (depth_of t rule) rule child.inside flag)
 
-  pub rule_kept : hit (element_at t rule) ≡ true → Turns with_rule rule (λ so. step_of (algorithm_at a) so (effect_reply (word_number t rule) true))
+  pub rule_kept : hit (element_at t rule) ≡ true → Turns with_rule rule (λ so. step_of (algorithm_at a) so (effect_reply (word_at (word_number t rule)) true))
   rule_kept on so =
-      let own : effect_reply (word_number t rule) true ≡ reply_at hit t (kept struck rule) n rule = sym (rule_reply hit t (kept struck rule) n rule child.effect ∙ ap (effect_reply (word_number t rule)) on) in
+      let own : effect_reply (word_at (word_number t rule)) true ≡ reply_at hit t (kept struck rule) n rule = sym (rule_reply hit t (kept struck rule) n rule child.effect ∙ ap (effect_reply (word_at (word_number t rule))) on) in
       replies_step hit t (kept struck rule) n (depth_of t rule) rule child.inside (depth_of t rule) live refl a so refl _ _ own refl
 
   -- Another place behind the parent
@@ -121,7 +121,7 @@ module _ (hit : Element → Bool) (t struck : List ℕ) (n up rule a : ℕ) (chi
 
   -- Where the rule changes nothing behind the reply so far, it changes nothing at its own place
   pub absorbed : a < 3 → hit (element_at t rule) ≡ true → (k at : ℕ) (so : ChildReply) → at + k ≡ rule → up < at
-      → (step_of (algorithm_at a) so (effect_reply (word_number t rule) true)).decision ≡ so.decision
+      → (step_of (algorithm_at a) so (effect_reply (word_at (word_number t rule)) true)).decision ≡ so.decision
       → combined (algorithm_at a) (so ∷ with_rule at) ≡ combined (algorithm_at a) (so ∷ without_rule at)
   absorbed few on zero at so e low same =
       let own : at ≡ rule = omega arith in
@@ -129,8 +129,8 @@ module _ (hit : Element → Bool) (t struck : List ℕ) (n up rule a : ℕ) (chi
       rw own (rule_kept on so ∙ same_so_far a _ so (with_rule (rule + 1)) few same ∙ sym (ap (λ cs. combined (algorithm_at a) (so ∷ cs)) behind) ∙ sym (rule_struck so))
   absorbed few on (suc k) at so e low same = go (place at low (omega arith)) (λ next. absorbed few on k (at + 1) next (omega arith) (omega arith))
     where
-      go : Place at → ((next : ChildReply) → (step_of (algorithm_at a) next (effect_reply (word_number t rule) true)).decision ≡ next.decision
+      go : Place at → ((next : ChildReply) → (step_of (algorithm_at a) next (effect_reply (word_at (word_number t rule)) true)).decision ≡ next.decision
           → combined (algorithm_at a) (next ∷ with_rule (at + 1)) ≡ combined (algorithm_at a) (next ∷ without_rule (at + 1)))
           → combined (algorithm_at a) (so ∷ with_rule at) ≡ combined (algorithm_at a) (so ∷ without_rule at)
       go (over (p, q)) further = p so ∙ further so same ∙ sym (q so)
-      go (sibling c p q) further = p so ∙ further (step_of (algorithm_at a) so c) (still_unchanged a so (effect_reply (word_number t rule) true) c few same) ∙ sym (q so)
+      go (sibling c p q) further = p so ∙ further (step_of (algorithm_at a) so c) (still_unchanged a so (effect_reply (word_at (word_number t rule)) true) c few same) ∙ sym (q so)

@@ -1,15 +1,17 @@
 -- What a rule gives where it matches.
-use Prim.Native.Nat.{ℕ, zero, suc, ◌<◌}
+use Prim.Native.Nat.{ℕ, zero, suc, ◌≤◌, ◌<◌}
 use mathlib.Core.Path.{◌≡◌, refl, sym, ap, ◌∙◌}
 use mathlib.Core.Bool.{Bool, true, false, cond, ◌&&◌}
 use mathlib.Core.List.{List, []}
 use native.Mathlib.Omega.{arith}
 use lib.Bits.{bit_and}
 use Rattle.meaning.specs.declared.Decision.TheVariants.{NotApplicable}
+use Rattle.meaning.specs.declared.Word.{Word}
+use Rattle.meaning.specs.declared.Word.TheVariants.{Permit, Deny, DenyOverrides, PermitOverrides, FirstApplicable, OnlyOneApplicable}
 use Rattle.meaning.specs.declared.Element.{Element}
 use Rattle.meaning.specs.Deciding.{Reply as ChildReply, bit, is, combined}
 use Rattle.laws.proofs.Bits.{bit_and_lem, bit_zero}
-use Rattle.table.specs.Rows.{word_at, algorithm_at, element_at, word_number}
+use Rattle.table.specs.Rows.{word_at, algorithm_at, algorithm_number, algorithm_of, element_at, word_number}
 use Rattle.decisions.specs.Replies.{step_of, reply_at}
 use Rattle.decisions.proofs.Combining.{Settled, start}
 use Rattle.blocks.specs.Bits.{reply_bit}
@@ -21,25 +23,55 @@ effect_alone zero rs l = refl
 effect_alone (suc zero) rs l = refl
 effect_alone (suc (suc w)) rs l = let no : ⊥ = omega arith in absurd no
 
-pub rule_reply : (hit : Element → Bool) (t s : List ℕ) (n i : ℕ) → word_number t i < 2 → reply_at hit t s n i ≡ effect_reply (word_number t i) (hit (element_at t i))
+pub rule_reply : (hit : Element → Bool) (t s : List ℕ) (n i : ℕ) → word_number t i < 2 → reply_at hit t s n i ≡ effect_reply (word_at (word_number t i)) (hit (element_at t i))
 unfolding reply_at element_at
 rule_reply hit t s n i l = ap (λ d. record { matched = hit (element_at t i); decision = cond (hit (element_at t i)) d NotApplicable }) (effect_alone (word_number t i) _ l)
 
 -- the words of a permit and of a deny
 module _ (m v : ℕ) where
-  pub permit_reply : (w : ℕ) → w ≡ 0 → reply_bit (record { matched = m; given = record { permits = m; denies = 0 } }) v ≡ effect_reply w (bit m v)
+  pub permit_reply : (w : Word) → w ≡ Permit → reply_bit (record { matched = m; given = record { permits = m; denies = 0 } }) v ≡ effect_reply w (bit m v)
   permit_reply w e = go (bit m v) refl
     where
       go : (b : Bool) → bit m v ≡ b → reply_bit (record { matched = m; given = record { permits = m; denies = 0 } }) v ≡ effect_reply w (bit m v)
       go true x = rw (x, bit_zero v, e)
       go false x = rw (x, bit_zero v)
 
-  pub deny_reply : (w : ℕ) → w ≡ 1 → reply_bit (record { matched = m; given = record { permits = 0; denies = m } }) v ≡ effect_reply w (bit m v)
+  pub deny_reply : (w : Word) → w ≡ Deny → reply_bit (record { matched = m; given = record { permits = 0; denies = m } }) v ≡ effect_reply w (bit m v)
   deny_reply w e = go (bit m v) refl
     where
       go : (b : Bool) → bit m v ≡ b → reply_bit (record { matched = m; given = record { permits = 0; denies = m } }) v ≡ effect_reply w (bit m v)
       go true x = rw (x, bit_zero v, e)
       go false x = rw (x, bit_zero v)
+
+-- an element that combines nothing gives nothing
+pub none_reply : (m v : ℕ) (w : Word) → (w ≡ Permit → ⊥) → (w ≡ Deny → ⊥) → reply_bit (record { matched = m; given = record { permits = 0; denies = 0 } }) v ≡ effect_reply w (bit m v)
+none_reply m v w permit deny = rw bit_zero (λ i. record { matched = bit m v; decision = nothing (bit m v) w permit deny i })
+  where
+    nothing : (b : Bool) (w : Word) → (w ≡ Permit → ⊥) → (w ≡ Deny → ⊥) → NotApplicable ≡ cond b (combined w []) NotApplicable
+    nothing false w permit deny = refl
+    nothing true Permit permit deny = absurd (permit refl)
+    nothing true Deny permit deny = absurd (deny refl)
+    nothing true DenyOverrides permit deny = refl
+    nothing true PermitOverrides permit deny = refl
+    nothing true FirstApplicable permit deny = refl
+    nothing true OnlyOneApplicable permit deny = refl
+
+-- the algorithm of an element over rules, by its word's number
+pub group_word : (k : ℕ) → 2 ≤ k → algorithm_of (word_at k) ≡ word_at k
+group_word zero l = absurd (omega arith)
+group_word (suc zero) l = absurd (omega arith)
+group_word (suc (suc zero)) l = refl
+group_word (suc (suc (suc zero))) l = refl
+group_word (suc (suc (suc (suc zero)))) l = refl
+group_word (suc (suc (suc (suc (suc k))))) l = refl
+
+pub group_few : (k : ℕ) → 2 ≤ k → k < 5 → algorithm_number (word_at k) < 3
+group_few zero l u = absurd (omega arith)
+group_few (suc zero) l u = absurd (omega arith)
+group_few (suc (suc zero)) l u = omega arith
+group_few (suc (suc (suc zero))) l u = omega arith
+group_few (suc (suc (suc (suc zero)))) l u = omega arith
+group_few (suc (suc (suc (suc (suc k))))) l u = absurd (omega arith)
 
 -- Behind nothing it gives its effect, which is a decision
 pub record Gives (a : ℕ) (r : ChildReply) : Type 0 where
@@ -47,19 +79,19 @@ pub record Gives (a : ℕ) (r : ChildReply) : Type 0 where
   pub first : r ≡ step_of (algorithm_at a) start r
   pub other : is r.decision NotApplicable ≡ false
 
-permit_gives : (a : ℕ) → a < 3 → Gives a (effect_reply 0 true)
+permit_gives : (a : ℕ) → a < 3 → Gives a (effect_reply Permit true)
 permit_gives zero few = record { settled = refl; first = refl; other = refl }
 permit_gives (suc zero) few = record { settled = refl; first = refl; other = refl }
 permit_gives (suc (suc zero)) few = record { settled = refl; first = refl; other = refl }
 permit_gives (suc (suc (suc a))) few = let no : ⊥ = omega arith in absurd no
 
-deny_gives : (a : ℕ) → a < 3 → Gives a (effect_reply 1 true)
+deny_gives : (a : ℕ) → a < 3 → Gives a (effect_reply Deny true)
 deny_gives zero few = record { settled = refl; first = refl; other = refl }
 deny_gives (suc zero) few = record { settled = refl; first = refl; other = refl }
 deny_gives (suc (suc zero)) few = record { settled = refl; first = refl; other = refl }
 deny_gives (suc (suc (suc a))) few = let no : ⊥ = omega arith in absurd no
 
-pub effect_gives : (a w : ℕ) → a < 3 → w < 2 → Gives a (effect_reply w true)
+pub effect_gives : (a w : ℕ) → a < 3 → w < 2 → Gives a (effect_reply (word_at w) true)
 effect_gives a zero few l = permit_gives a few
 effect_gives a (suc zero) few l = deny_gives a few
 effect_gives a (suc (suc w)) few l = let no : ⊥ = omega arith in absurd no

@@ -14,12 +14,12 @@ use Rattle.meaning.specs.declared.Element.{Element}
 use Rattle.meaning.specs.Deciding.{Reply as ChildReply, is, combined}
 use Rattle.laws.proofs.Bools.{Test, passed, failed, test, contradiction}
 use Rattle.laws.proofs.Outcomes.{same_decision, decision_same}
-use Rattle.table.specs.Rows.{word_at, algorithm_at, depth_of, element_at, word_number}
+use Rattle.table.specs.Rows.{word_at, algorithm_at, depth_of, element_at, word_number, algorithm_number}
 use Rattle.decisions.specs.Replies.{step_of, replies_from, reply_at}
 use Rattle.decisions.proofs.Combining.{Settled, start, neutral, start_settled, step_settled, same_so_far}
-use Rattle.decisions.proofs.Children.{reply_on, reply_off, replies_off, algorithm_word}
+use Rattle.decisions.proofs.Children.{reply_on, reply_off, replies_off}
 use Rattle.moves.specs.Moved.{effect_reply, kept, moved_at, Child, Sided}
-use Rattle.moves.proofs.Rules.{Gives, effect_gives}
+use Rattle.moves.proofs.Rules.{group_few, group_word, Gives, effect_gives}
 use Rattle.moves.proofs.Beside.{with_rule, without_rule, Turns, behind_same, off_same, rule_struck, rule_kept, skips_struck, skips_deeper, takes_struck, takes_kept, absorbed}
 
 -- what is less deep than the rule stands behind it
@@ -33,9 +33,9 @@ behind_rule {t} {struck} {n} {up} {rule} child at low less = go (test (ltb rule 
         let no : ⊥ = omega (arith, child.under.above.deeper at low before, child.under.one_deeper) in
         absurd no
 
-module _ (hit : Element → Bool) (t struck : List ℕ) (n up rule a : ℕ) (child : Child t struck n up rule) (room : n ≤ length struck) (algorithm : a ≡ word_number t up - 2) where
+module _ (hit : Element → Bool) (t struck : List ℕ) (n up rule a : ℕ) (child : Child t struck n up rule) (room : n ≤ length struck) (algorithm : a ≡ algorithm_number (word_at (word_number t up))) where
   abbrev own : ChildReply
-  own = effect_reply (word_number t rule) true
+  own = effect_reply (word_at (word_number t rule)) true
 
   abbrev with_it : ℕ → List ChildReply
   with_it = with_rule hit t struck n up rule a child room
@@ -48,7 +48,7 @@ module _ (hit : Element → Bool) (t struck : List ℕ) (n up rule a : ℕ) (chi
   given from = combined (algorithm_at a) (from (up + 1))
 
   few : a < 3
-  few = omega (arith, child.under.decisive, child.under.group)
+  few = omega (arith, algorithm, group_few (word_number t up) child.under.group child.under.decisive)
 
   -- The request matches the rule and its parent; behind the children before place `at` x stands for those with the rule and y for those without it, and they decide otherwise
   pub record Apart (x y : ChildReply) (at : ℕ) : Type 0 where
@@ -68,7 +68,7 @@ module _ (hit : Element → Bool) (t struck : List ℕ) (n up rule a : ℕ) (chi
   -- the parent's decision, where it matches
   parent_gives : (s : List ℕ) → hit (element_at t up) ≡ true → (reply_at hit t s n up).decision ≡ combined (algorithm_at a) (replies_from hit t s n (depth_of t rule) (up + 1))
   parent_gives s on =
-      let word : word_at (word_number t up) ≡ algorithm_at a = algorithm_word (word_number t up) child.under.group ∙ ap algorithm_at (sym algorithm) in
+      let word : word_at (word_number t up) ≡ algorithm_at a = sym (ap algorithm_at algorithm ∙ group_word (word_number t up) child.under.group) in
       ap (λ r. r.decision) (reply_on hit t s n up on)
       ∙ ap₂ (λ w d. combined w (replies_from hit t s n d (up + 1))) word (sym child.under.one_deeper)
 
@@ -80,14 +80,14 @@ module _ (hit : Element → Bool) (t struck : List ℕ) (n up rule a : ℕ) (chi
   unmoved on same = moved_on on ∙ ap (λ d. not (is d (given without_it))) same ∙ ap not (decision_same (given without_it))
 
   -- the start
-  pub so_first : (b : Bool) → b ≡ (hit (element_at t rule) && hit (element_at t up)) → So b (effect_reply (word_number t rule) b) start (up + 1)
+  pub so_first : (b : Bool) → b ≡ (hit (element_at t rule) && hit (element_at t up)) → So b (effect_reply (word_at (word_number t rule)) b) start (up + 1)
   unfolding moved_at
   so_first b is-reach = go b is-reach (test (hit (element_at t rule))) (test (hit (element_at t up)))
     where
       gives : Gives a own
       gives = effect_gives a (word_number t rule) few child.effect
 
-      go : (b : Bool) → b ≡ (hit (element_at t rule) && hit (element_at t up)) → Test (hit (element_at t rule)) → Test (hit (element_at t up)) → So b (effect_reply (word_number t rule) b) start (up + 1)
+      go : (b : Bool) → b ≡ (hit (element_at t rule) && hit (element_at t up)) → Test (hit (element_at t rule)) → Test (hit (element_at t up)) → So b (effect_reply (word_at (word_number t rule)) b) start (up + 1)
       go b e (passed x) (passed y) =
           let both : b ≡ true = e ∙ rw (x, y) in (
             (λ _. rw both record {

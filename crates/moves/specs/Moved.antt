@@ -1,6 +1,7 @@
 -- A rule that is struck, against the same rule left: whether the element over it decides otherwise.
 use Rattle.std.specs.Prelude.{ℕ, suc, ◌+◌, ◌*◌, ◌≤◌, ◌<◌, ◌≡◌, Bool, not, cond, ◌&&◌, List, [], get_or, set}
 use Rattle.meaning.specs.declared.Decision.TheVariants.{NotApplicable}
+use Rattle.meaning.specs.declared.Word.{Word}
 use Rattle.meaning.specs.declared.Element.{Element}
 use Rattle.meaning.specs.Deciding.{Reply as ChildReply, bit, is, combined}
 use Rattle.table.specs.Rows.{word_at, algorithm_at, depth_of, word_number}
@@ -9,9 +10,9 @@ use Rattle.decisions.specs.Replies.{step_of, reply_at}
 use Rattle.blocks.specs.declared.Replies.{Replies}
 use Rattle.blocks.specs.Bits.{reply_bit}
 
--- what a rule with the word number w gives, by whether it matches
-abbrev pub effect_reply : ℕ → Bool → ChildReply
-effect_reply w b = record { matched = b; decision = cond b (combined (word_at w) []) NotApplicable }
+-- what a rule with the word w gives, by whether it matches
+abbrev pub effect_reply : Word → Bool → ChildReply
+effect_reply w b = record { matched = b; decision = cond b (combined w []) NotApplicable }
 
 -- the flags with the rule left again
 abbrev pub kept : List ℕ → ℕ → List ℕ
@@ -40,7 +41,7 @@ pub record Child (t struck : List ℕ) (n up rule : ℕ) : Type 0 where
 
 -- `own` is what the rule gives where it and `up` match
 pub record Own (t hits : List ℕ) (n block up rule : ℕ) (own : Replies) : Type 0 where
-  pub replies : (v : ℕ) → reply_bit own v ≡ effect_reply (word_number t rule) (bit own.matched v)
+  pub replies : (v : ℕ) → reply_bit own v ≡ effect_reply (word_at (word_number t rule)) (bit own.matched v)
   pub reach : (v : ℕ) → bit own.matched v ≡ (bit (get_or hits (64 * rule + block) 0) v && bit (get_or hits (64 * up + block) 0) v)
 
 -- from what the children passed give with the rule and without it, x and y, to the same behind the child c: p and q

@@ -1,14 +1,15 @@
 // On which requests a rule moves the decision of the element over it, 64 requests at once.
 #![tactic(auto)]
 
-ghost use Rattle.std.specs.Prelude.{◌≡◌, ℕ, ◌+◌, ◌<◌, Bool, not};
+ghost use Rattle.std.specs.Prelude.{◌≡◌, ℕ, Bool, not};
 ghost use Rattle.meaning.specs.declared.Element.{Element};
 ghost use Rattle.meaning.specs.Deciding.{bit, is};
-ghost use Rattle.decisions.specs.Replies.{reply_at};
-ghost use Rattle.blocks.specs.Bits.{decision_bit, reply_bit, Answers, Block};
+ghost use Rattle.table.specs.Rows.{algorithm_number};
+ghost use Rattle.blocks.specs.Bits.{decision_bit, reply_bit, Answers};
 ghost use Rattle.moves.specs.Moved.{effect_reply, moved_at, Child, Sided, Own};
 
-use blocks::{Effects, Replies};
+use blocks::{Block, Effects, Replies};
+use meaning::Word;
 
 // What the children passed give with the rule, which is taken first by those before it, and without it.
 #[derive(Clone, Copy)]
@@ -18,57 +19,33 @@ struct Sides {
 }
 
 // What a rule with this word gives where it matches.
-fn effect(word: usize, matched: u64) -> Replies
-    requires { word < 2 }
+fn effect(word: Word, matched: u64) -> Replies
     ensures { ((v : ℕ) → reply_bit result v ≡ effect_reply word (bit matched v)) × (result.matched ≡ matched) }
 {
-    if word == 0 {
-        return Replies {
-            matched,
-            given: Effects {
-                permits: matched,
-                denies: 0,
-            },
-        };
-    }
-    Replies {
-        matched,
-        given: Effects {
+    let given = match word {
+        Word::Permit => Effects {
+            permits: matched,
+            denies: 0,
+        },
+        Word::Deny => Effects {
             permits: 0,
             denies: matched,
         },
-    }
-}
-
-// The replies of element `at`: a rule's without a call.
-fn child_replies(
-    table: &[u16],
-    struck: &[u8],
-    hits: &[u64],
-    n: usize,
-    block: usize,
-    at: usize,
-) -> Replies
-    requires { Block table.now struck.now hits.now n block (at + 1) }
-    ensures { (v : ℕ) (hit : Element → Bool) → Answers table.now hits.now n block v hit → reply_bit result v ≡ reply_at hit table.now struck.now n at }
-{
-    let word = table::word_at(table, at);
-    if word < 2 {
-        return effect(word, hits[64 * at + block]);
-    }
-    blocks::reply(table, struck, hits, n, block, at)
+        _ => Effects::NONE,
+    };
+    Replies { matched, given }
 }
 
 // Both sides behind one child more, which stands before the rule or behind it.
-fn next_sides(algorithm: usize, sides: Sides, child: Replies, own: Replies, earlier: bool) -> Sides
-    ensures { (v : ℕ) → Sided algorithm earlier (reply_bit sides.with v) (reply_bit sides.without v) (reply_bit child v) (reply_bit own v) (reply_bit result.with v) (reply_bit result.without v) }
+fn next_sides(algorithm: Word, sides: Sides, child: Replies, own: Replies, earlier: bool) -> Sides
+    ensures { (v : ℕ) → Sided (algorithm_number algorithm) earlier (reply_bit sides.with v) (reply_bit sides.without v) (reply_bit child v) (reply_bit own v) (reply_bit result.with v) (reply_bit result.without v) }
 {
     let without = blocks::step(algorithm, sides.without, child);
-    if earlier {
-        let with = blocks::step(algorithm, without, own);
-        return Sides { with, without };
-    }
-    let with = blocks::step(algorithm, sides.with, child);
+    let with = if earlier {
+        blocks::step(algorithm, without, own)
+    } else {
+        blocks::step(algorithm, sides.with, child)
+    };
     Sides { with, without }
 }
 
@@ -76,84 +53,50 @@ fn next_sides(algorithm: usize, sides: Sides, child: Replies, own: Replies, earl
 fn differing(sides: Sides) -> u64
     ensures { (v : ℕ) → bit result v ≡ not (is (decision_bit sides.with.given v) (decision_bit sides.without.given v)) }
 {
-    let with = sides.with;
-    let without = sides.without;
-    blocks::differing(with.given, without.given)
+    blocks::differing(sides.with.given, sides.without.given)
 }
 
 // The requests on which the children of `up` give another decision with the rule than without it.
-fn still_moved(
-    table: &[u16],
-    struck: &[u8],
-    hits: &[u64],
-    n: usize,
-    block: usize,
-    up: usize,
-    rule: usize,
-    own: Replies,
-) -> u64
-    requires { Block table.now struck.now hits.now n block n × Child table.now struck.now n up rule × Own table.now hits.now n block up rule own }
-    ensures { (v : ℕ) (hit : Element → Bool) → Answers table.now hits.now n block v hit → bit result v ≡ moved_at hit table.now struck.now n up rule }
+fn still_moved(b: &Block, up: usize, rule: usize, own: Replies) -> u64
+    requires { Child b.now.table.now b.now.struck.now b.now.n up rule × Own b.now.table.now b.now.hits.now b.now.n b.now.block up rule own }
+    ensures { (v : ℕ) (hit : Element → Bool) → Answers b.now.table.now b.now.hits.now b.now.n b.now.block v hit → bit result v ≡ moved_at hit b.now.table.now b.now.struck.now b.now.n up rule }
 {
-    let algorithm = table::word_at(table, up) - 2;
-    let depth = table::depth_at(table, rule);
+    let algorithm = table::word_at(b.table, up);
+    let depth = table::depth_at(b.table, rule);
     let mut sides = Sides {
         with: own,
-        without: Replies {
-            matched: 0,
-            given: Effects {
-                permits: 0,
-                denies: 0,
-            },
-        },
+        without: Replies::NONE,
     };
     let mut apart = own.matched;
-    let mut at = up + 1;
-    while at < n {
-        if struck[at] != 0 {
-            at += 1;
-            continue;
+    for at in up + 1..b.n {
+        let live = b.struck[at] == 0;
+        if live {
+            let d = table::depth_at(b.table, at);
+            if d < depth {
+                return apart;
+            }
+            if d == depth && b.matched(at) & apart != 0 {
+                let child = b.reply(at);
+                sides = next_sides(algorithm, sides, child, own, at < rule);
+                apart &= differing(sides);
+                if apart == 0 {
+                    return 0;
+                }
+            }
         }
-        let d = table::depth_at(table, at);
-        if d < depth {
-            return apart;
-        }
-        if depth < d {
-            at += 1;
-            continue;
-        }
-        if hits[64 * at + block] & apart == 0 {
-            at += 1;
-            continue;
-        }
-        let child = child_replies(table, struck, hits, n, block, at);
-        sides = next_sides(algorithm, sides, child, own, at < rule);
-        apart = apart & differing(sides);
-        if apart == 0 {
-            return 0;
-        }
-        at += 1;
     }
     apart
 }
 
 // The requests of a block on which the element over a rule, whose flag is set, decides otherwise without the rule.
-pub fn moved(
-    table: &[u16],
-    struck: &[u8],
-    hits: &[u64],
-    n: usize,
-    block: usize,
-    up: usize,
-    rule: usize,
-) -> u64
-    requires { Block table.now struck.now hits.now n block n × Child table.now struck.now n up rule }
-    ensures { (v : ℕ) (hit : Element → Bool) → Answers table.now hits.now n block v hit → bit result v ≡ moved_at hit table.now struck.now n up rule }
+pub fn moved(b: &Block, up: usize, rule: usize) -> u64
+    requires { Child b.now.table.now b.now.struck.now b.now.n up rule }
+    ensures { (v : ℕ) (hit : Element → Bool) → Answers b.now.table.now b.now.hits.now b.now.n b.now.block v hit → bit result v ≡ moved_at hit b.now.table.now b.now.struck.now b.now.n up rule }
 {
-    let reach = hits[64 * rule + block] & hits[64 * up + block];
+    let reach = b.matched(rule) & b.matched(up);
     if reach == 0 {
         return 0;
     }
-    let own = effect(table::word_at(table, rule), reach);
-    still_moved(table, struck, hits, n, block, up, rule, own)
+    let own = effect(table::word_at(b.table, rule), reach);
+    still_moved(b, up, rule, own)
 }

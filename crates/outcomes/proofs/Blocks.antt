@@ -21,7 +21,7 @@ use Rattle.decisions.proofs.Children.{first_left}
 use Rattle.matching.specs.Hits.{words_of, HitsLaid}
 use Rattle.blocks.specs.declared.Effects.{Effects}
 use Rattle.blocks.specs.declared.Replies.{Replies}
-use Rattle.blocks.specs.Bits.{decision_bit, reply_bit, Answers, Block}
+use Rattle.blocks.specs.Bits.{decision_bit, reply_bit, Answers, Fits}
 use Rattle.outcomes.specs.Decided.{outcome_at, decided_at, differs_at}
 use Rattle.outcomes.specs.PolicyTable.{PolicyTable}
 use Rattle.outcomes.specs.Changes.{Other, InBlock}
@@ -39,8 +39,8 @@ abbrev pub outcome_up_to : List ℕ → List ℕ → Shape → ℕ → Decision
 outcome_up_to t struck s m = cond (leb s.space m) NotApplicable (decided_at t s.n (hit_of s) struck m)
 
 module _ (t struck hits : List ℕ) (s : Shape) (ready : PolicyTable t struck s) (matched : HitsLaid t hits s) (block : ℕ) where
-  pub block_room : block < 64 → Block t struck hits s.n block 1
-  block_room l = record { rows = ready.rows; flags = ready.flags; words = matched.room; few = ready.few; within = l; place = ready.some }
+  pub block_fits : block < 64 → Fits t struck hits s.n block
+  block_fits l = record { rows = ready.rows; flags = ready.flags; words = matched.room; few = ready.few; within = l }
 
   module _ (r : Replies) (replied : Replied t struck hits s.n block r) where
     -- request m of the block gets what its bits tell

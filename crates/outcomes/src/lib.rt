@@ -10,7 +10,7 @@ ghost use Rattle.outcomes.specs.Decided.{none_struck, outcome_at, decided_at, di
 ghost use Rattle.outcomes.specs.PolicyTable.{PolicyTable, OutcomesLaid};
 ghost use Rattle.outcomes.specs.Changes.{Other, InBlock};
 
-use blocks::Effects;
+use blocks::{Block, Effects};
 use table::Shape;
 
 // Lays down what each request gets, a block of 64 at a time: the words of those permitted, and 64 places on of those denied. All other words stay.
@@ -19,8 +19,14 @@ fn decide_all(table: &[u16], struck: &[u8], hits: &[u64], shape: Shape, outcomes
     ensures { OutcomesLaid table.now struck.now outcomes.new shape × Rest 2 shape.space outcomes.old outcomes.new }
 {
     for block in 0..(shape.space + 63) / 64 {
-        let reply = blocks::reply(table, struck, hits, shape.n, block, 0);
-        let given = reply.given;
+        let b = Block {
+            table,
+            struck,
+            hits,
+            n: shape.n,
+            block,
+        };
+        let given = b.reply(0).given;
         outcomes[block] = given.permits;
         outcomes[64 + block] = given.denies;
     }
@@ -96,8 +102,14 @@ pub fn change_in(
     ensures { InBlock (differs_at table.now shape.n (hit_of shape) outcomes.now struck.now) shape.space block result }
 {
     let space = shape.space;
-    let reply = blocks::reply(table, struck, hits, shape.n, block, 0);
-    let given = reply.given;
+    let b = Block {
+        table,
+        struck,
+        hits,
+        n: shape.n,
+        block,
+    };
+    let given = b.reply(0).given;
     let before = Effects {
         permits: outcomes[block],
         denies: outcomes[64 + block],

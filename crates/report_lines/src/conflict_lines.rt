@@ -50,7 +50,7 @@ fn put_later(
             k += 1;
             continue;
         }
-        let request = table::wide(pairs[64 * j + k]);
+        let request = pairs[64 * j + k] as usize;
         if shape.space <= request {
             k += 1;
             continue;

@@ -28,7 +28,7 @@ pub(crate) fn put_segment(
 {
     let first = printing::put_field(out, at, b"G", 9);
     let many = printing::put_number(out, first, segment.first, 9);
-    let decision = printing::put_number(out, many, table::wide(segment.size), 9);
+    let decision = printing::put_number(out, many, segment.size as usize, 9);
     let names = printing::put_decision(out, decision, segment.decided, 9);
     fields::put_names(file, places, n, segment.word, out, names)
 }

@@ -17,7 +17,9 @@ use Rattle.laws.proofs.Bits.{bit_and_lem}
 use Rattle.laws.proofs.Search.{first_none}
 use Rattle.laws.proofs.Bools.{Test, passed, failed, test}
 use Rattle.table.specs.Rows.{element_at, depth_of}
-use Rattle.table.specs.Tree.{before, parent_of, place_or}
+use Rattle.std.specs.Prelude.{None}
+use Rattle.laws.specs.Found.{found}
+use Rattle.table.specs.Tree.{before, parent_of}
 use Rattle.table.specs.declared.Shape.{Shape}
 use Rattle.table.specs.Shape.{hit_of}
 use Rattle.table.proofs.Above.{Parent, top}
@@ -57,11 +59,11 @@ module _ (t hits : List ℕ) (n blocks i : ℕ) (inside : i < n) (old mid : List
   own_bit : (b v : ℕ) (hit : Element → Bool) → b < blocks → Answers t hits n b v hit → bit (get_or mid b 0) v ≡ (bit (get_or old b 0) v && hit (element_at t i))
   own_bit b v hit l answers = ap (λ w. bit w v) (own b l) ∙ bit_and_lem (get_or old b 0) (get_or hits (64 * i + b) 0) v ∙ ap (λ x. bit (get_or old b 0) v && x) (answers i inside)
 
-  pub narrowed_top : place_or n (parent_of t i) ≡ n → Narrowed t hits n blocks i old mid
+  pub narrowed_top : None ≡ found (parent_of t i) → Narrowed t hits n blocks i old mid
   unfolding element_at
   narrowed_top none b v hit l answers =
       own_bit b v hit l answers
-      ∙ ap (λ x. bit (get_or old b 0) v && x) (sym (rw (top t n i (omega arith) none) (and-true (hit (element_at t i)))))
+      ∙ ap (λ x. bit (get_or old b 0) v && x) (sym (rw (top t i (sym none)) (and-true (hit (element_at t i)))))
 
   pub narrowed_up : (p : ℕ) (new : List ℕ) → Parent t (depth_of t i) i p → Narrowed t hits n blocks p mid new → Narrowed t hits n blocks i old new
   unfolding element_at

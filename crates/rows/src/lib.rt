@@ -11,6 +11,7 @@ ghost use Rattle.table.specs.Shape.{hit_of};
 ghost use Rattle.matching.specs.Hits.{Rest};
 ghost use Rattle.rows.specs.Rows.{Applied, Given, Narrowed, AppliedRow, Rowed, Marked};
 
+use blocks::Block;
 use meaning::Decision;
 use table::Shape;
 
@@ -38,11 +39,9 @@ fn apply(table: &[u16], hits: &[u64], n: usize, blocks: usize, i: usize, row: &m
     ensures { Narrowed table.now hits.now n blocks i row.old row.new }
 {
     narrow(hits, 64 * i, blocks, row);
-    let up = table::parent(table, n, i);
-    if up == n {
-        return;
+    if let Some(up) = table::parent(table, i) {
+        apply(table, hits, n, blocks, up, row);
     }
-    apply(table, hits, n, blocks, up, row);
 }
 
 // The requests to which element i applies.
@@ -87,8 +86,14 @@ pub fn give_all(
         if blocks <= block {
             continue;
         }
-        let reply = blocks::reply(table, struck, hits, n, block, k / 64);
-        let given = reply.given;
+        let b = Block {
+            table,
+            struck,
+            hits,
+            n,
+            block,
+        };
+        let given = b.reply(k / 64).given;
         permits[k] = blocks::without(given.permits, given.denies);
         denies[k] = blocks::without(given.denies, given.permits);
     }
@@ -99,9 +104,7 @@ pub fn parent_all(table: &[u16], n: usize, parents: &mut [usize])
     requires { Rows table.now n × (n ≤ length parents.old) }
     ensures { parents.new ≡ map (λ i. place_or n (parent_of table.now i)) (counting 0 n) ++ drop n parents.old }
 {
-    let mut child = 0;
-    while child < n {
-        parents[child] = table::parent(table, n, child);
-        child += 1;
+    for child in 0..n {
+        parents[child] = table::parent(table, child).unwrap_or(n);
     }
 }

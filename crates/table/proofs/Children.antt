@@ -3,6 +3,7 @@ use Prim.Native.Nat.{ℕ, suc, ◌+◌, ◌-◌, ◌≤◌, ◌<◌}
 use mathlib.Core.Path.{◌≡◌, ◌∙◌}
 use mathlib.Core.Bool.{and-false}
 use mathlib.Core.List.{List, ◌∷◌}
+use mathlib.Core.Option.{none, some}
 use native.Mathlib.Numerals.{add-one}
 use native.Mathlib.Omega.{arith}
 use lib.ListN.{get_or, set}
@@ -25,7 +26,7 @@ module _ (t struck : List ℕ) (n i : ℕ) where
 
   -- the search for a child of depth d
   module _ (d : ℕ) where
-    pub child_none : n ≤ i → next_child t struck n d i ≡ n
+    pub child_none : n ≤ i → next_child t struck n d i ≡ none
     unfolding next_child
     child_none l = let e : n - i ≡ 0 = omega arith in rw e
 
@@ -41,11 +42,11 @@ module _ (t struck : List ℕ) (n i : ℕ) where
       unfolding next_child
       passes_deeper deep = rw (one_more, lt-leb (depth_of t i) d deep, and-false, add-one i)
 
-      pub child_here : get_or struck i 0 ≡ 0 → depth_of t i ≡ d → next_child t struck n d i ≡ i
+      pub child_here : get_or struck i 0 ≡ 0 → depth_of t i ≡ d → next_child t struck n d i ≡ some i
       unfolding next_child
       child_here live child = rw (one_more, eq-eqb (get_or struck i 0) 0 live, le-leb (depth_of t i) d (omega arith), eq-eqb (depth_of t i) d child)
 
-      pub child_behind : get_or struck i 0 ≡ 0 → depth_of t i < d → next_child t struck n d i ≡ n
+      pub child_behind : get_or struck i 0 ≡ 0 → depth_of t i < d → next_child t struck n d i ≡ none
       unfolding next_child
       child_behind live behind = rw (one_more, eq-eqb (get_or struck i 0) 0 live, le-leb (depth_of t i) d (omega arith), ne_eqb (depth_of t i) d (omega arith))
 

@@ -1,11 +1,18 @@
 -- Rows: the masks of one, and a row laid into a table, number by number.
-use Prim.Native.Nat.{ℕ, suc, ◌+◌, ◌*◌, ◌≤◌, ◌<◌}
+use Prim.Native.Nat.{ℕ, zero, suc, ◌+◌, ◌*◌, ◌≤◌, ◌<◌}
 use mathlib.Core.Path.{◌≡◌, sym, ap, ◌∙◌}
+use mathlib.Core.Logic.{◌⊎◌, inl, inr}
+use mathlib.Core.Bool.{Bool, true, false}
 use mathlib.Core.List.{List, [], ◌∷◌, ◌++◌, append_assoc}
 use native.Mathlib.Numerals.{add-one}
 use native.Mathlib.Omega.{arith}
-use lib.ListN.{length, get_or, set, take, drop, drop_of_length-le, length-drop, get_or-append, take-append-drop, replicate}
-use lib.Seq.{sets, sets-eq, drop-cons, length-sets, length-take-le, drop-append-le, take-append-le, drop-append-add, take_at, get_or-append_seam, get_or-append-add}
+use lib.ListN.{length, get_or, set, take, drop, length-drop, length-set, get_or-append, take-append-drop, replicate}
+use borrow.Rule.Slice.PartMut.{put_mid}
+use lib.Seq.{sets-eq, drop-cons, length-sets, length-take-le, drop-append-le, take-append-le, drop-append-add, take_at, get_or-append_seam, get_or-append-add}
+use Rattle.std.proofs.lemmas.List.Edits.{paste_all}
+use Rattle.std.proofs.lemmas.Slice.{put_mid-paste}
+use Rattle.meaning.specs.declared.Word.{Word}
+use Rattle.meaning.specs.declared.Word.TheVariants.{Permit, Deny, DenyOverrides, PermitOverrides, FirstApplicable, OnlyOneApplicable}
 use Rattle.laws.proofs.Types.{rule, Element}
 use Rattle.meaning.specs.Model.{unused}
 use Rattle.table.specs.Rows.{Rows, word_at, word_number, depth_of, masks_at, with_row, element_at}
@@ -33,16 +40,44 @@ six_from t at room =
       drop-cons t (suc (suc (suc (suc (suc at))))) 0 (omega arith),
     )
 
--- one number more of those that are left
-pub sets_next : (l xs : List ℕ) (at m : ℕ) → m < length xs → sets (set l (at + m) (get_or xs m 0)) (at + (m + 1)) (drop (m + 1) xs) ≡ sets l (at + m) (drop m xs)
-sets_next l xs at m h = let next : at + (m + 1) ≡ suc (at + m) = omega arith in rw (next, add-one m, drop-cons xs m 0)
-
--- all of them laid behind the first two
-pub row_laid : (t l masks : List ℕ) (i word depth m : ℕ) → length masks ≤ m → sets l (8 * i + 2 + m) (drop m masks) ≡ sets (set (set t (8 * i) word) (8 * i + 1) depth) (8 * i + 2) masks → l ≡ with_row t i word depth masks
+-- the masks copied behind the first two numbers, over the table that has these
+pub row_laid : (t ys masks : List ℕ) (i word depth k : ℕ) → Rows t (i + 1) → ys ≡ masks → 6 ≡ k → 6 ≡ length masks → put_mid (8 * i + 2) k (set (set t (8 * i) word) (8 * i + 1) depth) ys ≡ with_row t i word depth masks
 unfolding with_row
-row_laid t l masks i word depth m h laid =
+row_laid t ys masks i word depth k room same size six =
+    let front : List ℕ = set (set t (8 * i) word) (8 * i + 1) depth in
     let third : 8 * i + 2 ≡ suc (suc (8 * i)) = omega arith in
-    rw (third, add-one (8 * i)) at (rw (drop_of_length-le masks h) at laid)
+    let fits : 8 * i + 2 + length masks ≤ length front = simp length-set (omega (arith, six)) in
+    put_mid-paste (8 * i + 2) k front ys masks 6 same size six
+    ∙ paste_all front (8 * i + 2) masks 6 six
+    ∙ ap (λ m. take (8 * i + 2) front ++ (masks ++ drop (8 * i + 2 + m) front)) six
+    ∙ sym (sets-eq masks front (8 * i + 2) fits ∙ append_assoc (take (8 * i + 2) front) masks (drop (8 * i + 2 + length masks) front))
+    ∙ rw (third, add-one (8 * i))
+
+-- the numbers of effects, and of algorithms
+abbrev is_effect : Word → Bool
+is_effect Permit = true
+is_effect Deny = true
+is_effect DenyOverrides = false
+is_effect PermitOverrides = false
+is_effect FirstApplicable = false
+is_effect OnlyOneApplicable = false
+
+by_test : (k : ℕ) → is_effect (word_at k) ≡ true → k < 2
+by_test zero e = omega arith
+by_test (suc zero) e = omega arith
+by_test (suc (suc zero)) e = absurd (cc)
+by_test (suc (suc (suc zero))) e = absurd (cc)
+by_test (suc (suc (suc (suc zero)))) e = absurd (cc)
+by_test (suc (suc (suc (suc (suc k))))) e = absurd (cc)
+
+pub effect_number : (k : ℕ) (w : Word) → w ≡ word_at k → (w ≡ Permit) ⊎ (w ≡ Deny) → k < 2
+effect_number k w e (inl h) = by_test k (ap is_effect (sym e ∙ h))
+effect_number k w e (inr h) = by_test k (ap is_effect (sym e ∙ h))
+
+pub group_number : (k : ℕ) (w : Word) → w ≡ word_at k → (w ≡ Permit → ⊥) → (w ≡ Deny → ⊥) → 2 ≤ k
+group_number zero w e permit deny = absurd (permit e)
+group_number (suc zero) w e permit deny = absurd (deny e)
+group_number (suc (suc k)) w e permit deny = omega arith
 
 -- an element looks at its own row only
 row_front : (t x : List ℕ) (i : ℕ) → Rows t (i + 1) → element_at (t ++ x) i ≡ element_at t i

@@ -19,6 +19,18 @@ word_at zero = Permit
 word_at (suc zero) = Deny
 word_at (suc (suc n)) = algorithm_at n
 
+-- a word's algorithm and its number; an effect, which combines nothing, counts as the last
+abbrev pub algorithm_number : Word → ℕ
+algorithm_number Permit = 3
+algorithm_number Deny = 3
+algorithm_number DenyOverrides = 0
+algorithm_number PermitOverrides = 1
+algorithm_number FirstApplicable = 2
+algorithm_number OnlyOneApplicable = 3
+
+abbrev pub algorithm_of : Word → Word
+algorithm_of w = algorithm_at (algorithm_number w)
+
 -- the table has n rows
 abbrev pub Rows : List ℕ → ℕ → Type 0
 Rows t n = 8 * n ≤ length t

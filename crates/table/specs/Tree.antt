@@ -34,13 +34,13 @@ rule_left t struck i = eqb (get_or struck i 0) 0 && ltb (word_number t i) 2
 abbrev pub stops_at : List ℕ → List ℕ → ℕ → ℕ → Bool
 stops_at t struck d j = eqb (get_or struck j 0) 0 && leb (depth_of t j) d
 
-abbrev pub child_or : List ℕ → ℕ → ℕ → Option ℕ → ℕ
-child_or t n d none = n
-child_or t n d (some j) = cond (eqb (depth_of t j) d) j n
+abbrev pub child_at : List ℕ → ℕ → Option ℕ → Option ℕ
+child_at t d none = none
+child_at t d (some j) = cond (eqb (depth_of t j) d) (some j) none
 
--- the next child of depth d that is not struck, of n places from place i on; n where there is none
-unfoldable pub next_child : List ℕ → List ℕ → ℕ → ℕ → ℕ → ℕ
-next_child t struck n d i = child_or t n d (first_from (stops_at t struck d) i (n - i))
+-- the next child of depth d that is not struck, of n places from place i on
+unfoldable pub next_child : List ℕ → List ℕ → ℕ → ℕ → ℕ → Option ℕ
+next_child t struck n d i = child_at t d (first_from (stops_at t struck d) i (n - i))
 
 -- the table has n rows, the flags are as many, and i is a place among them or their end
 pub record Room (t struck : List ℕ) (n i : ℕ) : Type 0 where

@@ -1,12 +1,14 @@
 // The elements of a policy, lent as a table of numbers, and a flag for each: one that is not 0 strikes its element. How a row of the table lies is known here alone.
 #![tactic(auto)]
 
-ghost use Rattle.std.specs.Prelude.{◌≡◌, ◌+◌, ◌≤◌, ◌<◌, length};
+ghost use Rattle.std.specs.Prelude.{◌≡◌, ◌+◌, ◌≤◌, ◌<◌, length, IfSome};
 ghost use Rattle.meaning.specs.Deciding.{matches};
 ghost use Rattle.requests.specs.Values.{values_of, severals_of};
-ghost use Rattle.table.specs.Rows.{Rows, word_number, depth_of, masks_at, element_at, with_row};
-ghost use Rattle.table.specs.Tree.{parent_of, place_or, over_of, Over, rule_left, next_child, Room};
+ghost use Rattle.laws.specs.Found.{found};
+ghost use Rattle.table.specs.Rows.{Rows, word_at, word_number, depth_of, masks_at, element_at, with_row};
+ghost use Rattle.table.specs.Tree.{parent_of, over_of, Over, rule_left, next_child, Room};
 
+use meaning::Word;
 use requests::Request;
 
 // A policy's shape: `n` elements; at which of `len` attributes a request has sets of values, how many choices each has, and
@@ -28,26 +30,33 @@ pub struct Row {
     pub masks: [u16; 6],
 }
 
-// A number of the table as a usize.
-pub fn wide(x: u16) -> usize
-    ensures { (result ≡ x) × (result < 65536) }
+// The word of that number.
+fn word_of(number: u16) -> Word
+    ensures { result ≡ word_at number }
 {
-    x as usize
+    match number {
+        0 => Word::Permit,
+        1 => Word::Deny,
+        2 => Word::DenyOverrides,
+        3 => Word::PermitOverrides,
+        4 => Word::FirstApplicable,
+        _ => Word::OnlyOneApplicable,
+    }
 }
 
-// The number of element i's word, its depth and its masks.
-pub fn word_at(table: &[u16], i: usize) -> usize
+// Element i's word, its depth and its masks.
+pub fn word_at(table: &[u16], i: usize) -> Word
     requires { Rows table.now (i + 1) }
-    ensures { result ≡ word_number table.now i }
+    ensures { result ≡ word_at (word_number table.now i) }
 {
-    wide(table[8 * i])
+    word_of(table[8 * i])
 }
 
 pub fn depth_at(table: &[u16], i: usize) -> usize
     requires { Rows table.now (i + 1) }
     ensures { (result ≡ depth_of table.now i) × (result < 65536) }
 {
-    wide(table[8 * i + 1])
+    usize::from(table[8 * i + 1])
 }
 
 pub fn masks_at(table: &[u16], i: usize) -> [u16; 6]
@@ -78,14 +87,9 @@ pub fn put_row(table: &mut [u16], i: usize, row: Row)
     requires { Rows table.old (i + 1) }
     ensures { table.new ≡ with_row table.old i row.word row.depth row.masks }
 {
-    let masks = row.masks;
     table[8 * i] = row.word;
     table[8 * i + 1] = row.depth;
-    let mut m = 0;
-    while m < 6 {
-        table[8 * i + 2 + m] = masks[m];
-        m += 1;
-    }
+    table[8 * i + 2..8 * i + 8].copy_from_slice(&row.masks);
 }
 
 // Whether element i is a rule that is not struck.
@@ -93,39 +97,32 @@ pub fn is_left(table: &[u16], struck: &[u8], i: usize) -> bool
     requires { Rows table.now (i + 1) × (i < length struck.now) }
     ensures { result ≡ rule_left table.now struck.now i }
 {
-    if struck[i] == 0 {
-        word_at(table, i) < 2
-    } else {
-        false
-    }
+    struck[i] == 0 && matches!(word_at(table, i), Word::Permit | Word::Deny)
 }
 
-// The parent of element i: the nearest earlier element of depth one less, or n where there is none.
-pub fn parent(table: &[u16], n: usize, i: usize) -> usize
-    requires { Rows table.now n × (i < n) }
-    ensures { result ≡ place_or n (parent_of table.now i) }
+// The parent of element i: the nearest earlier element of depth one less.
+pub fn parent(table: &[u16], i: usize) -> Option<usize>
+    requires { Rows table.now (i + 1) }
+    ensures value { result ≡ found (parent_of table.now i) }
+    ensures earlier { IfSome result (λ up. up < i) }
 {
     let depth = depth_at(table, i);
-    let mut j = i;
-    while 0 < j {
-        j -= 1;
+    for j in (0..i).rev() {
         if depth_at(table, j) + 1 == depth {
-            return j;
+            return Some(j);
         }
     }
-    n
+    None
 }
 
 // The nearest earlier element that is less deep, or the element itself where there is none.
-pub fn over(table: &[u16], n: usize, i: usize) -> usize
-    requires { Rows table.now n × (i < n) }
+pub fn over(table: &[u16], i: usize) -> usize
+    requires { Rows table.now (i + 1) }
     ensures value { result ≡ over_of table.now i }
     ensures above { Over table.now result i }
 {
     let depth = depth_at(table, i);
-    let mut j = i;
-    while 0 < j {
-        j -= 1;
+    for j in (0..i).rev() {
         if depth_at(table, j) < depth {
             return j;
         }
@@ -133,25 +130,29 @@ pub fn over(table: &[u16], n: usize, i: usize) -> usize
     i
 }
 
-// The next child at the depth that is not struck, from `from` on; n where an element of a lower depth, or none, comes first.
-pub fn next_child(table: &[u16], struck: &[u8], n: usize, from: usize, depth: usize) -> usize
+// The next child at the depth that is not struck, from `from` on; none where an element of a lower depth, or no element, comes first.
+pub fn next_child(
+    table: &[u16],
+    struck: &[u8],
+    n: usize,
+    from: usize,
+    depth: usize,
+) -> Option<usize>
     requires { Room table.now struck.now n from }
-    ensures { (result ≡ next_child table.now struck.now n depth from) × (from ≤ result) × (result ≤ n) }
+    ensures value { result ≡ found (next_child table.now struck.now n depth from) }
+    ensures within { IfSome result (λ at. (from ≤ at) × (at < n)) }
 {
-    let mut at = from;
-    while at < n {
-        if struck[at] != 0 {
-            at += 1;
-            continue;
+    for at in from..n {
+        let live = struck[at] == 0;
+        if live {
+            let d = depth_at(table, at);
+            if d < depth {
+                return None;
+            }
+            if d == depth {
+                return Some(at);
+            }
         }
-        let d = depth_at(table, at);
-        if d < depth {
-            return n;
-        }
-        if d == depth {
-            return at;
-        }
-        at += 1;
     }
-    n
+    None
 }

@@ -16,7 +16,7 @@ use Rattle.table.specs.Rows.{element_at}
 use Rattle.table.specs.declared.Shape.{Shape}
 use Rattle.table.specs.Shape.{hit_of}
 use Rattle.decisions.specs.Replies.{reply_at}
-use Rattle.blocks.specs.Bits.{Block, Lowest}
+use Rattle.blocks.specs.Bits.{Fits, Lowest}
 use Rattle.moves.specs.Moved.{kept, moved_at, Under, Child}
 use Rattle.outcomes.specs.Changes.{InBlock}
 use Rattle.obligations.specs.Given.{outcome_left}
@@ -43,10 +43,10 @@ module _ (f : Bytes) (places t struck hits outcomes : List ℕ) (s : Shape) (rul
       let off : hit_of s m (element_at t rule) ≡ false = sym (rw e at (trial.matched.hits_are rule m trial.aside.element l)) ∙ ap (λ w. bit w (m % 64)) none ∙ bit_zero (m % 64) in
       unchanged_not m (trial.steady.unmatched struck rule trial.aside m l off)
 
-  pub block_ready : (block : ℕ) → 64 * block < s.space → Block t struck hits s.n block s.n
-  block_ready block l =
+  pub block_fits : (block : ℕ) → 64 * block < s.space → Fits t struck hits s.n block
+  block_fits block l =
       let ready = trial.aside.ready in
-      record { rows = ready.rows; flags = ready.flags; words = trial.matched.room; few = ready.few; within = omega (arith, ready.small); place = omega arith }
+      record { rows = ready.rows; flags = ready.flags; words = trial.matched.room; few = ready.few; within = omega (arith, ready.small) }
 
   pub child : (up : ℕ) → Under t up rule → Child t struck s.n up rule
   child up under =

@@ -14,6 +14,7 @@ ghost use Rattle.trials.specs.Steady.{Steady};
 ghost use Rattle.trials.specs.Trial.{Grouped, Laid, Trial, Tries};
 
 use differences::{PolicyFile, PolicyOutcomes};
+use meaning::Word;
 
 // Whether a rule is needless, and a request to try first the next time.
 #[derive(Clone, Copy)]
@@ -27,18 +28,14 @@ fn group_over(table: &[u16], n: usize, rule: usize) -> usize
     requires { Rows table.now n × (rule < n) }
     ensures { Grouped table.now n rule result }
 {
-    let up = table::over(table, n, rule);
+    let up = table::over(table, rule);
     if table::depth_at(table, up) + 1 != table::depth_at(table, rule) {
         return n;
     }
-    let word = table::word_at(table, up);
-    if word < 2 {
-        return n;
+    match table::word_at(table, up) {
+        Word::DenyOverrides | Word::PermitOverrides | Word::FirstApplicable => up,
+        _ => n,
     }
-    if 4 < word {
-        return n;
-    }
-    up
 }
 
 // The first request that gets another decision than the one laid down, or other obligations, or the number of requests. Only requests that match the rule can.

@@ -1,13 +1,13 @@
 // One rule tried on the requests of one block: the first that gets another decision, or other obligations, without it.
 ghost use Rattle.std.specs.Prelude.{◌≡◌, ◌*◌, ◌≤◌, ◌<◌, length};
 ghost use Rattle.table.specs.Shape.{hit_of};
-ghost use Rattle.blocks.specs.Bits.{Block};
 ghost use Rattle.moves.specs.Moved.{kept, Child};
 ghost use Rattle.outcomes.specs.Changes.{InBlock};
 ghost use Rattle.differences.specs.Apart.{Suspects};
 ghost use Rattle.trials.specs.Decided.{apart_at};
 ghost use Rattle.trials.specs.Trial.{Grouped, Trial, Copied, Reached};
 
+use blocks::Block;
 use differences::PolicyOutcomes;
 
 // Copies n flags.
@@ -34,22 +34,14 @@ fn change_among(o: &PolicyOutcomes, struck: &[u8], rule: usize, block: usize, on
 }
 
 // The requests of the block that may get something else without the rule: those on which it moves what the element over it decides; where there is none, those that match it.
-fn reached(
-    table: &[u16],
-    struck: &[u8],
-    hits: &[u64],
-    n: usize,
-    up: usize,
-    rule: usize,
-    block: usize,
-) -> u64
-    requires { Block table.now struck.now hits.now n block n × (rule < n) × (up < n → Child table.now struck.now n up rule) }
-    ensures { Reached table.now struck.now hits.now n block up rule result }
+fn reached(b: &Block, up: usize, rule: usize) -> u64
+    requires { (rule < b.now.n) × (up < b.now.n → Child b.now.table.now b.now.struck.now b.now.n up rule) }
+    ensures { Reached b.now.table.now b.now.struck.now b.now.hits.now b.now.n b.now.block up rule result }
 {
-    if up < n {
-        return moves::moved(table, struck, hits, n, block, up, rule);
+    if up < b.n {
+        return moves::moved(b, up, rule);
     }
-    hits[64 * rule + block]
+    b.matched(rule)
 }
 
 // The first request of the block that gets another decision than the one laid down, or other obligations, or the number of requests. The first element is asked only where the rule moves what the element over it decides.
@@ -64,7 +56,14 @@ pub(crate) fn change_at(
     ensures { let p = o.now.policy in InBlock (apart_at p.file.now p.places.now p.table.now p.shape.n (hit_of p.shape) struck.now rule) p.shape.space block result }
 {
     let shape = o.policy.shape;
-    let moved = reached(o.policy.table, struck, o.hits, shape.n, up, rule, block);
+    let b = Block {
+        table: o.policy.table,
+        struck,
+        hits: o.hits,
+        n: shape.n,
+        block,
+    };
+    let moved = reached(&b, up, rule);
     if moved == 0 {
         return shape.space;
     }

@@ -19,14 +19,14 @@ use Rattle.laws.proofs.Outcomes.{same_decision}
 use Rattle.laws.proofs.Obligations.{Bare}
 use Rattle.laws.proofs.Unchanged.{Gone, gone, deeper, Same, parent, later, same_outcome_lem}
 use Rattle.laws.proofs.Policies.{policy_bare}
-use Rattle.table.specs.Rows.{word_at, algorithm_at, depth_of, element_at, word_number}
+use Rattle.table.specs.Rows.{word_at, algorithm_at, algorithm_number, depth_of, element_at, word_number}
 use Rattle.table.specs.Tree.{Leaves, RulesStruck, Over}
 use Rattle.table.specs.declared.Shape.{Shape}
 use Rattle.table.specs.Shape.{counts_of, severals_of, hit_of}
 use Rattle.decisions.specs.Replies.{replies_from, reply_at}
-use Rattle.decisions.proofs.Children.{algorithm_word}
 use Rattle.decisions.proofs.Leaves.{FirstWithin, first_within, replies_without}
 use Rattle.moves.specs.Moved.{kept, moved_at}
+use Rattle.moves.proofs.Rules.{group_word}
 use Rattle.layout.specs.Places.{element_in, elements_to, Obliged}
 use Rattle.layout.proofs.Laws.{bare, replies_bare}
 use Rattle.obligations.specs.Given.{left_elements, outcome_left}
@@ -194,8 +194,8 @@ module _ (f : Bytes) (p : Policy) (h : read f ≡ given p) (table places : List 
     decides_off : hit (element_at table rule) ≡ false → (up : ℕ) → 2 ≤ word_number table up → up < rule → (reply_at hit table struck n up).decision ≡ (reply_at hit table (kept struck rule) n up).decision
     unfolding reply_at element_at
     decides_off off up group earlier =
-        let a = word_number table up - 2 in
-        let word : word_at (word_number table up) ≡ algorithm_at a = algorithm_word (word_number table up) group in
+        let a = algorithm_number (word_at (word_number table up)) in
+        let word : word_at (word_number table up) ≡ algorithm_at a = sym (group_word (word_number table up) group) in
         let children : List ℕ → List Reply = λ z. replies_from hit table z n (suc (depth_of table up)) (up + 1) in
         let live = get_or-set_same struck rule 0 0 (omega (arith, aside.element, aside.ready.flags)) in
         let same = replies_without hit table (kept struck rule) n rule aside.before.leaves aside.before.rules aside.before.flags aside.element live aside.effect off a (suc (depth_of table up)) (up + 1) (omega arith) in

@@ -74,11 +74,10 @@ fn applies(table: &[u16], n: usize, q: Request, word: u64, i: usize) -> bool
     if !table::matches(table, i, q) {
         return false;
     }
-    let up = table::parent(table, n, i);
-    if n <= up {
-        return true;
+    match table::parent(table, i) {
+        Some(up) => rows::has(word, up),
+        None => true,
     }
-    rows::has(word, up)
 }
 
 // The elements that apply to a request, a bit for each.

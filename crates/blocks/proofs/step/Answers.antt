@@ -5,4 +5,4 @@ use Rattle.blocks.proofs.step.Goals as goal
 pub returns : goal.returns
 returns c v =
     let args = c.args in
-    λ i. record { matched = bit_or_lem args.so_far.matched args.child.matched v i; decision = c.next-given.ensures v i }
+    λ i. record { matched = bit_or_lem args.so_far.matched args.child.matched v i; decision = c.next.ensures v i }

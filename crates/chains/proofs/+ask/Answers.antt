@@ -1,52 +1,54 @@
 -- `ask` by the words that its loop keeps.
-use mathlib.Core.Path.{refl, ap, ◌∙◌}
+use mathlib.Core.Path.{◌≡◌, refl, ap, ◌∙◌}
+use mathlib.Core.Bool.{true, false}
 use native.Mathlib.Numerals.{add-one}
-use lib.ListN.{length-set}
 use lib.Seq.{drop-set-lt}
 use Rattle.std.proofs.Common.{◌<◌, arith}
 use Rattle.table.specs.Rows.{depth_of}
-use Rattle.chains.proofs.Marking.{effect_marks, begins, ends, stops, asks_one}
+use Rattle.chains.specs.Chain.{asks}
+use Rattle.chains.proofs.Words.{effect_asks, algorithm_asks}
+use Rattle.chains.proofs.Marking.{effect_marks, ends, stops, asks_one}
 use Rattle.chains.proofs.+ask.Goals as goal
+use Rattle.chains.proofs.+ask.Goals.{in-Permit, in_default}
 
-pub returns-then-word-lt2 : goal.returns-then-word-lt2
-returns-then-word-lt2 t c =
+pub returns-then-matches : goal.returns-then-matches
+returns-then-matches t c =
     let args = c.args in
-    record { bits = effect_marks args.table.now args.struck.now args.hits.now args.n args.block args.from args.depth args.word args.on args.first args.given.now c.if-word-lt2.true; behind = refl }
-
-pub loop-at-init : goal.loop-at-init
-loop-at-init t c =
-    let args = c.args in
-    let next = c.next_child-at in
-    (omega (arith, next.ensures.1), omega (arith, next.ensures.2), refl, refl, begins args.table.now args.struck.now args.hits.now args.n args.block args.from args.depth args.word args.on args.first args.given.now _ (omega arith) next.ensures.0)
+    let b = args.b.now in
+    let none : asks args.word ≡ false = elim c.match-matches.branch [ in-Permit w ↦ effect_asks args.word w.in-Permit.is | in_default w ↦ absurd (cc (w.matches-is, c.if-matches.true)) ] in
+    record { bits = effect_marks b.table.now b.struck.now b.hits.now b.n b.block args.from args.depth args.word args.on args.first args.given.now args.given.now args.on args.from (λ v hit answers j. refl) none; behind = refl }
 
 pub returns-then-left-eq0 : goal.returns-then-left-eq0
 returns-then-left-eq0 t c =
     let args = c.args in
+    let b = args.b.now in
     let turn = c.loop-at in
-    record { bits = stops args.table.now args.struck.now args.hits.now args.n args.block args.from args.depth args.word args.on args.first args.given.now turn.given turn.left turn.at turn.invariant.4 (omega arith) c.if-left-eq0.true; behind = turn.invariant.3 }
+    record { bits = stops b.table.now b.struck.now b.hits.now b.n b.block args.from args.depth args.word args.on args.first args.given.now turn.given turn.left turn.behind turn.invariant.3 c.if-left-eq0.true; behind = turn.invariant.2 }
 
 pub loop-at-preserved : goal.loop-at-preserved
 loop-at-preserved t c =
     let args = c.args in
+    let b = args.b.now in
     let turn = c.loop-at in
-    let reply = c.reply-child in
+    let at = c.in-Some in
+    let reply = c.reply in
     let agreed = c.agreed in
     let depth = c.depth_at-below in
     let word = c.word_at-own in
     let below = c.ask in
-    let next = c.next_child-at-in-loop-at in
-    let inside : turn.at < args.n = omega arith in (
-      omega (arith, next.ensures.1),
-      omega (arith, next.ensures.2),
-      below.auto.given ∙ length-set turn.given turn.at _ ∙ turn.invariant.2,
-      below.ensures.behind ∙ drop-set-lt args.n turn.given turn.at _ inside ∙ turn.invariant.3,
-      asks_one args.table.now args.struck.now args.hits.now args.n args.block args.from args.depth args.word args.on args.first args.given.now turn.given turn.left turn.at turn.invariant.4 inside (omega (arith, c.if-word-lt2.false)) (omega (arith, turn.invariant.2, c.requires.1)) reply.result.given agreed.result _ _ _ below.new.given
-          (λ v hit answers. ap (λ r. r.decision) (reply.ensures v hit answers)) agreed.ensures c.settled-ended.ensures c.without-left.ensures next.ensures.0
-          (λ v hit answers j. rw (← word.ensures, ← add-one (depth_of args.table.now turn.at), ← depth.ensures.0) (below.ensures.bits v hit answers j)),
+    let group : asks args.word ≡ true = elim c.match-matches.branch [ in-Permit w ↦ absurd (cc (w.matches-is, c.if-matches.false)) | in_default w ↦ algorithm_asks args.word w.in_default.not-Permit w.in_default.not-Deny ] in
+    let inside : at.at < b.n = omega (arith, at.ensures.within) in (
+      omega (arith, at.ensures.within),
+      omega (arith, at.ensures.within),
+      below.ensures.behind ∙ drop-set-lt b.n turn.given at.at _ inside ∙ turn.invariant.2,
+      asks_one b.table.now b.struck.now b.hits.now b.n b.block args.from args.depth args.word args.on args.first args.given.now turn.given turn.left turn.behind turn.invariant.3 (omega arith) at.at at.ensures.value group (omega (arith, c.loop-at.auto.given, c.requires.1)) reply.result.given agreed.result _ _ below.new.given
+          (λ v hit answers. ap (λ r. r.decision) (reply.ensures v hit answers)) agreed.ensures c.settled-ended.ensures c.without-left.ensures
+          (λ v hit answers j. rw (← word.ensures, ← add-one (depth_of b.table.now at.at), ← depth.ensures.0) (below.ensures.bits v hit answers j)),
     )
 
 pub returns : goal.returns
 returns t c =
     let args = c.args in
+    let b = args.b.now in
     let turn = c.loop-at in
-    record { bits = ends args.table.now args.struck.now args.hits.now args.n args.block args.from args.depth args.word args.on args.first args.given.now turn.given turn.left turn.at turn.invariant.4 (omega arith); behind = turn.invariant.3 }
+    record { bits = ends b.table.now b.struck.now b.hits.now b.n b.block args.from args.depth args.word args.on args.first args.given.now turn.given turn.left turn.behind turn.invariant.3 (omega arith) c.in_default-next_child.ensures.value; behind = turn.invariant.2 }

@@ -1,29 +1,25 @@
 -- `ask_all`: the words are 0 before the first element is asked. Assumes nothing.
-use Prim.Native.Nat.{◌<◌}
-use mathlib.Core.Path.{refl, ap, ◌∙◌}
+use mathlib.Core.Path.{◌≡◌, ap, ◌∙◌}
 use native.Mathlib.Omega.{arith}
-use lib.ListN.{length-set}
-use lib.Seq.{drop-set-lt}
-use Rattle.chains.proofs.Marking.{cleared, root_asked}
+use lib.ListN.{length, get_or, get_or-append, replicate}
+use lib.Seq.{length-take-le}
+use Rattle.std.proofs.lemmas.List.{get_or-replicate}
+use Rattle.std.proofs.lemmas.Slice.{drop-append-drop}
+use Rattle.chains.proofs.Marking.{root_asked}
 use Rattle.chains.proofs.ask_all.Goals as goal
-
-pub loop-i-init : goal.loop-i-init
-loop-i-init c = (omega arith, refl, refl, λ j l. absurd (omega arith))
-
-pub loop-i-preserved : goal.loop-i-preserved
-loop-i-preserved c =
-    let args = c.args in
-    let turn = c.loop-i in
-    let inside : turn.i < args.n = omega arith in
-    (omega arith, length-set turn.given turn.i 0 ∙ turn.invariant.1, drop-set-lt args.n turn.given turn.i 0 inside ∙ turn.invariant.2, cleared turn.given turn.i (omega (arith, turn.invariant.1)) turn.invariant.3)
 
 pub returns : goal.returns
 returns c =
-    let args = c.args in
-    let turn = c.loop-i in
+    let b = c.args.b.now in
+    let given = c.args.given.now in
     let asked = c.ask in
+    let zeros = c.fill.new.self in
+    let own = length-take-le b.n given c.requires.1 in
+    let size : length zeros ≡ b.n = c.fill.ensures.len ∙ own in
+    let cleared : zeros ≡ replicate b.n 0 = c.fill.ensures.after (λ y e. e) ∙ ap (λ m. replicate m 0) own in
     record {
-      bits = root_asked args.table.now args.struck.now args.hits.now args.n args.block _ _ _ turn.given asked.new.given
-          (λ v hit answers. ap (λ r. r.decision) (c.reply-root.ensures v hit answers)) c.agreed-on.ensures c.depth_at-depth.ensures.0 (λ j l. turn.invariant.3 j (omega arith)) asked.ensures.bits;
-      behind = asked.ensures.behind ∙ turn.invariant.2;
+      bits = root_asked b.table.now b.struck.now b.hits.now b.n b.block _ _ _ _ asked.new.given
+          (λ v hit answers. ap (λ r. r.decision) (c.reply.ensures v hit answers)) c.agreed-on.ensures c.depth_at-depth.ensures.0
+          (λ j l. get_or-append zeros _ 0 j (omega (arith, size)) ∙ ap (λ s. get_or s j 0) cleared ∙ get_or-replicate b.n j 0 0 l) asked.ensures.bits;
+      behind = asked.ensures.behind ∙ drop-append-drop b.n given zeros b.n (omega arith) size;
     }

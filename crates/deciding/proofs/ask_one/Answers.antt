@@ -10,10 +10,10 @@ match_one-requires c =
     let pre = c.requires in
     (pre.0, omega (arith, pre.2), pre.3)
 
-pub ask_all-requires : goal.ask_all-requires
-ask_all-requires c =
+pub invariant_of-b : goal.invariant_of-b
+invariant_of-b c =
     let words = c.match_one.ensures.1 in
-    (record { rows = c.requires.0; flags = c.requires.2; words = omega (arith, words, c.requires.2); few = c.requires.2; within = omega arith; place = c.requires.1 }, c.requires.4)
+    record { fits = record { rows = c.requires.0; flags = c.requires.2; words = omega (arith, words, c.requires.2); few = c.requires.2; within = omega arith } }
 
 pub returns : goal.returns
 returns c =

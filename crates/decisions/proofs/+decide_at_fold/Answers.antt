@@ -1,14 +1,14 @@
 -- `decide_at` by its own test and its word, `fold` by the children passed.
-use mathlib.Core.Path.{◌≡◌, sym, ◌∙◌}
+use mathlib.Core.Path.{◌≡◌, sym, ap, ◌∙◌}
 use mathlib.Core.Bool.{true, false}
 use native.Mathlib.Numerals.{add-one}
-use Rattle.std.proofs.Common.{suc, ◌+◌, ◌-◌, arith}
+use Rattle.std.proofs.Common.{suc, ◌+◌, arith}
 use Rattle.meaning.specs.Deciding.{matches, combined}
 use Rattle.requests.specs.Values.{values_of, severals_of}
-use Rattle.table.specs.Rows.{algorithm_at, word_at, depth_of, word_number, element_at}
+use Rattle.table.specs.Rows.{algorithm_number, word_at, depth_of, word_number, element_at}
 use Rattle.decisions.specs.Replies.{reply_of, replies_from}
 use Rattle.decisions.proofs.Combining.{step_settled}
-use Rattle.decisions.proofs.Children.{children_none, children_end, child_step, reply_off, reply_on, algorithm_word}
+use Rattle.decisions.proofs.Children.{children_end, child_step, reply_off, reply_on, algorithm_word}
 use Rattle.decisions.proofs.+decide_at_fold.Goals as goal
 
 pub decide_at-returns-then-not-matches : goal.decide_at-returns-then-not-matches
@@ -17,52 +17,42 @@ decide_at-returns-then-not-matches t c =
     let tested : matches (severals_of args.q) (values_of args.q) (element_at args.table.now args.at) ≡ false = sym c.matches.ensures ∙ c.if-not-matches.true in
     sym (reply_off (matches (severals_of args.q) (values_of args.q)) args.table.now args.struck.now args.n args.at tested)
 
-pub decide_at-returns-then-word-eq0 : goal.decide_at-returns-then-word-eq0
-decide_at-returns-then-word-eq0 t c =
+pub decide_at-returns-in-Permit : goal.decide_at-returns-in-Permit
+decide_at-returns-in-Permit t c =
     let args = c.args in
     let tested : matches (severals_of args.q) (values_of args.q) (element_at args.table.now args.at) ≡ true = sym c.matches.ensures ∙ c.if-not-matches.false in
-    let given = reply_on (matches (severals_of args.q) (values_of args.q)) args.table.now args.struck.now args.n args.at tested in
-    sym (given ∙ rw (← c.word_at-word.ensures, c.if-word-eq0.true))
+    sym (reply_on (matches (severals_of args.q) (values_of args.q)) args.table.now args.struck.now args.n args.at tested ∙ rw (← c.in-Permit.ensures))
 
-pub decide_at-returns-then-word-eq1 : goal.decide_at-returns-then-word-eq1
-decide_at-returns-then-word-eq1 t c =
+pub decide_at-returns-in-Deny : goal.decide_at-returns-in-Deny
+decide_at-returns-in-Deny t c =
     let args = c.args in
     let tested : matches (severals_of args.q) (values_of args.q) (element_at args.table.now args.at) ≡ true = sym c.matches.ensures ∙ c.if-not-matches.false in
-    let given = reply_on (matches (severals_of args.q) (values_of args.q)) args.table.now args.struck.now args.n args.at tested in
-    sym (given ∙ rw (← c.word_at-word.ensures, c.if-word-eq1.true))
+    sym (reply_on (matches (severals_of args.q) (values_of args.q)) args.table.now args.struck.now args.n args.at tested ∙ rw (← c.in-Deny.ensures))
 
-pub decide_at-returns : goal.decide_at-returns
-decide_at-returns t c =
+pub decide_at-returns-in_default : goal.decide_at-returns-in_default
+decide_at-returns-in_default t c =
     let args = c.args in
     let tested : matches (severals_of args.q) (values_of args.q) (element_at args.table.now args.at) ≡ true = sym c.matches.ensures ∙ c.if-not-matches.false in
-    let given = reply_on (matches (severals_of args.q) (values_of args.q)) args.table.now args.struck.now args.n args.at tested in
-    let word = c.word_at-word in
-    let algorithm : word_at word.result ≡ algorithm_at (word.result - 2) = algorithm_word word.result (omega arith) in
+    let word = c.word_at in
     let asked : c.fold-decision.result ≡ combined (word_at (word_number args.table.now args.at)) (replies_from (matches (severals_of args.q) (values_of args.q)) args.table.now args.struck.now args.n (suc (depth_of args.table.now args.at)) (args.at + 1)) =
-    rw (← word.ensures, algorithm, ← add-one (depth_of args.table.now args.at), ← c.depth_at-depth.ensures.0) c.fold-decision.ensures in
-    sym (given ∙ λ i. record { matched = true; decision = sym asked i })
-
-pub fold-returns-then-at-n : goal.fold-returns-then-at-n
-fold-returns-then-at-n t c =
-    let args = c.args in
-    let turn = c.loop-at in
-    sym (turn.invariant.3 ∙ rw (children_end (matches (severals_of args.q) (values_of args.q)) args.table.now args.struck.now args.n args.depth turn.at _ (omega arith) c.next_child-at.ensures.0 c.if-at-n.true) turn.invariant.2)
+    rw (← word.ensures, ← algorithm_word word.result c.in_default.not-Permit c.in_default.not-Deny, ← add-one (depth_of args.table.now args.at), ← c.depth_at-depth.ensures.0) c.fold-decision.ensures in
+    sym (reply_on (matches (severals_of args.q) (values_of args.q)) args.table.now args.struck.now args.n args.at tested ∙ λ i. record { matched = true; decision = sym asked i })
 
 pub fold-loop-at-preserved : goal.fold-loop-at-preserved
 fold-loop-at-preserved t c =
     let args = c.args in
     let turn = c.loop-at in
-    let next = c.next_child-at in
+    let at = c.in-Some in
     let child = c.decide_at-child in
     let step = c.step-so_far in (
-      omega arith,
-      omega arith,
-      step_settled args.algorithm (reply_of turn.so_far) (reply_of child.result) (reply_of step.result) step.ensures,
-      turn.invariant.3 ∙ child_step (matches (severals_of args.q) (values_of args.q)) args.table.now args.struck.now args.n args.depth turn.at _ (omega arith) next.ensures.0 args.algorithm (omega arith) (reply_of turn.so_far) (reply_of child.result) (reply_of step.result) child.ensures step.ensures,
+      omega (arith, at.ensures.within),
+      omega (arith, at.ensures.within),
+      step_settled (algorithm_number args.algorithm) (reply_of turn.so_far) (reply_of child.result) (reply_of step.result) step.ensures,
+      turn.invariant.3 ∙ child_step (matches (severals_of args.q) (values_of args.q)) args.table.now args.struck.now args.n args.depth turn.behind at.at (omega arith) at.ensures.value (algorithm_number args.algorithm) (reply_of turn.so_far) (reply_of child.result) (reply_of step.result) child.ensures step.ensures,
     )
 
 pub fold-returns : goal.fold-returns
 fold-returns t c =
     let args = c.args in
     let turn = c.loop-at in
-    sym (turn.invariant.3 ∙ rw (children_none (matches (severals_of args.q) (values_of args.q)) args.table.now args.struck.now args.n args.depth turn.at (omega arith)) turn.invariant.2)
+    sym (turn.invariant.3 ∙ rw (children_end (matches (severals_of args.q) (values_of args.q)) args.table.now args.struck.now args.n args.depth turn.behind (omega arith) c.in_default.ensures.value) turn.invariant.2)

@@ -2,7 +2,7 @@
 use Rattle.std.proofs.Common.{◌-◌, ◌≡◌, ◌+◌, ◌≤◌, ◌*◌, ◌∷◌}
 use Rattle.meaning.specs.Deciding.{matches, combined}
 use Rattle.requests.specs.Values.{values_of, severals_of}
-use Rattle.table.specs.Rows.{algorithm_at}
+use Rattle.table.specs.Rows.{algorithm_number, algorithm_of}
 use Rattle.decisions.specs.Replies.{reply_of, replies_from}
 use Rattle.decisions.proofs.Combining.{Settled}
 use Rattle.decisions.proofs.+decide_at_fold.Given as goal
@@ -15,9 +15,9 @@ decreases-fold l = 2 * (l.n - l.from) + 1
 
 abbrev pub invariant-fold-loop-at : goal.invariant-fold-loop-at
 invariant-fold-loop-at l =
-    (l.from ≤ l.at) × (l.at ≤ l.n) × Settled l.algorithm (reply_of l.so_far)
-    × (combined (algorithm_at l.algorithm) (replies_from (matches (severals_of l.q) (values_of l.q)) l.table l.struck l.n l.depth l.from)
-    ≡ combined (algorithm_at l.algorithm) (reply_of l.so_far ∷ replies_from (matches (severals_of l.q) (values_of l.q)) l.table l.struck l.n l.depth l.at))
+    (l.from ≤ l.behind) × (l.behind ≤ l.n) × Settled (algorithm_number l.algorithm) (reply_of l.so_far)
+    × (combined (algorithm_of l.algorithm) (replies_from (matches (severals_of l.q) (values_of l.q)) l.table l.struck l.n l.depth l.from)
+    ≡ combined (algorithm_of l.algorithm) (reply_of l.so_far ∷ replies_from (matches (severals_of l.q) (values_of l.q)) l.table l.struck l.n l.depth l.behind))
 
 abbrev pub decreases-fold-loop-at : goal.decreases-fold-loop-at
-decreases-fold-loop-at l = l.n - l.at
+decreases-fold-loop-at l = l.n - l.behind

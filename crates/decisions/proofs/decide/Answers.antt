@@ -8,5 +8,5 @@ use Rattle.decisions.proofs.decide.Goals as goal
 
 pub returns : goal.returns
 returns c =
-    ap (λ r. r.decision) c.decide_at-first.ensures
+    ap (λ r. r.decision) c.decide_at.ensures
     ∙ sym (rw sub-zero at (first_left (matches (severals_of c.args.q) (values_of c.args.q)) c.args.table.now c.args.struck.now c.args.n 0 c.requires.0.place c.requires.2))

@@ -4,6 +4,7 @@ use native.Mathlib.Nat.{sub-zero}
 use native.Mathlib.Omega.{arith}
 use lib.ListN.{length-set}
 use Rattle.layout.specs.Places.{start_of}
+use Rattle.table.proofs.Rows.{effect_number, group_number}
 use Rattle.trimmed_text.proofs.Copying.{lines_lie}
 use Rattle.left_out.specs.Leaving.{leaving_from}
 use Rattle.left_out.proofs.Turns.{enough, other_start, start_matched, at_end, matched_next, struck_next, other_next}
@@ -59,11 +60,11 @@ loop-i-preserved-then-begins c =
       sym (matched_next a.file.now a.places.now a.table.now a.n a.proposal.now turn.i turn.at _ turn.struck inside end matched) ∙ turn.invariant.3,
     )
 
-pub returns-then-word_at-ge2 : goal.returns-then-word_at-ge2
-returns-then-word_at-ge2 c =
+pub returns-in_default : goal.returns-in_default
+returns-in_default c =
     let a = c.args in
     let turn = c.loop-i in
-    let e = sym (other_next a.file.now a.places.now a.table.now a.n a.proposal.now turn.i turn.at _ turn.struck c.loop-i-test.true c.lines_end-end.ensures (sym c.begins-in-loop-i.ensures ∙ c.if-begins.false) (rw c.word_at.ensures at c.if-word_at-ge2.true)) ∙ turn.invariant.3 in
+    let e = sym (other_next a.file.now a.places.now a.table.now a.n a.proposal.now turn.i turn.at _ turn.struck c.loop-i-test.true c.lines_end-end.ensures (sym c.begins-in-loop-i.ensures ∙ c.if-begins.false) (group_number _ c.word_at.result c.word_at.ensures c.in_default.not-Permit c.in_default.not-Deny)) ∙ turn.invariant.3 in
     let all = e ∙ sym (start_matched a.file.now a.places.now a.table.now a.n a.proposal.now a.struck.now (sym c.begins.ensures ∙ c.if-not-begins.false)) in
     (ap (λ x. x.whole) all, ap (λ x. x.flags) all)
 
@@ -74,7 +75,7 @@ loop-i-preserved c =
       omega arith,
       turn.invariant.1,
       length-set turn.struck turn.i 1 ∙ turn.invariant.2,
-      sym (struck_next a.file.now a.places.now a.table.now a.n a.proposal.now turn.i turn.at _ turn.struck c.loop-i-test.true c.lines_end-end.ensures (sym c.begins-in-loop-i.ensures ∙ c.if-begins.false) (omega (arith, c.word_at.ensures, c.if-word_at-ge2.false))) ∙ turn.invariant.3,
+      sym (struck_next a.file.now a.places.now a.table.now a.n a.proposal.now turn.i turn.at _ turn.struck c.loop-i-test.true c.lines_end-end.ensures (sym c.begins-in-loop-i.ensures ∙ c.if-begins.false) (effect_number _ c.word_at.result c.word_at.ensures c.in-Permit.is)) ∙ turn.invariant.3,
     )
 
 pub returns : goal.returns

@@ -1,15 +1,15 @@
 -- `change_in`: the words that are laid down are those of the block, or a bit tells where they are not. Assumes nothing.
 use native.Mathlib.Omega.{arith}
-use Rattle.outcomes.proofs.Blocks.{block_room, block_alike, block_other}
+use Rattle.outcomes.proofs.Blocks.{block_fits, block_alike, block_other}
 use Rattle.outcomes.proofs.change_in.Goals as goal
 
-pub reply-reply-requires : goal.reply-reply-requires
-reply-reply-requires c =
+pub invariant_of-b : goal.invariant_of-b
+invariant_of-b c =
     let t = c.args.table.now in
     let struck = c.args.struck.now in
     let hits = c.args.hits.now in
     let shape = c.args.shape in
-    block_room t struck hits shape c.requires.0 c.requires.1 _ (omega (arith, c.requires.0.small))
+    record { fits = block_fits t struck hits shape c.requires.0 c.requires.1 _ (omega (arith, c.requires.0.small)) }
 
 pub bounds-outcomes-block : goal.bounds-outcomes-block
 bounds-outcomes-block c = omega (arith, c.requires.0.small)
@@ -23,7 +23,7 @@ returns-then-given-before-2 c =
     let struck = c.args.struck.now in
     let hits = c.args.hits.now in
     let shape = c.args.shape in
-    let reply = c.reply-reply in
+    let reply = c.reply in
     block_alike t struck hits shape c.requires.0 c.requires.1 c.args.block reply.result reply.ensures c.args.outcomes.now c.if-given-before.true c.if-given-before-2.true
 
 pub returns : goal.returns
@@ -32,5 +32,5 @@ returns c =
     let struck = c.args.struck.now in
     let hits = c.args.hits.now in
     let shape = c.args.shape in
-    let reply = c.reply-reply in
+    let reply = c.reply in
     block_other t struck hits shape c.requires.0 c.requires.1 c.args.block reply.result reply.ensures c.args.outcomes.now _ c.first_other.ensures

@@ -1,7 +1,7 @@
 -- `decide_all`: up to the block looked at, the words tell what each request gets. Assumes nothing.
 use native.Mathlib.Omega.{arith}
 use lib.ListN.{length-set}
-use Rattle.outcomes.proofs.Blocks.{block_room, given_outcome}
+use Rattle.outcomes.proofs.Blocks.{block_fits, given_outcome}
 use Rattle.outcomes.proofs.LayingOutcomes.{outcomes_none, outcomes_next, outcomes_laid, outcomes_rest}
 use Rattle.outcomes.proofs.decide_all.Goals as goal
 
@@ -11,10 +11,10 @@ loop-block-init c = outcomes_none _ _
 pub overflow_add-block-end : goal.overflow_add-block-end
 overflow_add-block-end c = omega (arith, c.requires.0.small)
 
-pub reply-reply-requires : goal.reply-reply-requires
-reply-reply-requires c =
+pub invariant_of-b : goal.invariant_of-b
+invariant_of-b c =
     let ready = c.requires.0 in
-    block_room c.args.table.now c.args.struck.now c.args.hits.now c.args.shape ready c.requires.1 _ (omega (arith, ready.small))
+    record { fits = block_fits c.args.table.now c.args.struck.now c.args.hits.now c.args.shape ready c.requires.1 _ (omega (arith, ready.small)) }
 
 pub bounds-outcomes-block-in-loop-block : goal.bounds-outcomes-block-in-loop-block
 bounds-outcomes-block-in-loop-block c = simp length-set (omega (arith, c.requires.0.small))
@@ -26,7 +26,7 @@ loop-block-preserved c =
     let struck = c.args.struck.now in
     let shape = c.args.shape in
     let ready = c.requires.0 in
-    let given = given_outcome t struck c.args.hits.now shape ready c.requires.1 turn.block c.reply-reply.result c.reply-reply.ensures (omega arith) in
+    let given = given_outcome t struck c.args.hits.now shape ready c.requires.1 turn.block c.reply.result c.reply.ensures (omega arith) in
     let size = turn.invariant.size in
     outcomes_next _ given (omega (arith, ready.small)) (omega arith) turn.invariant
 

@@ -1,29 +1,24 @@
 -- `next_child`: no place passed is a child, nor ends the children. Assumes nothing.
-use mathlib.Core.Path.{refl, sym, ◌∙◌}
+use mathlib.Core.Path.{sym, ap, ◌∙◌}
 use native.Mathlib.Omega.{arith}
+use borrow.Author.Rules.{rules}
+use Rattle.laws.specs.Found.{found}
 use Rattle.table.proofs.Children.{passes_struck, passes_deeper, child_here, child_behind, child_none}
 use Rattle.table.proofs.next_child.Goals as goal
+use Rattle.table.proofs.next_child.Goals.{then-live+else-d-depth+else-d-depth-2, else-live}
 
-pub loop-at-init : goal.loop-at-init
-loop-at-init c = (omega arith, omega arith, refl)
+pub returns-then-d-depth-clause-value : goal.returns-then-d-depth-clause-value
+returns-then-d-depth-clause-value c = sym (ap found (c.loop-at.invariant ∙ child_behind _ _ _ _ _ (omega arith) (search rules) (omega (arith, c.depth_at-d.ensures.0))))
 
-pub loop-at-preserved-then-struck-at-ne0 : goal.loop-at-preserved-then-struck-at-ne0
-loop-at-preserved-then-struck-at-ne0 c = let turn = c.loop-at in (omega arith, omega arith, turn.invariant.2 ∙ passes_struck _ _ _ _ _ (omega arith) c.if-struck-at-ne0.true)
-
-pub returns-then-d-depth : goal.returns-then-d-depth
-returns-then-d-depth c =
-    let turn = c.loop-at in
-    (sym (turn.invariant.2 ∙ child_behind _ _ _ _ _ (omega arith) c.if-struck-at-ne0.false (omega (arith, c.depth_at-d.ensures.0))), omega arith, omega arith)
-
-pub returns-then-d-depth-2 : goal.returns-then-d-depth-2
-returns-then-d-depth-2 c =
-    let turn = c.loop-at in
-    (sym (turn.invariant.2 ∙ child_here _ _ _ _ _ (omega arith) c.if-struck-at-ne0.false (omega (arith, c.depth_at-d.ensures.0))), omega arith, omega arith)
+pub returns-then-d-depth-2-clause-value : goal.returns-then-d-depth-2-clause-value
+returns-then-d-depth-2-clause-value c = sym (ap found (c.loop-at.invariant ∙ child_here _ _ _ _ _ (omega arith) (search rules) (omega (arith, c.depth_at-d.ensures.0))))
 
 pub loop-at-preserved : goal.loop-at-preserved
 loop-at-preserved c =
-    let turn = c.loop-at in
-    (omega arith, omega arith, turn.invariant.2 ∙ passes_deeper _ _ _ _ _ (omega arith) (omega (arith, c.depth_at-d.ensures.0)))
+    elim c.if-live.branch [
+      | then-live+else-d-depth+else-d-depth-2 w ↦ c.loop-at.invariant ∙ passes_deeper _ _ _ _ _ (omega arith) (omega (arith, w.depth_at-d.ensures.0))
+      | else-live w ↦ c.loop-at.invariant ∙ passes_struck _ _ _ _ _ (omega arith) (search rules)
+    ]
 
-pub returns : goal.returns
-returns c = let turn = c.loop-at in (sym (turn.invariant.2 ∙ child_none _ _ _ _ _ (omega arith)), omega arith, omega arith)
+pub returns-clause-value : goal.returns-clause-value
+returns-clause-value c = sym (ap found (c.loop-at.invariant ∙ child_none _ _ _ _ _ (omega arith)))

@@ -4,7 +4,4 @@ use Rattle.table.specs.Rows.{depth_of}
 use Rattle.table.proofs.over.Given as goal
 
 abbrev pub invariant-loop-j : goal.invariant-loop-j
-invariant-loop-j l = (l.j ≤ l.i) × ((k : ℕ) → l.j ≤ k → k ≤ l.i → l.depth ≤ depth_of l.table k)
-
-abbrev pub decreases-loop-j : goal.decreases-loop-j
-decreases-loop-j l = l.j
+invariant-loop-j l = (k : ℕ) → l.j ≤ k → k ≤ l.i → l.depth ≤ depth_of l.table k

@@ -23,7 +23,7 @@ pub loop-k-preserved-then-shape-request : goal.loop-k-preserved-then-shape-reque
 loop-k-preserved-then-shape-request c =
     let args = c.args in
     let l = c.loop-k in
-    (omega arith, passed_over (later_line args.file.now args.places.now args.shape.n args.parents.now args.pairs.now args.shape.space (get_or args.parents.now args.j 0) args.j) 500 (args.j + 1) args.out.now args.at l.k l.invariant.1 (no_conflict args.file.now args.places.now args.shape.n args.parents.now args.pairs.now args.shape.space (get_or args.parents.now args.j 0) args.j l.k _ c.if-parents-k.false c.wide-request.ensures.0 c.if-shape-request.true))
+    (omega arith, passed_over (later_line args.file.now args.places.now args.shape.n args.parents.now args.pairs.now args.shape.space (get_or args.parents.now args.j 0) args.j) 500 (args.j + 1) args.out.now args.at l.k l.invariant.1 (no_conflict args.file.now args.places.now args.shape.n args.parents.now args.pairs.now args.shape.space (get_or args.parents.now args.j 0) args.j l.k _ c.if-parents-k.false refl c.if-shape-request.true))
 
 pub put_conflict-end-requires : goal.put_conflict-end-requires
 put_conflict-end-requires c =
@@ -35,7 +35,7 @@ pub loop-k-preserved : goal.loop-k-preserved
 loop-k-preserved c =
     let args = c.args in
     let l = c.loop-k in
-    let line = is_conflict args.file.now args.places.now args.shape.n args.parents.now args.pairs.now args.shape.space (get_or args.parents.now args.j 0) args.j l.k _ c.if-parents-k.false c.wide-request.ensures.0 c.if-shape-request.false c.put_conflict-end.ensures in
+    let line = is_conflict args.file.now args.places.now args.shape.n args.parents.now args.pairs.now args.shape.space (get_or args.parents.now args.j 0) args.j l.k _ c.if-parents-k.false refl c.if-shape-request.false c.put_conflict-end.ensures in
     (omega arith, stored (later_line args.file.now args.places.now args.shape.n args.parents.now args.pairs.now args.shape.space (get_or args.parents.now args.j 0) args.j) 500 (args.j + 1) args.out.now args.at l.k l.invariant.1 line)
 
 pub returns : goal.returns

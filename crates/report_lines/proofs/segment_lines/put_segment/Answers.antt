@@ -1,11 +1,12 @@
+use mathlib.Core.Path.{refl}
+use borrow.Author.Rules.{rules}
 use Rattle.report_lines.proofs.LineTexts.{segment}
 use Rattle.report_lines.proofs.segment_lines.put_segment.Goals as goal
 
 pub returns : goal.returns
 returns c =
     let args = c.args in
-    let size = c.wide.ensures in
-    segment args.file.now args.places.now args.n args.segment _ size.0 c.requires.1 size.1
+    segment args.file.now args.places.now args.n args.segment _ refl c.requires.1 (search rules)
     c.put_field-first.ensures
     c.put_number-many.ensures
     c.put_number-decision.ensures

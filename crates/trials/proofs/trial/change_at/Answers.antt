@@ -1,11 +1,15 @@
 -- `change_at`: what the rule moves tells where a request can get something else. Assumes nothing.
 use native.Mathlib.Omega.{arith}
-use Rattle.trials.proofs.Moving.{child, block_ready, suspects, none_moved, first_moved}
+use Rattle.trials.proofs.Moving.{child, block_fits, suspects, none_moved, first_moved}
 use Rattle.trials.proofs.trial.change_at.Goals as goal
+
+pub invariant_of-b : goal.invariant_of-b
+invariant_of-b c =
+    record { fits = block_fits c.args.o.now.policy.file.now c.args.o.now.policy.places.now c.args.o.now.policy.table.now c.args.struck.now c.args.o.now.hits.now c.args.o.now.outcomes.now c.args.o.now.policy.shape c.args.rule c.requires.0 c.args.block c.requires.2 }
 
 pub reached-moved-requires : goal.reached-moved-requires
 reached-moved-requires c =
-    (block_ready c.args.o.now.policy.file.now c.args.o.now.policy.places.now c.args.o.now.policy.table.now c.args.struck.now c.args.o.now.hits.now c.args.o.now.outcomes.now c.args.o.now.policy.shape c.args.rule c.requires.0 c.args.block c.requires.2, c.requires.0.aside.element, λ inside. child c.args.o.now.policy.file.now c.args.o.now.policy.places.now c.args.o.now.policy.table.now c.args.struck.now c.args.o.now.hits.now c.args.o.now.outcomes.now c.args.o.now.policy.shape c.args.rule c.requires.0 c.args.up (c.requires.1.under inside))
+    (c.requires.0.aside.element, λ inside. child c.args.o.now.policy.file.now c.args.o.now.policy.places.now c.args.o.now.policy.table.now c.args.struck.now c.args.o.now.hits.now c.args.o.now.outcomes.now c.args.o.now.policy.shape c.args.rule c.requires.0 c.args.up (c.requires.1.under inside))
 
 pub returns-then-moved-eq0 : goal.returns-then-moved-eq0
 returns-then-moved-eq0 c =

@@ -4,7 +4,7 @@ use native.Mathlib.Omega.{arith}
 use Rattle.trials.proofs.trial.reached.Goals as goal
 
 pub moved-requires : goal.moved-requires
-moved-requires c = let pre = c.requires in (pre.0, pre.2 c.if-up-n.true)
+moved-requires c = c.requires.1 c.if-up-b.true
 
 pub returns : goal.returns
-returns c = record { moves = λ inside. absurd (omega (arith, c.if-up-n.false)); matches = λ none. refl }
+returns c = record { moves = λ inside. absurd (omega (arith, c.if-up-b.false)); matches = λ none. c.matched.ensures }
