@@ -44,10 +44,8 @@ impl Request {
         let values = self.values;
         let len = self.len;
         let mut total: usize = 0;
-        let mut i = 0;
-        while i < len {
+        for i in 0..len {
             total = total * counts[i] + values[i];
-            i += 1;
         }
         total
     }
@@ -61,9 +59,7 @@ impl Request {
         let mut values = self.values;
         let len = self.len;
         let mut carry: u32 = 1;
-        let mut i = len;
-        while 0 < i {
-            i -= 1;
+        for i in (0..len).rev() {
             // of 32 bits, and one above the last number: so the compiler adds no test of how large the numbers are, and
             // none of whether it divides by 0
             let last = (counts[i] - 1) as u32;
@@ -87,12 +83,10 @@ impl Request {
         let several = self.several;
         let values = self.values;
         let len = self.len;
-        let mut i = 0;
-        while i < len {
+        for i in 0..len {
             if !in_field(several[i], masks[at + i], values[i]) {
                 return false;
             }
-            i += 1;
         }
         true
     }
@@ -105,9 +99,7 @@ pub fn request_of(number: usize, several: [bool; 6], counts: [usize; 6], len: us
 {
     let mut values = [0usize; 6];
     let mut rest = number;
-    let mut i = len;
-    while 0 < i {
-        i -= 1;
+    for i in (0..len).rev() {
         values[i] = rest % counts[i];
         rest /= counts[i];
     }

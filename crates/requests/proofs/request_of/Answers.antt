@@ -18,38 +18,35 @@ pub loop-i-init : goal.loop-i-init
 loop-i-init c =
     let few = c.requires.0 in
     let six : length c.args.counts ≡ 6 = search rules in
-    (search rules, search rules, weighed_all c.args.len c.args.len c.args.number c.args.counts _ (omega arith) refl, λ k a b. absurd (none k a b), refl)
+    (search rules, weighed_all c.args.len c.args.len c.args.number c.args.counts _ (omega arith) refl, λ k a b. absurd (none k a b), refl)
 
 pub nonzero_rem-values : goal.nonzero_rem-values
 nonzero_rem-values c =
-    let count-positive : 0 < get_or c.args.counts (c.loop-i.i - 1) 0 = let few = c.requires.0 in
+    let few = c.requires.0 in
     let six : length c.args.counts ≡ 6 = search rules in
-    positive_at c.args.len (c.loop-i.i - 1) c.args.counts (omega arith) (omega arith) (counts_positive (take c.args.len c.args.counts) (omega (arith, c.requires.1))) in
-    omega (arith, count-positive)
+    let positive = positive_at c.args.len (c.loop-i.i - 1) c.args.counts (omega arith) (omega arith) (counts_positive (take c.args.len c.args.counts) (omega (arith, c.requires.1))) in
+    omega (arith, positive)
 
 pub nonzero_div-rest : goal.nonzero_div-rest
 nonzero_div-rest c =
-    let count-positive : 0 < get_or c.args.counts (c.loop-i.i - 1) 0 = let few = c.requires.0 in
+    let few = c.requires.0 in
     let six : length c.args.counts ≡ 6 = search rules in
-    positive_at c.args.len (c.loop-i.i - 1) c.args.counts (omega arith) (omega arith) (counts_positive (take c.args.len c.args.counts) (omega (arith, c.requires.1))) in
-    omega (arith, count-positive)
+    let positive = positive_at c.args.len (c.loop-i.i - 1) c.args.counts (omega arith) (omega arith) (counts_positive (take c.args.len c.args.counts) (omega (arith, c.requires.1))) in
+    omega (arith, positive)
 
 pub loop-i-preserved : goal.loop-i-preserved
 loop-i-preserved c =
-    let count-positive : 0 < get_or c.args.counts (c.loop-i.i - 1) 0 = let few = c.requires.0 in
-    let six : length c.args.counts ≡ 6 = search rules in
-    positive_at c.args.len (c.loop-i.i - 1) c.args.counts (omega arith) (omega arith) (counts_positive (take c.args.len c.args.counts) (omega (arith, c.requires.1))) in
-    let turn = c.loop-i in
     let few = c.requires.0 in
     let six : length c.args.counts ≡ 6 = search rules in
-    let six-now : length turn.values ≡ 6 = turn.invariant.1 in
+    let positive = positive_at c.args.len (c.loop-i.i - 1) c.args.counts (omega arith) (omega arith) (counts_positive (take c.args.len c.args.counts) (omega (arith, c.requires.1))) in
+    let turn = c.loop-i in
+    let six-now : length turn.values ≡ 6 = turn.invariant.0 in
     let j = turn.i - 1 in
     let v = turn.rest % get_or c.args.counts j 0 in (
-      omega arith,
       length-set turn.values j v ∙ six-now,
-      divided c.args.len turn.i j c.args.counts turn.values (omega arith) (omega arith) (omega arith) (omega arith) turn.rest ∙ turn.invariant.2,
-      λ k a b. set_below j v c.args.counts turn.values (omega arith) (mod-lt turn.rest (count-positive)) k (λ other. turn.invariant.3 k (omega arith) b),
-      drop-set-lt c.args.len turn.values j v (omega arith) ∙ turn.invariant.4,
+      divided c.args.len turn.i j c.args.counts turn.values (omega arith) (omega arith) (omega arith) (omega arith) turn.rest ∙ turn.invariant.1,
+      λ k a b. set_below j v c.args.counts turn.values (omega arith) (mod-lt turn.rest positive) k (λ other. turn.invariant.2 k (omega arith) b),
+      drop-set-lt c.args.len turn.values j v (omega arith) ∙ turn.invariant.3,
     )
 
 pub returns : goal.returns
@@ -59,9 +56,9 @@ returns c =
     let counts = c.args.counts in
     let few = c.requires.0 in
     let six : length counts ≡ 6 = search rules in
-    let six-now : length turn.values ≡ 6 = turn.invariant.1 in
+    let six-now : length turn.values ≡ 6 = turn.invariant.0 in
     let none : turn.i ≡ 0 = omega arith in
-    let below : Below len counts turn.values = λ k l. turn.invariant.3 k (omega arith) l in (
-      laid c.args.several len turn.values _ (omega arith) (settled len turn.rest c.args.number counts turn.values (fits len counts turn.values (omega arith) (omega arith) below) (rw none at turn.invariant.2) c.requires.1) turn.invariant.4,
+    let below : Below len counts turn.values = λ k l. turn.invariant.2 k (omega arith) l in (
+      laid c.args.several len turn.values _ (omega arith) (settled len turn.rest c.args.number counts turn.values (fits len counts turn.values (omega arith) (omega arith) below) (rw none at turn.invariant.1) c.requires.1) turn.invariant.3,
       record { few = few; below = below; small = c.requires.2 },
     )

@@ -6,7 +6,4 @@ use Rattle.requests.proofs.Laws.{weighed}
 use Rattle.requests.proofs.request_of.Given as goal
 
 abbrev pub invariant-loop-i : goal.invariant-loop-i
-invariant-loop-i l = (l.i ≤ l.len) × (length l.values ≡ 6) × (weighed l.len l.i l.rest l.counts l.values ≡ l.number) × ((k : ℕ) → l.i ≤ k → k < l.len → get_or l.values k 0 < get_or l.counts k 0) × (drop l.len l.values ≡ drop l.len (replicate 6 0))
-
-abbrev pub decreases-loop-i : goal.decreases-loop-i
-decreases-loop-i l = l.i
+invariant-loop-i l = (length l.values ≡ 6) × (weighed l.len l.i l.rest l.counts l.values ≡ l.number) × ((k : ℕ) → l.i ≤ k → k < l.len → get_or l.values k 0 < get_or l.counts k 0) × (drop l.len l.values ≡ drop l.len (replicate 6 0))

@@ -1,5 +1,4 @@
 -- `Request::matches`: the attributes looked at so far match their fields. Assumes nothing.
-use Prim.Native.Nat.{◌-◌, ◌≤◌}
 use mathlib.Core.Path.{◌≡◌}
 use lib.ListN.{take, drop}
 use Rattle.meaning.specs.Deciding.{within}
@@ -7,7 +6,4 @@ use Rattle.requests.proofs.Targets.{within_from}
 use Rattle.requests.proofs.Request.matches.Given as goal
 
 abbrev pub invariant-loop-i : goal.invariant-loop-i
-invariant-loop-i l = (l.i ≤ l.len) × (within (take l.len l.several) (take 6 (drop l.at l.masks)) (take l.len l.values) ≡ within_from l.at l.len l.i l.several l.masks l.values)
-
-abbrev pub decreases-loop-i : goal.decreases-loop-i
-decreases-loop-i l = l.len - l.i
+invariant-loop-i l = within (take l.len l.several) (take 6 (drop l.at l.masks)) (take l.len l.values) ≡ within_from l.at l.len l.i l.several l.masks l.values

@@ -7,7 +7,4 @@ use Rattle.requests.proofs.Steps.{Carried}
 use Rattle.requests.proofs.Request.next.Given as goal
 
 abbrev pub invariant-loop-i : goal.invariant-loop-i
-invariant-loop-i l = (l.i ≤ l.len) × (length l.values ≡ 6) × (l.carry ≤ 1) × Below l.len l.counts l.values × Carried l.len l.i l.carry l.counts l.values l.initial.values × (drop l.len l.values ≡ drop l.len l.initial.values)
-
-abbrev pub decreases-loop-i : goal.decreases-loop-i
-decreases-loop-i l = l.i
+invariant-loop-i l = (length l.values ≡ 6) × (l.carry ≤ 1) × Below l.len l.counts l.values × Carried l.len l.i l.carry l.counts l.values l.initial.values × (drop l.len l.values ≡ drop l.len l.initial.values)

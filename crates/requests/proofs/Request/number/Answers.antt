@@ -1,35 +1,34 @@
 -- `Request::number`: the values passed weigh, with those to come, the whole number. Assumes nothing.
-use Prim.Native.Nat.{◌+◌, ◌*◌, ◌<◌}
 use mathlib.Core.Path.{◌≡◌, sym, ◌∙◌}
 use native.Mathlib.Nat.{zero-mul, zero-add}
 use native.Mathlib.Omega.{arith}
 use borrow.Author.Rules.{rules}
-use lib.ListN.{length, get_or}
+use lib.ListN.{length}
 use Rattle.requests.proofs.Laws.{fits, weigh, weigh_small, weighed_all}
 use Rattle.requests.proofs.Request.number.Goals as goal
 
 pub loop-i-init : goal.loop-i-init
-loop-i-init c = (search rules, rw (zero-mul, zero-add))
+loop-i-init c = rw (zero-mul, zero-add)
 
 pub overflow_mul-total : goal.overflow_mul-total
 overflow_mul-total c =
-    let total-small : c.loop-i.total * get_or c.args.counts c.loop-i.i 0 + get_or c.args.self.values c.loop-i.i 0 < 4096 = let turn = c.loop-i in
+    let turn = c.loop-i in
     let few = c.requires.few in
     let six : length c.args.counts ≡ 6 = search rules in
     let six-values : length c.args.self.values ≡ 6 = search rules in
     let all_fit = fits c.args.self.len c.args.counts c.args.self.values (omega arith) (omega arith) c.requires.below in
-    omega (arith, c.requires.small, weigh_small c.args.self.len turn.i c.args.counts c.args.self.values c.loop-i-test.true (omega arith) (omega arith) turn.total all_fit turn.invariant.1) in
-    omega (arith, total-small)
+    let small = weigh_small c.args.self.len turn.i c.args.counts c.args.self.values (omega arith) (omega arith) (omega arith) turn.total all_fit turn.invariant in
+    omega (arith, c.requires.small, small)
 
 pub overflow_add-total : goal.overflow_add-total
 overflow_add-total c =
-    let total-small : c.loop-i.total * get_or c.args.counts c.loop-i.i 0 + get_or c.args.self.values c.loop-i.i 0 < 4096 = let turn = c.loop-i in
+    let turn = c.loop-i in
     let few = c.requires.few in
     let six : length c.args.counts ≡ 6 = search rules in
     let six-values : length c.args.self.values ≡ 6 = search rules in
     let all_fit = fits c.args.self.len c.args.counts c.args.self.values (omega arith) (omega arith) c.requires.below in
-    omega (arith, c.requires.small, weigh_small c.args.self.len turn.i c.args.counts c.args.self.values c.loop-i-test.true (omega arith) (omega arith) turn.total all_fit turn.invariant.1) in
-    omega (arith, total-small)
+    let small = weigh_small c.args.self.len turn.i c.args.counts c.args.self.values (omega arith) (omega arith) (omega arith) turn.total all_fit turn.invariant in
+    omega (arith, c.requires.small, small)
 
 pub loop-i-preserved : goal.loop-i-preserved
 loop-i-preserved c =
@@ -37,7 +36,7 @@ loop-i-preserved c =
     let few = c.requires.few in
     let six : length c.args.counts ≡ 6 = search rules in
     let six-values : length c.args.self.values ≡ 6 = search rules in
-    (search rules, sym (weigh c.args.self.len turn.i c.args.counts c.args.self.values c.loop-i-test.true (omega arith) (omega arith) turn.total) ∙ turn.invariant.1)
+    sym (weigh c.args.self.len turn.i c.args.counts c.args.self.values (omega arith) (omega arith) (omega arith) turn.total) ∙ turn.invariant
 
 pub returns : goal.returns
 returns c =
@@ -45,4 +44,4 @@ returns c =
     let all : turn.i ≡ c.args.self.len = omega arith in
     let few = c.requires.few in
     let six : length c.args.counts ≡ 6 = search rules in
-    sym (weighed_all c.args.self.len turn.i turn.total c.args.counts c.args.self.values (omega arith) all) ∙ turn.invariant.1
+    sym (weighed_all c.args.self.len turn.i turn.total c.args.counts c.args.self.values (omega arith) all) ∙ turn.invariant

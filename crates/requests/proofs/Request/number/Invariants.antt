@@ -1,5 +1,4 @@
 -- `Request::number`: the values passed weigh, with those to come, the whole number. Assumes nothing.
-use Prim.Native.Nat.{◌-◌, ◌≤◌}
 use mathlib.Core.Path.{◌≡◌}
 use lib.ListN.{take}
 use Rattle.meaning.specs.Deciding.{number_of}
@@ -7,7 +6,4 @@ use Rattle.requests.proofs.Laws.{weighed}
 use Rattle.requests.proofs.Request.number.Given as goal
 
 abbrev pub invariant-loop-i : goal.invariant-loop-i
-invariant-loop-i l = (l.i ≤ l.len) × (weighed l.len l.i l.total l.counts l.values ≡ number_of (take l.len l.counts) (take l.len l.values))
-
-abbrev pub decreases-loop-i : goal.decreases-loop-i
-decreases-loop-i l = l.len - l.i
+invariant-loop-i l = weighed l.len l.i l.total l.counts l.values ≡ number_of (take l.len l.counts) (take l.len l.values)
