@@ -18,8 +18,8 @@ use Rattle.meaning.specs.Reading.{attribute_line, line_of, Sofar, Tests, lowest,
 use Rattle.laws.proofs.Lines.{letter_attribute, letter_several, attribute_fields_lem}
 use Rattle.refusals.specs.declared.Refusal.{Refusal}
 use Rattle.layout.specs.declared.Attributes.{Attributes}
-use Rattle.layout.specs.Places.{part, attributes_of, elements_to, line_start, placed, lines_to}
-use Rattle.layout.proofs.Adding.{added_behind, SixEach, placed_six, placed_more}
+use Rattle.layout.specs.Places.{part, attributes_of, elements_to, line_start, line_place, placed, lines_to}
+use Rattle.layout.proofs.Adding.{added_behind, placed_six, placed_more}
 use Rattle.layout.proofs.Laws.{attributes_length}
 use Rattle.attribute_lines.specs.Sofar.{refusal_by, refusal_of, attribute_in, Tested, AttributeRefusal, AttributeLine}
 use Rattle.attribute_lines.specs.Steps.{BeforeLine, EndedLine, behind_attribute, AttributeStep, read_sofar, Next, StepIs}
@@ -173,8 +173,8 @@ module _ {f : Bytes} {st : State} {end : ℕ} {several : Bool} {fields : ℕ} {t
       let a = st.attributes in
       let old = attributes_of f a in
       let parts = attribute_parts f st.at end (get_or fs 1 []) (omega (arith, here.ends)) is refl in
-      let six : SixEach a = subst⁻¹ SixEach ready.places_are (placed_six f a.len) in
-      let added = added_behind a several (st.at + 2) (st.at + 3 + length (get_or fs 1 [])) end (fields - 2) (omega (arith, six.0)) (omega (arith, six.1)) (omega (arith, six.2)) (omega (arith, six.3)) (omega (arith, six.4)) few refl in
+      let six : length a.all ≡ 6 = ap (λ b. length b.all) ready.places_are ∙ placed_six f a.len in
+      let added = added_behind a (line_place st.at end several (get_or fs 1 []) fields) (omega arith) few refl in
       let count : fields - 2 ≡ length (drop 2 fs) = ap (λ n. n - 2) is.count ∙ sym (length-drop 2 fs) in
       let attributes-are : attributes_of f (behind_attribute st end several fs fields).attributes ≡ old ++ (attribute_in several fs ∷ []) = added.behind f ∙ rw (parts.name_is, parts.values_are) in
       let size = a.len in

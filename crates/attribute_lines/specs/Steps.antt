@@ -7,7 +7,7 @@ use Rattle.refusals.specs.declared.Refusal.{Refusal}
 use Rattle.refusals.specs.Numbers.{number_in}
 use Rattle.table.specs.Rows.{Rows}
 use Rattle.layout.specs.declared.Attributes.{Attributes}
-use Rattle.layout.specs.Places.{part, attributes_of, AllStanding, FewValues, no_attributes, added, elements_to, Named, Obliged, Clear, line_start, placed, Lined}
+use Rattle.layout.specs.Places.{part, attributes_of, AllStanding, FewValues, no_attributes, added, elements_to, Named, Obliged, Clear, line_start, line_place, placed, Lined}
 use Rattle.layout.specs.Nearest.{Stands}
 use Rattle.attribute_lines.specs.declared.State.{State}
 use Rattle.attribute_lines.specs.Sofar.{sofar_of, refusal_of, AttributeRefusal}
@@ -59,7 +59,7 @@ behind_attribute st end several fs fields =
     record {
       at = end + 1;
       line = st.line + 1;
-      attributes = added st.attributes several (st.at + 2) (st.at + 3 + length (get_or fs 1 [])) end (fields - 2);
+      attributes = added st.attributes (line_place st.at end several (get_or fs 1 []) fields);
       space = st.space * choices_of several (fields - 2);
       tree = st.tree;
     }

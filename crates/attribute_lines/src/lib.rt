@@ -9,7 +9,7 @@ ghost use Rattle.layout.specs.Places.{part};
 ghost use Rattle.attribute_lines.specs.Sofar.{Tested, AttributeRefusal, AttributeLine, CountIs, shape_of};
 ghost use Rattle.attribute_lines.specs.Steps.{InFile, EndedLine, beginning, AttributeStep};
 
-use layout::{Attributes, Tree};
+use layout::{AttributePlace, Attributes, Tree};
 use refusals::Refusal;
 use syntax::LineKind;
 
@@ -34,7 +34,7 @@ pub struct LineShape {
 pub fn start() -> State
     ensures { result ≡ beginning }
 {
-    let attributes = layout::no_attributes();
+    let attributes = Attributes::none();
     let tree = Tree {
         len: 0,
         depth: 0,
@@ -114,7 +114,13 @@ pub fn attribute_line(
     let name = fields::field(line, 1);
     let first = at + 3 + name.len();
     let values = fields - 2;
-    let attributes = layout::with_attribute(a, several, at + 2, first, end, values);
+    let attributes = a.with(AttributePlace {
+        several,
+        name: at + 2,
+        values: first,
+        end,
+        count: values,
+    });
     Ok(State {
         at: end + 1,
         line: st.line + 1,

@@ -17,7 +17,8 @@ use Rattle.table.specs.Shape.{counts_of, severals_of, hit_of}
 use Rattle.table.proofs.Children.{none_struck as no_rule_struck}
 use Rattle.outcomes.specs.Decided.{none_struck, decided_at}
 use Rattle.outcomes.specs.PolicyTable.{PolicyTable}
-use Rattle.layout.specs.Places.{FewValues, placed}
+use Rattle.layout.specs.Places.{place_at, FewValues}
+use Rattle.layout.proofs.Adding.{placed_six}
 use Rattle.layout.proofs.Laws.{attributes_length, decided}
 use Rattle.layout.proofs.Counts.{sizes_are, severals_are, sets_counted}
 use Rattle.reader.specs.declared.Reading.{Reading}
@@ -29,12 +30,6 @@ use Rattle.trimmed_text.proofs.Placed.{copies_lined}
 use Rattle.trimmed_text.proofs.ByPlace.{root_word, leaves}
 use Rattle.trimmed_text.proofs.Steadying.{steady}
 
--- the attributes of some lines have six places
-letter_places : (f : Bytes) (n : ℕ) → length (placed f n).several ≡ 6
-unfolding placed
-letter_places f zero = refl
-letter_places f (suc n) = length-set (placed f n).several (placed f n).len _ ∙ letter_places f n
-
 module _ (f table places : List ℕ) (r : Reading) (p : Policy) (h : read f ≡ given p) (holds : ReadPolicy f table places r p) where
   pub attributes_are : length p.attributes ≡ r.attributes.len
   attributes_are = ap length holds.attributes ∙ attributes_length f r.attributes
@@ -44,7 +39,7 @@ module _ (f table places : List ℕ) (r : Reading) (p : Policy) (h : read f ≡ 
 
   pub letters_are : severals_of (policy_shape r) ≡ severals p.attributes
   letters_are =
-      let room : length r.attributes.several ≡ 6 = ap (λ a. length a.several) holds.places_are ∙ letter_places f r.attributes.len in
+      let room : length r.attributes.all ≡ 6 = ap (λ a. length a.all) holds.places_are ∙ placed_six f r.attributes.len in
       sym (severals_are f r.attributes (omega (arith, holds.spaced.standing.few))) ∙ ap severals (sym holds.attributes)
 
   pub sizable : (r.attributes.len ≤ 6) × FewValues r.attributes
@@ -69,7 +64,7 @@ module _ (f table places : List ℕ) (r : Reading) (p : Policy) (h : read f ≡ 
         stays = ap (λ flags. get_or flags 0 0) none;
         leaves = leaves f p h table places r.elements holds.elements;
         rules = no_rule_struck table struck r.elements (λ k l. ap (λ flags. get_or flags k 0) none ∙ get_or-replicate 64 k 0 0 (omega (arith, few f table places r p h holds)));
-        counted = record { attributes = holds.spaced.standing.few; sets = λ i l several. (get_or r.attributes.counts i 0, sets_counted r.attributes i l several); all = ap product counts_are ∙ sym space_is };
+        counted = record { attributes = holds.spaced.standing.few; sets = λ i l several. ((place_at r.attributes i).count, sets_counted r.attributes i l several); all = ap product counts_are ∙ sym space_is };
         positive = subst (λ m. 0 < m) (sym space_is) (product_pos (sizes p.attributes) (positive p.attributes (bounded f p h).attributes_good));
         small = rw holds.space_is holds.spaced.small;
       })

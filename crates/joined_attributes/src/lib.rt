@@ -22,23 +22,14 @@ fn differ(first: &[u8], a: Attributes, i: usize, second: &[u8], b: Attributes, j
     requires { (i < 6) × Standing first.now a i × (j < 6) × Standing second.now b j }
     ensures { result ≡ differs (attribute_at second.now b j) (attribute_at first.now a i) }
 {
-    if !layout::has_name(first, a, i, layout::attribute_name(second, b, j)) {
+    if !layout::has_name(first, a, i, b.name(second, j)) {
         return false;
     }
-    let several = a.several;
-    let other = b.several;
-    if several[i] != other[j] {
+    let other = b.all[j];
+    if a.all[i].several != other.several {
         return true;
     }
-    let values = a.values;
-    let ends = a.ends;
-    let from = values[i];
-    let to = ends[i];
-    let others = b.values;
-    let other_ends = b.ends;
-    let start = others[j];
-    let end = other_ends[j];
-    !comparing::same(&second[start..end], &first[from..to])
+    !comparing::same(b.values(second, j), a.values(first, i))
 }
 
 // Whether attribute j of the second file differs from one of the first.
@@ -100,10 +91,7 @@ fn of_first(first: &[u8], a: Attributes, own: &[u8], c: Attributes) -> Placing
     };
     let mut i = 0;
     while i < len {
-        p = with_place(
-            p,
-            layout::attribute_named(own, c, layout::attribute_name(first, a, i)),
-        );
+        p = with_place(p, layout::attribute_named(own, c, a.name(first, i)));
         i += 1;
     }
     p
@@ -126,7 +114,7 @@ pub fn places_in(
     let mut p = of_first(first, a, own, c);
     let mut j = 0;
     while j < len {
-        let name = layout::attribute_name(second, b, j);
+        let name = b.name(second, j);
         if layout::known_attribute(first, a, name) {
             j += 1;
             continue;

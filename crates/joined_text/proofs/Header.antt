@@ -11,7 +11,7 @@ use Rattle.meaning.specs.Joining.{declared}
 use Rattle.laws.proofs.Text.{Some, one_or_more, cut_some, join_cut}
 use Rattle.laws.proofs.Lists.{gathered_keep}
 use Rattle.layout.specs.declared.Attributes.{Attributes}
-use Rattle.layout.specs.Places.{part, attribute_at, attributes_from, attributes_of, Standing}
+use Rattle.layout.specs.Places.{part, place_at, values_in, attribute_at, attributes_from, attributes_of, Standing}
 use Rattle.attribute_lines.proofs.Parts.{part_length}
 use Rattle.printing.specs.Wrote.{Wrote}
 use Rattle.printing.proofs.Laws.{then, line_next, line_behind}
@@ -33,21 +33,22 @@ abbrev pub line_at : Bytes → Attributes → ℕ → Bytes
 line_at f a i = line (attribute_fields (attribute_at f a i))
 
 module _ (f : Bytes) (a : Attributes) (i : ℕ) (here : Standing f a i) where
-  pub name_length : length (attribute_at f a i).name ≡ get_or a.values i 0 - 1 - get_or a.names i 0
-  name_length = part_length f (get_or a.names i 0) (get_or a.values i 0 - 1) (omega (arith, here.line, here.inside))
+  pub name_length : length (attribute_at f a i).name ≡ (place_at a i).values - 1 - (place_at a i).name
+  name_length = part_length f (place_at a i).name ((place_at a i).values - 1) (omega (arith, here.line, here.inside))
 
-  pub values_length : length (part f (get_or a.values i 0) (get_or a.ends i 0)) ≡ get_or a.ends i 0 - get_or a.values i 0
-  values_length = part_length f (get_or a.values i 0) (get_or a.ends i 0) here.inside
+  pub values_length : length (values_in f a i) ≡ (place_at a i).end - (place_at a i).values
+  values_length = part_length f (place_at a i).values (place_at a i).end here.inside
 
   -- its letter, its name and its values, stored one behind the other
-  pub attribute_put : {x y z w name : List ℕ} {at m k r : ℕ} → length f ≤ 16384 → Wrote x at (letter_text (get_or a.several i false) ++ (tab ∷ [])) y m × (m ≤ at + 2) → name ≡ (attribute_at f a i).name → Wrote y m (name ++ (tab ∷ [])) z k
-      → Wrote z k (part f (get_or a.values i 0) (get_or a.ends i 0) ++ (newline ∷ [])) w r → Wrote x at (line_at f a i) w r × (r ≤ at + 16388)
-  attribute_put {at = at} {r = r} short (letter, few) is named values =
+  pub attribute_put : {x y z w name all : List ℕ} {at m k r : ℕ} → length f ≤ 16384 → Wrote x at (letter_text (place_at a i).several ++ (tab ∷ [])) y m × (m ≤ at + 2) → name ≡ (attribute_at f a i).name → Wrote y m (name ++ (tab ∷ [])) z k
+      → all ≡ values_in f a i → Wrote z k (all ++ (newline ∷ [])) w r → Wrote x at (line_at f a i) w r × (r ≤ at + 16388)
+  attribute_put {at = at} {r = r} short (letter, few) is named same_values all-put =
       let own = (attribute_at f a i).name in
-      let all = part f (get_or a.values i 0) (get_or a.ends i 0) in
+      let all = values_in f a i in
+      let values = same_text (ap (λ t. t ++ (newline ∷ [])) same_values) all-put in
       let name-put = same_text (ap (λ n. n ++ (tab ∷ [])) is) named in
       let within : r ≤ at + 16388 = omega (arith, few, name-put.moved, values.moved, length-append own (tab ∷ []), length-append all (newline ∷ []), name_length, values_length, here.name, here.line, here.inside) in
-      (same_text (attribute_line_lem (letter_text (get_or a.several i false)) own all) (then letter (then name-put values)), within)
+      (same_text (attribute_line_lem (letter_text (place_at a i).several) own all) (then letter (then name-put values)), within)
 
 -- all attributes, by their numbers
 module _ (f : Bytes) (a : Attributes) where

@@ -25,14 +25,9 @@ fn put_attribute(file: &[u8], a: Attributes, i: usize, out: &mut [u8], at: usize
     requires { (i < 6) × Standing file.now a i × (length file.now ≤ 16384) × (at ≤ 900000) }
     ensures { Wrote out.old at (line (attribute_fields (attribute_at file.now a i))) out.new result × (result ≤ at + 16388) }
 {
-    let several = a.several;
-    let values = a.values;
-    let ends = a.ends;
-    let start = values[i];
-    let end = ends[i];
-    let name = put_letter(several[i], out, at);
-    let first = printing::put_field(out, name, layout::attribute_name(file, a, i), b'\t');
-    printing::put_field(out, first, &file[start..end], b'\n')
+    let name = put_letter(a.all[i].several, out, at);
+    let first = printing::put_field(out, name, a.name(file, i), b'\t');
+    printing::put_field(out, first, a.values(file, i), b'\n')
 }
 
 // The attribute lines of the first file.
@@ -66,7 +61,7 @@ pub(crate) fn put_alone(
     let mut end = at;
     let mut j = 0;
     while j < len {
-        if layout::known_attribute(first, a, layout::attribute_name(second, b, j)) {
+        if layout::known_attribute(first, a, b.name(second, j)) {
             j += 1;
             continue;
         }

@@ -9,19 +9,31 @@ use Rattle.meaning.specs.declared.Element.{Element}
 use Rattle.meaning.specs.Text.{Bytes, same, same_name, cut, tab, newline}
 use Rattle.meaning.specs.Model.{Attribute, padded, unused, with_obligations, letter_text, choices_of}
 use Rattle.table.specs.Rows.{element_at}
+use Rattle.layout.specs.declared.AttributePlace.{AttributePlace}
 use Rattle.layout.specs.declared.Attributes.{Attributes}
 
 -- the bytes from a up to b
 abbrev pub part : Bytes → ℕ → ℕ → Bytes
 part f a b = take (b - a) (drop a f)
 
--- Attribute i: whether it may have several values in a request, its name, which a tab ends, and its values up to the line's end
+-- where attribute i stands
+abbrev pub nowhere : AttributePlace
+nowhere = record { several = false; name = 0; values = 0; end = 0; count = 0 }
+
+abbrev pub place_at : Attributes → ℕ → AttributePlace
+place_at a i = get_or a.all i nowhere
+
+-- its values, parted by tabs, up to the line's end
+abbrev pub values_in : Bytes → Attributes → ℕ → Bytes
+values_in f a i = part f (place_at a i).values (place_at a i).end
+
+-- Attribute i: whether it may have several values in a request, its name, which a tab ends, and its values
 abbrev pub attribute_at : Bytes → Attributes → ℕ → Attribute
 attribute_at f a i =
     record {
-      several = get_or a.several i false;
-      name = part f (get_or a.names i 0) (get_or a.values i 0 - 1);
-      values = cut tab (part f (get_or a.values i 0) (get_or a.ends i 0));
+      several = (place_at a i).several;
+      name = part f (place_at a i).name ((place_at a i).values - 1);
+      values = cut tab (values_in f a i);
     }
 
 -- n attributes from i on
@@ -34,10 +46,10 @@ attributes_of f a = attributes_from f a 0 a.len
 
 -- the places of an attribute lie in the file, and its count is that of its values
 pub record Standing (f : Bytes) (a : Attributes) (i : ℕ) : Type 0 where
-  pub name : get_or a.names i 0 < get_or a.values i 0
-  pub line : get_or a.values i 0 ≤ get_or a.ends i 0
-  pub inside : get_or a.ends i 0 ≤ length f
-  pub count : get_or a.counts i 0 ≡ length (cut tab (part f (get_or a.values i 0) (get_or a.ends i 0)))
+  pub name : (place_at a i).name < (place_at a i).values
+  pub line : (place_at a i).values ≤ (place_at a i).end
+  pub inside : (place_at a i).end ≤ length f
+  pub count : (place_at a i).count ≡ length (cut tab (values_in f a i))
 
 pub record AllStanding (f : Bytes) (a : Attributes) : Type 0 where
   pub few : a.len ≤ 6
@@ -49,30 +61,29 @@ value_counts attrs = map (λ a. length a.values) attrs
 
 -- at most 16 each
 abbrev pub FewValues : Attributes → Type 0
-FewValues a = (i : ℕ) → i < a.len → get_or a.counts i 0 ≤ 16
+FewValues a = (i : ℕ) → i < a.len → (place_at a i).count ≤ 16
 
 -- how many choices n attributes from i on have in the space; and all, with zeros behind them
-unfoldable pub sizes_from : List Bool → List ℕ → ℕ → ℕ → List ℕ
-sizes_from several counts i zero = []
-sizes_from several counts i (suc n) = choices_of (get_or several i false) (get_or counts i 0) ∷ sizes_from several counts (i + 1) n
+unfoldable pub sizes_from : Attributes → ℕ → ℕ → List ℕ
+sizes_from a i zero = []
+sizes_from a i (suc n) = choices_of (place_at a i).several (place_at a i).count ∷ sizes_from a (i + 1) n
 
 unfoldable pub sizes_of : Attributes → List ℕ
-sizes_of a = padded 6 (sizes_from a.several a.counts 0 a.len)
+sizes_of a = padded 6 (sizes_from a 0 a.len)
+
+-- whether each may have several values in a request, and how many values it has
+abbrev pub severals_at : Attributes → List Bool
+severals_at a = map (λ p. p.several) a.all
+
+abbrev pub counts_at : Attributes → List ℕ
+counts_at a = map (λ p. p.count) a.all
 
 -- no attribute; and one more behind those that are there
 abbrev pub no_attributes : Attributes
-no_attributes = record { several = replicate 6 false; names = replicate 6 0; values = replicate 6 0; ends = replicate 6 0; counts = replicate 6 0; len = 0 }
+no_attributes = record { all = replicate 6 nowhere; len = 0 }
 
-abbrev pub added : Attributes → (several : Bool) (name value end count : ℕ) → Attributes
-added a several name value end count =
-    record {
-      several = set a.several a.len several;
-      names = set a.names a.len name;
-      values = set a.values a.len value;
-      ends = set a.ends a.len end;
-      counts = set a.counts a.len count;
-      len = a.len + 1;
-    }
+abbrev pub added : Attributes → AttributePlace → Attributes
+added a p = record { all = set a.all a.len p; len = a.len + 1 }
 
 -- A kind, by the first byte of its line
 abbrev pub kind_at : ℕ → Kind
@@ -180,6 +191,10 @@ unfoldable pub line_start : Bytes → ℕ → ℕ
 line_start f zero = 0
 line_start f (suc k) = line_start f k + length (get_or (cut newline (drop (line_start f k) f)) 0 []) + 1
 
+-- where the attribute of a line stands, by the line's place, its name and how many fields it has
+abbrev pub line_place : (at end : ℕ) (several : Bool) (name : Bytes) (fields : ℕ) → AttributePlace
+line_place at end several name fields = record { several = several; name = at + 2; values = at + 3 + length name; end = end; count = fields - 2 }
+
 -- where the attributes of the first n lines of a file stand
 unfoldable pub placed : Bytes → ℕ → Attributes
 placed f zero = no_attributes
@@ -188,7 +203,7 @@ placed f (suc n) =
     let at = line_start f n in
     let end = line_start f (suc n) - 1 in
     let fields = cut tab (part f at end) in
-    added before (same (get_or fields 0 []) (letter_text true)) (at + 2) (at + 3 + length (get_or fields 1 [])) end (length fields - 2)
+    added before (line_place at end (same (get_or fields 0 []) (letter_text true)) (get_or fields 1 []) (length fields))
 
 -- how many lines the first n elements have: one each, and one for each obligation
 unfoldable pub lines_to : List ℕ → ℕ → ℕ

@@ -10,21 +10,27 @@ ghost use Rattle.meaning.specs.Reading.{well_placed};
 ghost use Rattle.meaning.specs.Joining.{place_in};
 ghost use Rattle.table.specs.Rows.{Rows, with_row};
 ghost use Rattle.table.specs.Tree.{place_or};
-ghost use Rattle.layout.specs.Places.{part, attribute_at, attributes_of, Standing, AllStanding, FewValues, sizes_of, no_attributes, added, name_in, names_to, has_name, Named, NameAt, obligation_place, obligation_start, obligation_end, obligations_in, obligation_count, Obliged};
+ghost use Rattle.layout.specs.Places.{part, attribute_at, attributes_of, Standing, AllStanding, FewValues, sizes_of, values_in, severals_at, counts_at, no_attributes, added, name_in, names_to, has_name, Named, NameAt, obligation_place, obligation_start, obligation_end, obligations_in, obligation_count, Obliged};
 ghost use Rattle.layout.specs.Nearest.{kind_number, parent_number, grown, Stands};
 
 use meaning::Kind;
 use table::Row;
 
-// Whether each attribute may have several values in a request, and where it stands: the start of its name, of its first value, the
-// end of its line; and its value count.
+// Where an attribute stands, and whether it may have several values in a request: the start of its name, of its first value, the end of its
+// line; and its value count.
+#[derive(Clone, Copy)]
+pub struct AttributePlace {
+    pub several: bool,
+    pub name: usize,
+    pub values: usize,
+    pub end: usize,
+    pub count: usize,
+}
+
+// The attributes so far, by their places.
 #[derive(Clone, Copy)]
 pub struct Attributes {
-    pub several: [bool; 6],
-    pub names: [usize; 6],
-    pub values: [usize; 6],
-    pub ends: [usize; 6],
-    pub counts: [usize; 6],
+    pub all: [AttributePlace; 6],
     pub len: usize,
 }
 
@@ -34,20 +40,6 @@ pub struct Tree {
     pub len: usize,
     pub depth: usize,
     pub kinds: [usize; 8],
-}
-
-// No attribute.
-pub fn no_attributes() -> Attributes
-    ensures { result ≡ no_attributes }
-{
-    Attributes {
-        several: [false; 6],
-        names: [0; 6],
-        values: [0; 6],
-        ends: [0; 6],
-        counts: [0; 6],
-        len: 0,
-    }
 }
 
 // How many choices an attribute of so many values has in the space: its values, or their non-empty sets.
@@ -61,33 +53,80 @@ pub fn choices(several: bool, values: usize) -> usize
     values
 }
 
-// How many choices each attribute has in the space; zeros behind the last.
-pub fn sizes(a: Attributes) -> [usize; 6]
-    requires { (a.len ≤ 6) × FewValues a }
-    ensures { result ≡ sizes_of a }
-{
-    let several = a.several;
-    let counts = a.counts;
-    let len = a.len;
-    let mut sizes: [usize; 6] = [0; 6];
-    let mut i = 0;
-    while i < len {
-        sizes[i] = choices(several[i], counts[i]);
-        i += 1;
+impl Attributes {
+    // No attribute.
+    pub fn none() -> Attributes
+        ensures { result ≡ no_attributes }
+    {
+        let nowhere = AttributePlace {
+            several: false,
+            name: 0,
+            values: 0,
+            end: 0,
+            count: 0,
+        };
+        Attributes {
+            all: [nowhere; 6],
+            len: 0,
+        }
     }
-    sizes
-}
 
-// The name of attribute i.
-pub fn attribute_name(file: &[u8], a: Attributes, i: usize) -> &[u8]
-    requires { (i < 6) × Standing file.now a i }
-    ensures { result.now ≡ (attribute_at file.now a i).name }
-{
-    let names = a.names;
-    let values = a.values;
-    let start = names[i];
-    let end = values[i] - 1;
-    &file[start..end]
+    // These and one more behind them.
+    pub fn with(self, place: AttributePlace) -> Attributes
+        requires { self.len < 6 }
+        ensures { result ≡ added self place }
+    {
+        let mut all = self.all;
+        all[self.len] = place;
+        Attributes {
+            all,
+            len: self.len + 1,
+        }
+    }
+
+    // Whether each may have several values in a request.
+    pub fn severals(self) -> [bool; 6]
+        ensures { result ≡ severals_at self }
+    {
+        self.all.map(|place| place.several)
+    }
+
+    // How many values each has.
+    pub fn counts(self) -> [usize; 6]
+        ensures { result ≡ counts_at self }
+    {
+        self.all.map(|place| place.count)
+    }
+
+    // How many choices each has in the space; zeros behind the last.
+    pub fn sizes(self) -> [usize; 6]
+        requires { (self.len ≤ 6) × FewValues self }
+        ensures { result ≡ sizes_of self }
+    {
+        let mut sizes: [usize; 6] = [0; 6];
+        for i in 0..self.len {
+            sizes[i] = choices(self.all[i].several, self.all[i].count);
+        }
+        sizes
+    }
+
+    // The name of attribute i.
+    pub fn name(self, file: &[u8], i: usize) -> &[u8]
+        requires { (i < 6) × Standing file.now self i }
+        ensures { result.now ≡ (attribute_at file.now self i).name }
+    {
+        let start = self.all[i].name;
+        let end = self.all[i].values - 1;
+        &file[start..end]
+    }
+
+    // The values of attribute i, parted by tabs.
+    pub fn values(self, file: &[u8], i: usize) -> &[u8]
+        requires { (i < 6) × Standing file.now self i }
+        ensures { result.now ≡ values_in file.now self i }
+    {
+        &file[self.all[i].values..self.all[i].end]
+    }
 }
 
 // Whether attribute i has this name.
@@ -95,7 +134,7 @@ pub fn has_name(file: &[u8], a: Attributes, i: usize, name: &[u8]) -> bool
     requires { (i < 6) × Standing file.now a i }
     ensures { result ≡ same_name name.now (attribute_at file.now a i).name }
 {
-    names::same_name(name, attribute_name(file, a, i))
+    names::same_name(name, a.name(file, i))
 }
 
 // The place of the first attribute that has this name, or their count.
@@ -121,39 +160,6 @@ pub fn known_attribute(file: &[u8], a: Attributes, name: &[u8]) -> bool
     ensures { result ≡ among_names name.now (map (λ b. b.name) (attributes_of file.now a)) }
 {
     attribute_named(file, a, name) < a.len
-}
-
-// The attributes with one more behind them.
-pub fn with_attribute(
-    a: Attributes,
-    several: bool,
-    name: usize,
-    value: usize,
-    end: usize,
-    count: usize,
-) -> Attributes
-    requires { a.len < 6 }
-    ensures { result ≡ added a several name value end count }
-{
-    let len = a.len;
-    let mut severals = a.several;
-    let mut names = a.names;
-    let mut values = a.values;
-    let mut ends = a.ends;
-    let mut counts = a.counts;
-    severals[len] = several;
-    names[len] = name;
-    values[len] = value;
-    ends[len] = end;
-    counts[len] = count;
-    Attributes {
-        several: severals,
-        names,
-        values,
-        ends,
-        counts,
-        len: len + 1,
-    }
 }
 
 // The place of the last element that has this name, or n.

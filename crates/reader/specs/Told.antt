@@ -4,7 +4,7 @@ use Rattle.meaning.specs.Text.{Bytes, cut, tab, newline}
 use Rattle.meaning.specs.Model.{Policy, space, Result, refused, given}
 use Rattle.meaning.specs.Reading.{read}
 use Rattle.table.specs.declared.Shape.{Shape}
-use Rattle.layout.specs.Places.{part, attributes_of, sizes_of, no_attributes, elements_to, Obliged, line_start, placed, Lined}
+use Rattle.layout.specs.Places.{part, attributes_of, severals_at, sizes_of, no_attributes, elements_to, Obliged, line_start, placed, Lined}
 use Rattle.attribute_lines.specs.declared.State.{State}
 use Rattle.reader.specs.declared.Reading.{Reading}
 use Rattle.attribute_lines.specs.Sofar.{CountIs}
@@ -25,7 +25,7 @@ refused_with n m = record { number = n; second = m; attributes = no_attributes; 
 
 -- the shape of a policy that was read
 abbrev pub policy_shape : Reading → Shape
-policy_shape r = record { n = r.elements; several = r.attributes.several; counts = sizes_of r.attributes; len = r.attributes.len; space = r.space }
+policy_shape r = record { n = r.elements; several = severals_at r.attributes; counts = sizes_of r.attributes; len = r.attributes.len; space = r.space }
 
 -- what is told behind the last newline, of a file that ends at `end`
 abbrev pub ended_at : State → ℕ → Reading

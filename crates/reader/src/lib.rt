@@ -68,7 +68,7 @@ fn read_line(
 fn refuse(number: usize, second: usize) -> Reading
     ensures { result ≡ refused_with number second }
 {
-    let attributes = layout::no_attributes();
+    let attributes = Attributes::none();
     Reading {
         number,
         second,
@@ -142,12 +142,10 @@ pub fn policy_shape(reading: Reading) -> Shape
     ensures { result ≡ policy_shape reading }
 {
     let attributes = reading.attributes;
-    let several = attributes.several;
-    let counts = layout::sizes(attributes);
     Shape {
         n: reading.elements,
-        several,
-        counts,
+        several: attributes.severals(),
+        counts: attributes.sizes(),
         len: attributes.len,
         space: reading.space,
     }

@@ -2,7 +2,7 @@
 use Prim.Native.Nat.{ℕ, suc, ◌+◌, ◌-◌, ◌≤◌, ◌<◌, zero-le}
 use mathlib.Core.Path.{◌≡◌, refl, sym, ap, ◌∙◌, subst}
 use mathlib.Core.Logic.{◌≢◌, ⊎_elim}
-use mathlib.Core.Bool.{true}
+use mathlib.Core.Bool.{Bool, true}
 use mathlib.Core.List.{List, [], ◌∷◌, ◌++◌, map, append_assoc, append-nil}
 use mathlib.Core.Option.{Option as Maybe, none, some}
 use Rattle.std.specs.Prelude.{Option, Some, None}
@@ -22,8 +22,9 @@ use Rattle.laws.proofs.Text.{Some as OneOrMore, one_or_more, cut_some}
 use Rattle.laws.specs.Found.{found}
 use Rattle.requests.proofs.Laid.{laid}
 use Rattle.text.proofs.Pieces.{behind, piece_last, piece_more, piece_at_lem}
+use Rattle.requests.specs.Values.{request_with}
 use Rattle.layout.specs.declared.Attributes.{Attributes}
-use Rattle.layout.specs.Places.{attribute_at, attributes_from, attributes_of}
+use Rattle.layout.specs.Places.{place_at, values_in, severals_at, attribute_at, attributes_from, attributes_of}
 use Rattle.layout.proofs.Laws.{attributes_walk, attributes_length}
 use Rattle.request_lines.specs.declared.Asked.{Asked}
 use Rattle.request_lines.specs.Asked.{Refused, AskedAs}
@@ -104,11 +105,14 @@ walk_starts {f} {a} {line} count few =
     }
 
 -- the field that starts at `at` ends at e, and this was found for it
-module _ {f : Bytes} {a : Attributes} {line : Bytes} {values : List ℕ} {at i e : ℕ} {r : Option ℕ} (w : Walked f a line values at i)
+module _ {f : Bytes} {a : Attributes} {line : Bytes} {values : List ℕ} {at i e : ℕ} {r : Option ℕ} {those : Bytes} (w : Walked f a line values at i)
     (p : e ≡ at + length (get_or (cut tab (drop at line)) 0 [])) (q : e ≤ length line)
-    (is_found : r ≡ found (chosen (attribute_at f a i) (take (e - at) (drop at line)))) where
+    (values_are : those ≡ values_in f a i) (told : r ≡ found (chosen (record { several = (place_at a i).several; name = []; values = cut tab those }) (take (e - at) (drop at line)))) where
   abbrev piece : Bytes
   piece = take (e - at) (drop at line)
+
+  is_found : r ≡ found (chosen (attribute_at f a i) piece)
+  is_found = told ∙ ap (λ vs. found (chosen (record { several = (place_at a i).several; name = []; values = cut tab vs }) piece)) values_are
 
   this_attribute : rest f a i ≡ attribute_at f a i ∷ rest f a (i + 1)
   this_attribute = attributes_walk f a a.len i w.here
@@ -165,14 +169,14 @@ module _ {f : Bytes} {a : Attributes} {line : Bytes} {values : List ℕ} {at i e
           so_far = one_more (cut tab (drop (e + 1) line)) fields-here;
         }
 
-    pub walk_ends : i + 1 ≡ a.len
-        → AskedAs a (record { good = true; place = 0; request = record { several = a.several; values = set values i v; len = a.len } }) (values_of 1 (attributes_of f a) (cut tab line))
-    walk_ends l =
+    pub walk_ends : {severals : List Bool} → severals ≡ severals_at a → i + 1 ≡ a.len
+        → AskedAs a (record { good = true; place = 0; request = record { several = severals; values = set values i v; len = a.len } }) (values_of 1 (attributes_of f a) (cut tab line))
+    walk_ends {severals} letters l =
         let last_found = rw (none_after l, append-nil) at (one_more (behind tab line e) this_field) in
         let all_found : given (take a.len (set values i v)) ≡ values_of 1 (attributes_of f a) (cut tab line) =
         ap (λ n. given (take n (set values i v))) (sym l) ∙ last_found in
         let enough : a.len ≤ length (set values i v) = omega (arith, length-set values i v, w.room, w.few) in
-        let whole = laid a.several a.len (set values i v) (take a.len (set values i v)) enough refl clear_still in
+        let whole = laid severals a.len (set values i v) (take a.len (set values i v)) enough refl clear_still ∙ ap (λ bs. request_with bs (take a.len (set values i v))) letters in
         subst (AskedAs a _) all_found (record { is = λ k. record { good = true; place = 0; request = whole k }; count = length-take-le a.len (set values i v) enough })
 
 -- A line by its count of fields

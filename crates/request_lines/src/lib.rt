@@ -55,24 +55,19 @@ fn read_fields(file: &[u8], a: Attributes, line: &[u8]) -> Asked
     requires { AllStanding file.now a × FewValues a × (length (cut tab line.now) ≡ a.len) }
     ensures { AskedAs a result (values_of 1 (attributes_of file.now a) (cut tab line.now)) }
 {
-    let several = a.several;
-    let starts = a.values;
-    let ends = a.ends;
     let mut values = [0usize; 6];
     let mut at = 0;
     let mut i = 0;
     loop {
         let end = text::end_of(line, at, b'\t');
-        let first = starts[i];
-        let last = ends[i];
-        let Some(v) = choose(several[i], &file[first..last], &line[at..end]) else {
+        let Some(v) = choose(a.all[i].several, a.values(file, i), &line[at..end]) else {
             return refuse(i + 1);
         };
         values[i] = v;
         i += 1;
         if i == a.len {
             let request = Request {
-                several,
+                several: a.severals(),
                 values,
                 len: a.len,
             };

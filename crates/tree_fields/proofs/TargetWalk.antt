@@ -19,7 +19,7 @@ use Rattle.laws.proofs.Targets.{field_read}
 use Rattle.laws.proofs.Bounds.{masks_count}
 use Rattle.text.proofs.Pieces.{behind, piece_last, piece_more, piece_at_lem}
 use Rattle.layout.specs.declared.Attributes.{Attributes}
-use Rattle.layout.specs.Places.{attribute_at, attributes_from, attributes_of}
+use Rattle.layout.specs.Places.{values_in, attribute_at, attributes_from, attributes_of}
 use Rattle.layout.proofs.Laws.{attributes_walk, attributes_length}
 use Rattle.layout.proofs.Counts.{laid_padded}
 use Rattle.tree_fields.specs.Masks.{masks_in}
@@ -79,11 +79,14 @@ walk_starts {f} {a} {ts} targets-are count some_attribute few =
     }
 
 -- the target that starts at `at` ends at e, and gives this mask
-module _ {f : Bytes} {a : Attributes} {ts : List Bytes} {targets : Bytes} {masks : List ℕ} {at i e mask : ℕ} (w : Walked f a ts targets masks at i)
+module _ {f : Bytes} {a : Attributes} {ts : List Bytes} {targets : Bytes} {masks : List ℕ} {at i e mask : ℕ} {values : Bytes} (w : Walked f a ts targets masks at i)
     (p : e ≡ at + length (get_or (cut tab (drop at targets)) 0 [])) (q : e ≤ length targets)
-    (is_mask : mask ≡ or_empty (target_of (attribute_at f a i).values (take (e - at) (drop at targets)))) where
+    (values_are : values ≡ values_in f a i) (told : mask ≡ or_empty (target_of (cut tab values) (take (e - at) (drop at targets)))) where
   abbrev piece : Bytes
   piece = take (e - at) (drop at targets)
+
+  is_mask : mask ≡ or_empty (target_of (attribute_at f a i).values piece)
+  is_mask = told ∙ ap (λ vs. or_empty (target_of (cut tab vs) piece)) values_are
 
   this_attribute : rest f a i ≡ attribute_at f a i ∷ rest f a (i + 1)
   this_attribute = attributes_walk f a a.len i w.here

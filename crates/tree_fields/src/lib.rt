@@ -77,17 +77,12 @@ pub fn line_masks(file: &[u8], a: Attributes, line: &[u8], e: FieldEnds) -> Opti
     ensures { result ≡ masks_in (attributes_of file.now a) (drop 4 (cut tab line.now)) }
 {
     let targets = target_fields(line, e);
-    let values = a.values;
-    let ends = a.ends;
-    let counts = a.counts;
     let mut masks = [0u16; 6];
     let mut at = 0;
     let mut i = 0;
     loop {
         let end = text::end_of(targets, at, b'\t');
-        let first = values[i];
-        let last = ends[i];
-        let mask = syntax::target_mask(&file[first..last], counts[i], &targets[at..end]);
+        let mask = syntax::target_mask(a.values(file, i), a.all[i].count, &targets[at..end]);
         if mask == 0 {
             return None;
         }

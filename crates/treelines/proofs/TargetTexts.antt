@@ -11,7 +11,7 @@ use Rattle.meaning.specs.Text.{Bytes, bytes, gathered, counting, cut, join, tab,
 use Rattle.meaning.specs.Writing.{value_names, target_text, target_texts}
 use Rattle.text.proofs.Pieces.{drop_next}
 use Rattle.layout.specs.declared.Attributes.{Attributes}
-use Rattle.layout.specs.Places.{part, attributes_from, attributes_of, Standing}
+use Rattle.layout.specs.Places.{place_at, values_in, attributes_from, attributes_of, Standing}
 use Rattle.printing.specs.Wrote.{Wrote}
 use Rattle.printing.proofs.Laws.{then}
 
@@ -24,27 +24,28 @@ module _ {x y : List ℕ} {at r : ℕ} (vs : List Bytes) (count mask whole : ℕ
   not_star e (w, l) = (rw (ne_eqb mask ((2 ^ length vs) - 1) (λ i. e (i ∙ sym (full ∙ ap (λ n. (2 ^ n) - 1) counted)))) w, l)
 
 -- the values of an attribute are part of the attribute lines
-pub values_short : {f : Bytes} {a : Attributes} {i : ℕ} → Standing f a i → length f ≤ 16384 → length (part f (get_or a.values i 0) (get_or a.ends i 0)) ≤ 16384
+pub values_short : {f : Bytes} {a : Attributes} {i : ℕ} → Standing f a i → length f ≤ 16384 → length (values_in f a i) ≤ 16384
 values_short {f} {a} {i} here short =
-    let first = get_or a.values i 0 in
-    let last = get_or a.ends i 0 in
+    let first = (place_at a i).values in
+    let last = (place_at a i).end in
     omega (arith, length-take-le (last - first) (drop first f) (omega (arith, length-drop first f, here.inside)), here.inside)
 
--- the target of attribute i, by the places of its values, with a tab before it
-abbrev pub tab_target : Bytes → (values ends masks : List ℕ) → ℕ → Bytes
-tab_target f values ends masks i = tab ∷ target_text (cut tab (part f (get_or values i 0) (get_or ends i 0))) (get_or masks i 0)
+-- the target of attribute i, by where its values stand, with a tab before it
+abbrev pub tab_target : Bytes → Attributes → (masks : List ℕ) → ℕ → Bytes
+tab_target f a masks i = tab ∷ target_text (cut tab (values_in f a i)) (get_or masks i 0)
 
-pub tab_put : {x y z t : List ℕ} {at m r : ℕ} → Wrote x at (tab ∷ []) y m → Wrote y m t z r × (r ≤ m + 16385) → Wrote x at (tab ∷ t) z r × (r ≤ at + 16386)
-tab_put w (v, l) = (then w v, omega (arith, w.moved, l))
+pub tab_put : (f : Bytes) (a : Attributes) (masks : List ℕ) (i : ℕ) {values x y z : List ℕ} {at m r : ℕ} → values ≡ values_in f a i → Wrote x at (tab ∷ []) y m → Wrote y m (target_text (cut tab values) (get_or masks i 0)) z r × (r ≤ m + 16385)
+    → Wrote x at (tab_target f a masks i) z r × (r ≤ at + 16386)
+tab_put f a masks i {y = y} {z} {m = m} {r} same w (v, l) = (then w (subst (λ vs. Wrote y m (target_text (cut tab vs) (get_or masks i 0)) z r) same v), omega (arith, w.moved, l))
 
 -- all targets
 module _ (f : Bytes) (a : Attributes) (masks : List ℕ) where
-  targets_from : (i n : ℕ) → i + n ≤ length masks → gathered (tab_target f a.values a.ends masks) (counting i n) ≡ gathered (λ t. tab ∷ t) (target_texts (attributes_from f a i n) (drop i masks))
+  targets_from : (i n : ℕ) → i + n ≤ length masks → gathered (tab_target f a masks) (counting i n) ≡ gathered (λ t. tab ∷ t) (target_texts (attributes_from f a i n) (drop i masks))
   unfolding attributes_from
   targets_from i zero h = refl
   targets_from i (suc n) h =
       let next : suc i ≡ i + 1 = omega arith in
       rw (drop_next masks i (omega arith), next, targets_from (i + 1) n (omega arith))
 
-  pub all_targets : {x y : List ℕ} {at r : ℕ} → a.len ≤ length masks → Wrote x at (gathered (tab_target f a.values a.ends masks) (counting 0 a.len)) y r → Wrote x at (gathered (λ t. tab ∷ t) (target_texts (attributes_of f a) masks)) y r
+  pub all_targets : {x y : List ℕ} {at r : ℕ} → a.len ≤ length masks → Wrote x at (gathered (tab_target f a masks) (counting 0 a.len)) y r → Wrote x at (gathered (λ t. tab ∷ t) (target_texts (attributes_of f a) masks)) y r
   all_targets {x} {y} {at} {r} enough w = subst (λ t. Wrote x at t y r) (targets_from 0 a.len (omega arith)) w

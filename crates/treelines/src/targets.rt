@@ -72,18 +72,13 @@ pub(crate) fn put_targets(
     requires { Headed header.now a × (at ≤ 2000000000) }
     ensures { Wrote out.old at (gathered (λ t. tab ∷ t) (target_texts (attributes_of header.now a) e.masks)) out.new result × (result ≤ at + 98316) }
 {
-    let values = a.values;
-    let ends = a.ends;
-    let counts = a.counts;
     let masks = e.masks;
     let len = a.len;
     let mut i = 0;
     let mut end = at;
     while i < len {
-        let first = values[i];
-        let last = ends[i];
         let target = printing::put(out, end, b'\t');
-        end = put_target(&header[first..last], counts[i], masks[i], out, target);
+        end = put_target(a.values(header, i), a.all[i].count, masks[i], out, target);
         i += 1;
     }
     end

@@ -14,22 +14,22 @@ use Rattle.meaning.specs.Model.{product}
 use Rattle.meaning.specs.ValuePairs.{several_at}
 use Rattle.laws.proofs.Requests.{Positive}
 use Rattle.layout.specs.declared.Attributes.{Attributes}
-use Rattle.layout.specs.Places.{attribute_at, attributes_from}
+use Rattle.layout.specs.Places.{place_at, attribute_at, attributes_from}
 use Rattle.layout.proofs.Names.{attributes_end, attributes_next}
 use Rattle.value_pairs.specs.Held.{place_or13}
 
 module _ (f : Bytes) (a : Attributes) (name : Bytes) (i : ℕ) where
   module _ (l : i < a.len) where
-    pub found : get_or a.several i false ≡ true → same_name name (attribute_at f a i).name ≡ true → several_at i name (attributes_from f a i (a.len - i)) ≡ place_or13 a.len i
+    pub found : (place_at a i).several ≡ true → same_name name (attribute_at f a i).name ≡ true → several_at i name (attributes_from f a i (a.len - i)) ≡ place_or13 a.len i
     found several named = ap (several_at i name) (attributes_next f a i l) ∙ rw (several, named, lt-ltb i a.len l)
 
     next : several_at (suc i) name (attributes_from f a (i + 1) (a.len - (i + 1))) ≡ several_at (i + 1) name (attributes_from f a (i + 1) (a.len - (i + 1)))
     next = ap (λ k. several_at k name (attributes_from f a (i + 1) (a.len - (i + 1)))) (sym (add-one i))
 
-    pub not_several : get_or a.several i false ≡ false → several_at i name (attributes_from f a i (a.len - i)) ≡ several_at (i + 1) name (attributes_from f a (i + 1) (a.len - (i + 1)))
+    pub not_several : (place_at a i).several ≡ false → several_at i name (attributes_from f a i (a.len - i)) ≡ several_at (i + 1) name (attributes_from f a (i + 1) (a.len - (i + 1)))
     not_several e = ap (several_at i name) (attributes_next f a i l) ∙ rw e next
 
-    pub other_name : get_or a.several i false ≡ true → same_name name (attribute_at f a i).name ≡ false → several_at i name (attributes_from f a i (a.len - i)) ≡ several_at (i + 1) name (attributes_from f a (i + 1) (a.len - (i + 1)))
+    pub other_name : (place_at a i).several ≡ true → same_name name (attribute_at f a i).name ≡ false → several_at i name (attributes_from f a i (a.len - i)) ≡ several_at (i + 1) name (attributes_from f a (i + 1) (a.len - (i + 1)))
     other_name several e = ap (several_at i name) (attributes_next f a i l) ∙ rw (several, e) next
 
   pub none_found : a.len ≤ i → several_at i name (attributes_from f a i (a.len - i)) ≡ place_or13 a.len a.len

@@ -21,11 +21,10 @@ fn several_at(file: &[u8], a: Attributes, name: &[u8]) -> usize
     requires { AllStanding file.now a }
     ensures { (result ≤ a.len) × (several_at 0 name.now (attributes_of file.now a) ≡ place_or13 a.len result) }
 {
-    let several = a.several;
     let len = a.len;
     let mut i = 0;
     while i < len {
-        if !several[i] {
+        if !a.all[i].several {
             i += 1;
             continue;
         }

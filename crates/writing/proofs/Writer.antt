@@ -20,7 +20,7 @@ use Rattle.laws.proofs.GoodLists.{Small, taken_small, taken_few}
 use Rattle.refusals.specs.declared.Refused.{Refused}
 use Rattle.refusals.specs.Numbers.{number_of, answer_of}
 use Rattle.layout.specs.declared.Attributes.{Attributes}
-use Rattle.layout.specs.Places.{attributes_of, value_counts}
+use Rattle.layout.specs.Places.{attributes_of, value_counts, counts_at}
 use Rattle.layout.proofs.Laws.{attributes_length}
 use Rattle.layout.proofs.Counts.{counts_are}
 use Rattle.elements.specs.declared.Elements.{Elements}
@@ -88,12 +88,12 @@ module _ (header : Bytes) (a : Attributes) (is : HeaderAs header (Ok a) (short h
       write_is (length old) header es ∙ ap (λ x. x then behind (length old) header es) e ∙ (λ i. behind (length old) header es (record { attributes = t.attributes i; before = t.no_element i }))
 
   module _ (list : Elements) (room : length list.all ≡ 65) (few : list.len ≤ 65) (c : Checked)
-      (checks : (attrs : List _) → take a.len a.counts ≡ value_counts attrs → CheckedAs c (read_elements (suc a.len) (record { attributes = attrs; before = [] }) (elements_of list))) where
+      {counts : List ℕ} (counted : counts ≡ counts_at a) (checks : (attrs : List _) → take a.len counts ≡ value_counts attrs → CheckedAs c (read_elements (suc a.len) (record { attributes = attrs; before = [] }) (elements_of list))) where
     abbrev es : List Element
     es = elements_of list
 
     tested : CheckedAs c (read_elements (suc (length (attributes_of header a))) start es)
-    tested = subst (λ n. CheckedAs c (read_elements (suc n) start es)) (sym (attributes_length header a)) (checks (attributes_of header a) (counts_are header a holds.spaced.standing))
+    tested = subst (λ n. CheckedAs c (read_elements (suc n) start es)) (sym (attributes_length header a)) (checks (attributes_of header a) (ap (take a.len) counted ∙ counts_are header a holds.spaced.standing))
 
     pub small_checked : (c.number ≡ 0 → ⊥) → (c.number < 4294967296) × (c.line < 4294967296)
     small_checked h = go (read_elements (suc (length (attributes_of header a))) start es) tested

@@ -46,8 +46,7 @@ pub fn write(header: &[u8], list: Elements, out: &mut [u8]) -> Answer
         Ok(attributes) => attributes,
         Err(refused) => return Answer::from(refused),
     };
-    let counts = a.counts;
-    let checked = checking::check_elements(counts, a.len, held);
+    let checked = checking::check_elements(a.counts(), a.len, held);
     if checked.number != 0 {
         return Answer {
             number: checked.number as u32,

@@ -3,7 +3,7 @@ use Prim.Native.Nat.{◌+◌, ◌-◌}
 use mathlib.Core.Path.{refl, ap, ◌∙◌}
 use native.Mathlib.Omega.{arith}
 use lib.ListN.{length}
-use Rattle.layout.specs.Places.{added}
+use Rattle.layout.specs.Places.{line_place, added}
 use Rattle.attribute_lines.proofs.AttributeLines.{attribute_parts}
 use Rattle.attribute_lines.proofs.attribute_line.Goals as goal
 
@@ -13,8 +13,8 @@ overflow_add-first-2 c =
     let parts = attribute_parts a.file.now a.st.at a.end c.field-name.result.now (omega (arith, c.requires.1.ends)) c.requires.2 c.field-name.ensures in
     omega arith
 
-pub with_attribute-attributes-requires : goal.with_attribute-attributes-requires
-with_attribute-attributes-requires c = c.in_ok-attribute_refusal.ensures.few refl
+pub with-attributes-requires : goal.with-attributes-requires
+with-attributes-requires c = c.in_ok-attribute_refusal.ensures.few refl
 
 pub choices-requires : goal.choices-requires
 choices-requires c = c.in_ok-attribute_refusal.ensures.few_values refl
@@ -27,5 +27,5 @@ overflow_mul-result c =
 pub returns : goal.returns
 returns c =
     let a = c.args in
-    let attributes = c.with_attribute-attributes.ensures ∙ ap (λ name. added a.st.attributes a.several (a.st.at + 2) (a.st.at + 3 + length name) a.end (a.fields - 2)) c.field-name.ensures in
+    let attributes = c.with-attributes.ensures ∙ ap (λ name. added a.st.attributes (line_place a.st.at a.end a.several name a.fields)) c.field-name.ensures in
     record { refusal = c.in_ok-attribute_refusal.ensures; state = rw (attributes, c.choices.ensures) }

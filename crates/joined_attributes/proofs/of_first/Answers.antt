@@ -11,8 +11,8 @@ use Rattle.joined_attributes.proofs.of_first.Goals as goal
 pub loop-i-init : goal.loop-i-init
 loop-i-init c = (search rules, none_listed c.args.first.now c.args.a (attributes_of c.args.own.now c.args.c))
 
-pub attribute_name-requires : goal.attribute_name-requires
-attribute_name-requires c =
+pub name-requires : goal.name-requires
+name-requires c =
     (omega (arith, c.requires.0.few), c.requires.0.each c.loop-i.i (omega arith))
 
 pub attribute_named-requires : goal.attribute_named-requires
@@ -27,7 +27,7 @@ pub loop-i-preserved : goal.loop-i-preserved
 loop-i-preserved c =
     let l = c.loop-i in
     let own = attributes_of c.args.own.now c.args.c in
-    let place = c.attribute_named.ensures.value ∙ ap (place_in own) c.attribute_name.ensures in
+    let place = c.attribute_named.ensures.value ∙ ap (place_in own) c.name.ensures in
     (omega arith, c.with_place-p.ensures ∙ attribute_listed c.args.first.now c.args.a own (omega (arith, c.requires.0.few)) place l.invariant.1)
 
 pub returns : goal.returns

@@ -14,15 +14,15 @@ pub loop-j-init : goal.loop-j-init
 loop-j-init c =
     (search rules, first_listed c.args.second.now c.args.b (attributes_of c.args.own.now c.args.c) (attributes_of c.args.first.now c.args.a) c.of_first-p.ensures)
 
-pub attribute_name-name-requires : goal.attribute_name-name-requires
-attribute_name-name-requires c =
+pub name-name-requires : goal.name-name-requires
+name-name-requires c =
     (omega (arith, c.requires.1.few), c.requires.1.each c.loop-j.j (omega arith))
 
 pub loop-j-preserved-then-known_attribute : goal.loop-j-preserved-then-known_attribute
 loop-j-preserved-then-known_attribute c =
     let l = c.loop-j in
     let first = attributes_of c.args.first.now c.args.a in
-    let known = sym (c.known_attribute.ensures ∙ ap (declared first) c.attribute_name-name.ensures) ∙ c.if-known_attribute.true in
+    let known = sym (c.known_attribute.ensures ∙ ap (declared first) c.name-name.ensures) ∙ c.if-known_attribute.true in
     (omega arith, known_passed c.args.second.now c.args.b (attributes_of c.args.own.now c.args.c) first l.j known l.invariant.1)
 
 pub with_place-p-requires : goal.with_place-p-requires
@@ -40,7 +40,7 @@ with_place-p-requires c =
 pub loop-j-preserved : goal.loop-j-preserved
 loop-j-preserved c =
     let l = c.loop-j in
-    let name = c.attribute_name-name.ensures in
+    let name = c.name-name.ensures in
     let first = attributes_of c.args.first.now c.args.a in
     let own = attributes_of c.args.own.now c.args.c in
     let alone = sym (c.known_attribute.ensures ∙ ap (declared first) name) ∙ c.if-known_attribute.false in

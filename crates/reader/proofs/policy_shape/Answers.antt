@@ -2,4 +2,4 @@
 use Rattle.reader.proofs.policy_shape.Goals as goal
 
 pub returns : goal.returns
-returns c = rw c.sizes-counts.ensures
+returns c = rw (c.severals.ensures, c.sizes.ensures)

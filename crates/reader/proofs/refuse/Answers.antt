@@ -2,4 +2,4 @@
 use Rattle.reader.proofs.refuse.Goals as goal
 
 pub returns : goal.returns
-returns c = rw c.no_attributes-attributes.ensures
+returns c = rw c.none-attributes.ensures

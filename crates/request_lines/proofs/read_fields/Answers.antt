@@ -2,6 +2,9 @@
 use Prim.Native.Nat.{◌<◌}
 use native.Mathlib.Omega.{arith}
 use borrow.Author.Rules.{rules}
+use mathlib.Core.Path.{ap}
+use lib.ListN.{length}
+use Rattle.meaning.specs.Text.{cut, tab}
 use Rattle.layout.specs.Places.{Standing}
 use Rattle.request_lines.proofs.FieldWalk.{walk_starts, walk_refused, walk_on, walk_ends}
 use Rattle.request_lines.proofs.read_fields.Goals as goal
@@ -12,51 +15,14 @@ loop-v-init c = walk_starts c.requires.2 c.requires.0.few
 pub end_of-end-requires : goal.end_of-end-requires
 end_of-end-requires c = c.loop-v.invariant.within
 
-pub offset_bounds-starts-i : goal.offset_bounds-starts-i
-offset_bounds-starts-i c =
-    let below-six : c.loop-v.i < 6 = omega (arith, c.loop-v.invariant.here, c.loop-v.invariant.few) in
-    let small = below-six in search rules
-
-pub bounds-starts-i : goal.bounds-starts-i
-bounds-starts-i c =
-    let below-six : c.loop-v.i < 6 = omega (arith, c.loop-v.invariant.here, c.loop-v.invariant.few) in
-    let small = below-six in search rules
-
-pub offset_bounds-ends-i : goal.offset_bounds-ends-i
-offset_bounds-ends-i c =
-    let below-six : c.loop-v.i < 6 = omega (arith, c.loop-v.invariant.here, c.loop-v.invariant.few) in
-    let small = below-six in search rules
-
-pub bounds-ends-i : goal.bounds-ends-i
-bounds-ends-i c =
-    let below-six : c.loop-v.i < 6 = omega (arith, c.loop-v.invariant.here, c.loop-v.invariant.few) in
-    let small = below-six in search rules
-
-pub bounds-several-i : goal.bounds-several-i
-bounds-several-i c =
-    let below-six : c.loop-v.i < 6 = omega (arith, c.loop-v.invariant.here, c.loop-v.invariant.few) in
-    let small = below-six in search rules
-
-pub slice_bounds-choose-count : goal.slice_bounds-choose-count
-slice_bounds-choose-count c =
-    let standing : let args = c.args in Standing args.file.now args.a c.loop-v.i = c.requires.0.each c.loop-v.i c.loop-v.invariant.here in
-    let here = standing in search rules
-
-pub slice_bounds-choose-start : goal.slice_bounds-choose-start
-slice_bounds-choose-start c =
-    let standing : let args = c.args in Standing args.file.now args.a c.loop-v.i = c.requires.0.each c.loop-v.i c.loop-v.invariant.here in
-    let here = standing in search rules
-
-pub slice_bounds-choose-end : goal.slice_bounds-choose-end
-slice_bounds-choose-end c =
-    let standing : let args = c.args in Standing args.file.now args.a c.loop-v.i = c.requires.0.each c.loop-v.i c.loop-v.invariant.here in
-    let here = standing in search rules
+pub values-requires : goal.values-requires
+values-requires c = (omega (arith, c.loop-v.invariant.here, c.loop-v.invariant.few), c.requires.0.each c.loop-v.i c.loop-v.invariant.here)
 
 pub choose-requires : goal.choose-requires
 choose-requires c =
     let standing : let args = c.args in Standing args.file.now args.a c.loop-v.i = c.requires.0.each c.loop-v.i c.loop-v.invariant.here in
     let few = c.requires.1 c.loop-v.i c.loop-v.invariant.here in
-    omega (arith, few, (standing).count)
+    omega (arith, few, standing.count, ap (λ vs. length (cut tab vs)) c.values.ensures)
 
 pub overflow_add-i : goal.overflow_add-i
 overflow_add-i c =
@@ -71,7 +37,7 @@ refuse-requires c =
 pub returns-in_default : goal.returns-in_default
 returns-in_default c =
     let end = c.end_of-end.ensures in
-    walk_refused c.loop-v.invariant end.value end.within.1 c.choose.ensures c.in_default.is c.refuse.ensures
+    walk_refused c.loop-v.invariant end.value end.within.1 c.values.ensures c.choose.ensures c.in_default.is c.refuse.ensures
 
 pub offset_bounds-values-i : goal.offset_bounds-values-i
 offset_bounds-values-i c =
@@ -91,9 +57,9 @@ overflow_add-i-in-loop-v c =
 pub returns-then-i-a : goal.returns-then-i-a
 returns-then-i-a c =
     let end = c.end_of-end.ensures in
-    walk_ends c.loop-v.invariant end.value end.within.1 c.choose.ensures c.in-Some.is c.if-i-a.true
+    walk_ends c.loop-v.invariant end.value end.within.1 c.values.ensures c.choose.ensures c.in-Some.is c.severals.ensures c.if-i-a.true
 
 pub loop-v-preserved : goal.loop-v-preserved
 loop-v-preserved c =
     let end = c.end_of-end.ensures in
-    walk_on c.loop-v.invariant end.value end.within.1 c.choose.ensures c.in-Some.is c.if-i-a.false
+    walk_on c.loop-v.invariant end.value end.within.1 c.values.ensures c.choose.ensures c.in-Some.is c.if-i-a.false

@@ -3,9 +3,9 @@
 use Prim.Native.Nat.{◌<◌}
 use native.Mathlib.Omega.{arith}
 use borrow.Author.Rules.{rules}
-use lib.ListN.{length-drop}
+use mathlib.Core.Path.{sym, ap, ◌∙◌}
+use lib.ListN.{length, length-drop}
 use Rattle.meaning.specs.Text.{cut, tab}
-use Rattle.layout.specs.Places.{Standing}
 use Rattle.tree_fields.proofs.TargetWalk.{walk_starts, walk_on, walk_bad, walk_ends}
 use Rattle.tree_fields.proofs.line_masks.Goals as goal
 
@@ -18,60 +18,18 @@ loop-targets-init c =
 pub end_of-end-requires : goal.end_of-end-requires
 end_of-end-requires c = c.loop-targets.invariant.within
 
-pub offset_bounds-values-i : goal.offset_bounds-values-i
-offset_bounds-values-i c =
-    let below-six : c.loop-targets.i < 6 = omega (arith, c.loop-targets.invariant.here, c.requires.0.few) in
-    let small = below-six in search rules
-
-pub bounds-values-i : goal.bounds-values-i
-bounds-values-i c =
-    let below-six : c.loop-targets.i < 6 = omega (arith, c.loop-targets.invariant.here, c.requires.0.few) in
-    let small = below-six in search rules
-
-pub offset_bounds-ends-i : goal.offset_bounds-ends-i
-offset_bounds-ends-i c =
-    let below-six : c.loop-targets.i < 6 = omega (arith, c.loop-targets.invariant.here, c.requires.0.few) in
-    let small = below-six in search rules
-
-pub bounds-ends-i : goal.bounds-ends-i
-bounds-ends-i c =
-    let below-six : c.loop-targets.i < 6 = omega (arith, c.loop-targets.invariant.here, c.requires.0.few) in
-    let small = below-six in search rules
-
-pub slice_bounds-target_mask-count : goal.slice_bounds-target_mask-count
-slice_bounds-target_mask-count c =
-    let standing : let args = c.args in Standing args.file.now args.a c.loop-targets.i = c.requires.0.each c.loop-targets.i c.loop-targets.invariant.here in
-    let here = standing in search rules
-
-pub slice_bounds-target_mask-start : goal.slice_bounds-target_mask-start
-slice_bounds-target_mask-start c =
-    let standing : let args = c.args in Standing args.file.now args.a c.loop-targets.i = c.requires.0.each c.loop-targets.i c.loop-targets.invariant.here in
-    let here = standing in search rules
-
-pub slice_bounds-target_mask-end : goal.slice_bounds-target_mask-end
-slice_bounds-target_mask-end c =
-    let standing : let args = c.args in Standing args.file.now args.a c.loop-targets.i = c.requires.0.each c.loop-targets.i c.loop-targets.invariant.here in
-    let here = standing in search rules
-
-pub offset_bounds-counts-i : goal.offset_bounds-counts-i
-offset_bounds-counts-i c =
-    let below-six : c.loop-targets.i < 6 = omega (arith, c.loop-targets.invariant.here, c.requires.0.few) in
-    let small = below-six in search rules
-
-pub bounds-counts-i : goal.bounds-counts-i
-bounds-counts-i c =
-    let below-six : c.loop-targets.i < 6 = omega (arith, c.loop-targets.invariant.here, c.requires.0.few) in
-    let small = below-six in search rules
+pub values-requires : goal.values-requires
+values-requires c = (omega (arith, c.loop-targets.invariant.here, c.requires.0.few), c.requires.0.each c.loop-targets.i c.loop-targets.invariant.here)
 
 pub target_mask-mask-requires : goal.target_mask-mask-requires
 target_mask-mask-requires c =
-    let standing : let args = c.args in Standing args.file.now args.a c.loop-targets.i = c.requires.0.each c.loop-targets.i c.loop-targets.invariant.here in
-    ((standing).count, c.requires.1 c.loop-targets.i c.loop-targets.invariant.here)
+    let standing = c.requires.0.each c.loop-targets.i c.loop-targets.invariant.here in
+    (standing.count ∙ ap (λ vs. length (cut tab vs)) (sym c.values.ensures), c.requires.1 c.loop-targets.i c.loop-targets.invariant.here)
 
 pub returns-then-mask-eq0 : goal.returns-then-mask-eq0
 returns-then-mask-eq0 c =
     let end = c.end_of-end.ensures in
-    walk_bad c.loop-targets.invariant end.value end.within.1 c.target_mask-mask.ensures c.if-mask-eq0.true
+    walk_bad c.loop-targets.invariant end.value end.within.1 c.values.ensures c.target_mask-mask.ensures c.if-mask-eq0.true
 
 pub offset_bounds-masks-i : goal.offset_bounds-masks-i
 offset_bounds-masks-i c =
@@ -91,9 +49,9 @@ overflow_add-i c =
 pub returns-then-i-a : goal.returns-then-i-a
 returns-then-i-a c =
     let end = c.end_of-end.ensures in
-    walk_ends c.loop-targets.invariant end.value end.within.1 c.target_mask-mask.ensures c.if-mask-eq0.false c.if-i-a.true
+    walk_ends c.loop-targets.invariant end.value end.within.1 c.values.ensures c.target_mask-mask.ensures c.if-mask-eq0.false c.if-i-a.true
 
 pub loop-targets-preserved : goal.loop-targets-preserved
 loop-targets-preserved c =
     let end = c.end_of-end.ensures in
-    walk_on c.loop-targets.invariant end.value end.within.1 c.target_mask-mask.ensures c.if-mask-eq0.false c.if-i-a.false
+    walk_on c.loop-targets.invariant end.value end.within.1 c.values.ensures c.target_mask-mask.ensures c.if-mask-eq0.false c.if-i-a.false

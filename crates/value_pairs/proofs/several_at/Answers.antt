@@ -9,13 +9,13 @@ use Rattle.value_pairs.proofs.several_at.Goals as goal
 pub loop-i-init : goal.loop-i-init
 loop-i-init c = (search rules, rw sub-zero)
 
-pub bounds-several-i : goal.bounds-several-i
-bounds-several-i c = let few = c.requires.few in search rules
+pub bounds-a-i : goal.bounds-a-i
+bounds-a-i c = let few = c.requires.few in search rules
 
-pub loop-i-preserved-then-not-several-i : goal.loop-i-preserved-then-not-several-i
-loop-i-preserved-then-not-several-i c =
+pub loop-i-preserved-then-not-a-i : goal.loop-i-preserved-then-not-a-i
+loop-i-preserved-then-not-a-i c =
     let l = c.loop-i in
-    (omega arith, l.invariant.1 ∙ not_several c.args.file.now c.args.a c.args.name.now l.i (omega arith) (c.if-not-several-i.true))
+    (omega arith, l.invariant.1 ∙ not_several c.args.file.now c.args.a c.args.name.now l.i (omega arith) (c.if-not-a-i.true))
 
 pub has_name-requires : goal.has_name-requires
 has_name-requires c = (omega (arith, c.requires.few), c.requires.each c.loop-i.i (omega arith))
@@ -23,12 +23,12 @@ has_name-requires c = (omega (arith, c.requires.few), c.requires.each c.loop-i.i
 pub returns-then-has_name : goal.returns-then-has_name
 returns-then-has_name c =
     let l = c.loop-i in
-    (omega arith, l.invariant.1 ∙ found c.args.file.now c.args.a c.args.name.now l.i (omega arith) (c.if-not-several-i.false) (sym c.has_name.ensures ∙ c.if-has_name.true))
+    (omega arith, l.invariant.1 ∙ found c.args.file.now c.args.a c.args.name.now l.i (omega arith) (c.if-not-a-i.false) (sym c.has_name.ensures ∙ c.if-has_name.true))
 
 pub loop-i-preserved : goal.loop-i-preserved
 loop-i-preserved c =
     let l = c.loop-i in
-    (omega arith, l.invariant.1 ∙ other_name c.args.file.now c.args.a c.args.name.now l.i (omega arith) (c.if-not-several-i.false) (sym c.has_name.ensures ∙ c.if-has_name.false))
+    (omega arith, l.invariant.1 ∙ other_name c.args.file.now c.args.a c.args.name.now l.i (omega arith) (c.if-not-a-i.false) (sym c.has_name.ensures ∙ c.if-has_name.false))
 
 pub returns : goal.returns
 returns c =

@@ -12,8 +12,8 @@ pub loop-j-init : goal.loop-j-init
 loop-j-init c =
     (search rules, begun (alone_at c.args.second.now c.args.b (attributes_of c.args.first.now c.args.a)) 16388 0 c.args.out.now c.args.at)
 
-pub attribute_name-requires : goal.attribute_name-requires
-attribute_name-requires c =
+pub name-requires : goal.name-requires
+name-requires c =
     let standing = c.requires.1.standing in
     (omega (arith, standing.few), standing.each c.loop-j.j (omega arith))
 
@@ -24,7 +24,7 @@ pub loop-j-preserved-then-known_attribute : goal.loop-j-preserved-then-known_att
 loop-j-preserved-then-known_attribute c =
     let l = c.loop-j in
     let first = attributes_of c.args.first.now c.args.a in
-    let known = sym (c.known_attribute.ensures ∙ ap (declared first) c.attribute_name.ensures) ∙ c.if-known_attribute.true in
+    let known = sym (c.known_attribute.ensures ∙ ap (declared first) c.name.ensures) ∙ c.if-known_attribute.true in
     (omega arith, passed_over (alone_at c.args.second.now c.args.b first) 16388 0 c.args.out.now c.args.at l.j l.invariant.1 (alone_known c.args.second.now c.args.b first l.j known))
 
 pub put_attribute-end-requires : goal.put_attribute-end-requires
@@ -37,7 +37,7 @@ pub loop-j-preserved : goal.loop-j-preserved
 loop-j-preserved c =
     let l = c.loop-j in
     let first = attributes_of c.args.first.now c.args.a in
-    let alone = sym (c.known_attribute.ensures ∙ ap (declared first) c.attribute_name.ensures) ∙ c.if-known_attribute.false in
+    let alone = sym (c.known_attribute.ensures ∙ ap (declared first) c.name.ensures) ∙ c.if-known_attribute.false in
     let put = c.put_attribute-end.ensures in
     let line = same_text (alone_new c.args.second.now c.args.b first l.j alone) put.0 in
     (omega arith, stored (alone_at c.args.second.now c.args.b first) 16388 0 c.args.out.now c.args.at l.j l.invariant.1 (line, put.1))
