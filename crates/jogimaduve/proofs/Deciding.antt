@@ -15,7 +15,7 @@ use Rattle.laws.proofs.Bools.{contradiction}
 use Rattle.requests.specs.Values.{values_of, severals_of}
 use Rattle.requests.proofs.Laid.{values_with}
 use Rattle.table.specs.Rows.{depth_of}
-use Rattle.layout.specs.Places.{attributes_of}
+use Rattle.layout.specs.Places.{attributes_of, severals_at}
 use Rattle.obligations.specs.Given.{outcome_left}
 use Rattle.obligations.proofs.Left.{outcome_whole}
 use Rattle.deciding.specs.Told.{outcome_on, outcome_for, Told, Asking}
@@ -94,8 +94,8 @@ module _ (f table places : List ℕ) (r : Reading) (is_read : ReadAs f table pla
         go (given q) t =
             let h = (file_read f table places r is_read z).1 in
             let holds = (file_read f table places r is_read z).2 in
-            let letters : severals_of a.request ≡ severals p.attributes = ap (λ x. severals_of x.request) t.is ∙ ap (λ k. take k r.attributes.several) t.count ∙ letters_are f table places r p h holds in
-            let values : values_of a.request ≡ q = ap (λ x. values_of x.request) t.is ∙ values_with r.attributes.several q in
+            let letters : severals_of a.request ≡ severals p.attributes = ap (λ x. severals_of x.request) t.is ∙ ap (λ k. take k (severals_at r.attributes)) t.count ∙ letters_are f table places r p h holds in
+            let values : values_of a.request ≡ q = ap (λ x. values_of x.request) t.is ∙ values_with (severals_at r.attributes) q in
             let same : outcome_on f table places r.elements a.request ≡ decide p q =
             ap₂ (λ bs vs. outcome_left (matches bs vs) f table places (replicate 64 0) r.elements) letters values
             ∙ sym (outcome_whole f table places (replicate 64 0) r.elements p q holds.elements (λ k l. get_or-replicate 64 k 0 0 (omega (arith, l, few f table places r p h holds))) holds.some top) in
