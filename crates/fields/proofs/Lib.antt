@@ -1,5 +1,2 @@
--- `Places` has the laws of the definitions. The others serve proofs by hand in crates above: `Walk` gathers what they cite of the logic.
+-- Laws of places in a line.
 pub mod Places
-pub mod Walk
-pub mod Turn
-pub mod Answers

@@ -1,5 +1,5 @@
 // Fields taken from a line from left to right: a reader holds the line's slice and a place.
-// `start`, `current`, `advance` and `field` are thin: the work is in `field_at` and `place_after`, functions on a slice and a number, over the cursor `text::end_of`.
+// The methods and `field` are thin: the work is in `field_at` and `place_after`, functions on a slice and a number, over the cursor `text::end_of`.
 #![tactic(auto)]
 
 ghost use Rattle.std.specs.Prelude.{◌≡◌, [], get_or};
@@ -34,37 +34,40 @@ fn place_after(line: &[u8], at: usize) -> usize
     text::end_of(line, at, b'\t') + 1
 }
 
-// A reader at the first field of a line.
-pub fn start<'a>(line: &'a [u8]) -> Fields<'a>
-    ensures { (result.line ≡ line.entry) × (result.at ≡ 0) }
-{
-    Fields { line, at: 0 }
-}
+impl<'a> Fields<'a> {
+    // A reader at the first field of a line.
+    pub fn start(line: &'a [u8]) -> Fields<'a>
+        ensures { (result.line ≡ line.entry) × (result.at ≡ 0) }
+    {
+        Fields { line, at: 0 }
+    }
 
-// The field at hand.
-pub fn current<'a>(r: Fields<'a>) -> &'a [u8]
-    ensures { result.now ≡ field_at r.entry.line.now r.entry.at }
-{
-    field_at(r.line, r.at)
-}
+    // The field at hand.
+    pub fn current(self) -> &'a [u8]
+        ensures { result.now ≡ field_at self.entry.line.now self.entry.at }
+    {
+        field_at(self.line, self.at)
+    }
 
-// The reader at the next field.
-pub fn advance<'a>(r: Fields<'a>) -> Fields<'a>
-    ensures { (result.line ≡ r.entry.line) × (result.at ≡ place_after r.entry.line.now r.entry.at) }
-{
-    let at = place_after(r.line, r.at);
-    Fields { line: r.line, at }
+    // The reader at the next field.
+    pub fn advance(self) -> Fields<'a>
+        ensures { (result.line ≡ self.entry.line) × (result.at ≡ place_after self.entry.line.now self.entry.at) }
+    {
+        let at = place_after(self.line, self.at);
+        Fields {
+            line: self.line,
+            at,
+        }
+    }
 }
 
 // Field k of a line, or an empty text where it has fewer.
 pub fn field(line: &[u8], k: usize) -> &[u8]
     ensures { result.now ≡ get_or (cut tab line.now) k [] }
 {
-    let mut r = start(line);
-    let mut i = 0;
-    while i < k {
-        r = advance(r);
-        i += 1;
+    let mut r = Fields::start(line);
+    for _i in 0..k {
+        r = r.advance();
     }
-    current(r)
+    r.current()
 }

@@ -12,7 +12,6 @@ use Rattle.fields.proofs.field.Goals as goal
 pub loop-i-init : goal.loop-i-init
 loop-i-init c =
     record {
-      within = omega arith;
       of_line = ap (λ s. s.now) c.start-r.ensures.0;
       passed = subst (Passed c.args.line.now 0) (sym c.start-r.ensures.1) (none_passed c.args.line.now);
     }
@@ -20,11 +19,10 @@ loop-i-init c =
 pub loop-i-preserved : goal.loop-i-preserved
 loop-i-preserved c =
     let line = c.args.line.now in
-    let i = c.loop-i.i in
+    let i = c.loop-i._i in
     let kept = c.loop-i.invariant in
     let here : c.advance-r.result.at ≡ place_after line c.loop-i.r.at = c.advance-r.ensures.1 ∙ ap (λ (b : Bytes). place_after b c.loop-i.r.at) kept.of_line in
     record {
-      within = omega arith;
       of_line = ap (λ s. s.now) c.advance-r.ensures.0 ∙ kept.of_line;
       passed = subst (Passed line (i + 1)) (sym here) (one_passed line i c.loop-i.r.at kept.passed);
     }
@@ -33,6 +31,6 @@ pub returns : goal.returns
 returns c =
     let line = c.args.line.now in
     let kept = c.loop-i.invariant in
-    let last : c.loop-i.i ≡ c.args.k = omega arith in
-    c.current.ensures ∙ ap (λ (b : Bytes). field_at b c.loop-i.r.at) kept.of_line ∙ field_here line c.loop-i.i c.loop-i.r.at kept.passed
+    let last : c.loop-i._i ≡ c.args.k = omega arith in
+    c.current.ensures ∙ ap (λ (b : Bytes). field_at b c.loop-i.r.at) kept.of_line ∙ field_here line c.loop-i._i c.loop-i.r.at kept.passed
     ∙ ap (λ (j : ℕ). get_or (cut tab line) j []) last
