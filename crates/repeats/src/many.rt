@@ -17,17 +17,15 @@ fn last_field(s: &[u8], end: usize) -> Hashed
     requires { (end ≤ length s.now) × (first_at s.now end ≡ []) }
     ensures { LastField s.now end result.start result.hash }
 {
-    let mut start = end;
     let mut hash = 0;
-    while 0 < start {
-        let b = s[start - 1];
+    for i in (0..end).rev() {
+        let b = s[i];
         if b == b'\t' {
-            return Hashed { start, hash };
+            return Hashed { start: i + 1, hash };
         }
         hash = marks::hash_step(b, hash);
-        start -= 1;
     }
-    Hashed { start, hash }
+    Hashed { start: 0, hash }
 }
 
 // Passes a hash: a suspect, if it was marked before.
@@ -35,10 +33,9 @@ fn suspect(passed: &mut [u64; 256], suspects: &mut [u64; 256], h: usize)
     ensures passed_after { passed.new ≡ with_mark passed.old h }
     ensures suspects_after { suspects.new ≡ cond (marked passed.old h) (with_mark suspects.old h) suspects.old }
 {
-    if !marks::note(passed, h) {
-        return;
+    if marks::note(passed, h) {
+        marks::mark(suspects, h);
     }
-    marks::mark(suspects, h);
 }
 
 // Marks every field that stands again behind, and few others.

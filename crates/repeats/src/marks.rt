@@ -27,10 +27,7 @@ fn set_bit(words: &mut [u64; 256], p: usize)
 pub fn marked(words: &[u64; 256], h: usize) -> bool
     ensures { result ≡ marked words.now h }
 {
-    if !is_set(words, h / 262144 % 16384) {
-        return false;
-    }
-    is_set(words, h % 16384)
+    is_set(words, h / 262144 % 16384) && is_set(words, h % 16384)
 }
 
 // Sets both bits of a hash.

@@ -3,10 +3,10 @@ use mathlib.Core.Path.{sym, ◌∙◌}
 use Rattle.repeats.specs.Marks.{marked}
 use Rattle.repeats.proofs.marks.marked.Goals as goal
 
-pub returns-then-not-is_set : goal.returns-then-not-is_set
+pub returns-then-is_set : goal.returns-then-is_set
 unfolding marked
-returns-then-not-is_set c = rw (sym c.is_set.ensures ∙ c.if-not-is_set.true)
+returns-then-is_set c = rw (sym c.is_set.ensures ∙ c.if-is_set.true) c.is_set-then-is_set.ensures
 
-pub returns : goal.returns
+pub returns-else-is_set : goal.returns-else-is_set
 unfolding marked
-returns c = rw (sym c.is_set.ensures ∙ c.if-not-is_set.false) c.is_set-2.ensures
+returns-else-is_set c = rw (sym c.is_set.ensures ∙ c.if-is_set.false) c.if-is_set.false
