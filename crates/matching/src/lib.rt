@@ -38,11 +38,8 @@ fn lay(plane: &[u64; 64], size: usize, at: usize, to: &mut [u64])
 {
     let first = at / 64;
     let s = at % 64;
-    let end = (at + size + 63) / 64;
-    let mut w = first;
-    while w < end {
+    for w in first..(at + size + 63) / 64 {
         to[w] |= word_moved(plane, w - first, s);
-        w += 1;
     }
 }
 
@@ -64,14 +61,12 @@ fn spread_values(plane: &[u64; 64], size: usize, mask: u16, count: usize) -> [u6
     let mut to = [0u64; 64];
     let mut rest = mask;
     let mut at = 0;
-    let mut v = 0;
-    while v < count {
+    for _v in 0..count {
         if rest % 2 == 1 {
             lay(plane, size, at, &mut to);
         }
         rest /= 2;
         at += size;
-        v += 1;
     }
     to
 }
@@ -137,9 +132,7 @@ fn match_masks(masks: [u16; 6], several: [bool; 6], counts: [usize; 6], len: usi
     let mut plane = [0u64; 64];
     plane[0] = 1;
     let mut size = 1;
-    let mut a = len;
-    while 0 < a {
-        a -= 1;
+    for a in (0..len).rev() {
         let count = counts[a];
         plane = spread(&plane, size, several[a], masks[a], count);
         size = count * size;
@@ -152,11 +145,7 @@ pub fn copy_plane(plane: &[u64; 64], words: usize, at: usize, hits: &mut [u64])
     requires { (words ≤ 64) × (words ≤ length plane.now) × (at + words ≤ length hits.old) }
     ensures { hits.new ≡ paste hits.old at plane.now words }
 {
-    let mut k = 0;
-    while k < words {
-        hits[at + k] = plane[k];
-        k += 1;
-    }
+    hits[at..at + words].copy_from_slice(&plane[..words]);
 }
 
 // Lays down which requests match each element's own target. All other words stay.
@@ -164,14 +153,14 @@ pub fn match_all(table: &[u16], shape: Shape, hits: &mut [u64])
     requires { Matchable table.now shape hits.old }
     ensures { HitsLaid table.now hits.new shape × Rest shape.n shape.space hits.old hits.new }
 {
-    let n = shape.n;
-    let several = shape.several;
-    let counts = shape.counts;
     let words = (shape.space + 63) / 64;
-    let mut i = 0;
-    while i < n {
-        let plane = match_masks(table::masks_at(table, i), several, counts, shape.len);
+    for i in 0..shape.n {
+        let plane = match_masks(
+            table::masks_at(table, i),
+            shape.several,
+            shape.counts,
+            shape.len,
+        );
         copy_plane(&plane, words, 64 * i, hits);
-        i += 1;
     }
 }

@@ -1,27 +1,20 @@
--- `copy_plane`: the first k words are copied. Assumes nothing.
+-- `copy_plane`: a part of a slice is copied over a part of another. Assumes nothing.
+use mathlib.Core.Path.{sym, ap, ◌∙◌}
+use mathlib.Core.List.{◌++◌}
 use Prim.Native.Nat.{◌+◌}
 use native.Mathlib.Omega.{arith}
-use borrow.Author.Rules.{rules}
-use native.Mathlib.Numerals.{add-one}
-use lib.ListN.{set, get_or, length-set}
-use lib.Seq.{paste-zero, paste-suc}
-use mathlib.Core.Path.{◌≡◌, refl, ap, ◌∙◌}
+use lib.ListN.{take, drop}
+use lib.Seq.{length-take-le}
+use Rattle.std.proofs.lemmas.List.{take_all}
+use Rattle.std.proofs.lemmas.Slice.{put_mid-paste}
 use Rattle.matching.proofs.copy_plane.Goals as goal
-
-pub loop-k-init : goal.loop-k-init
-loop-k-init c = (search rules, refl, paste-zero c.args.hits.now c.args.at c.args.plane.now)
-
-pub loop-k-preserved : goal.loop-k-preserved
-loop-k-preserved c =
-    let turn = c.loop-k in
-    let old = c.args.hits.now in
-    let plane = c.args.plane.now in
-    let at = c.args.at in
-    let next = paste-suc old at plane turn.k 0 (omega arith) (omega arith) in
-    (search rules, simp length-set turn.invariant.1, ap (λ xs. set xs (at + turn.k) (get_or plane turn.k 0)) turn.invariant.2 ∙ rw add-one next)
 
 pub returns : goal.returns
 returns c =
-    let turn = c.loop-k in
-    let all : turn.k ≡ c.args.words = omega arith in
-    rw all at turn.invariant.2
+    let hits = c.args.hits.now in
+    let words = c.args.words in
+    let at = c.args.at in
+    let part = take words c.args.plane.now in
+    let size = length-take-le words c.args.plane.now c.requires.1 in
+    put_mid-paste at _ hits _ part words c.copy_from_slice.ensures.after (omega arith) (sym size)
+    ∙ ap (λ s. take at hits ++ s ++ drop (at + words) hits) (take_all words part (omega (arith, size)))

@@ -1,5 +1,4 @@
 -- `match_all`: the words of the first i elements are right. Assumes nothing.
-use Prim.Native.Nat.{◌-◌, ◌≤◌}
 use mathlib.Core.Path.{◌≡◌}
 use lib.ListN.{length}
 use Rattle.table.specs.Shape.{hit_of}
@@ -7,7 +6,4 @@ use Rattle.matching.specs.Hits.{Hits, Rest}
 use Rattle.matching.proofs.match_all.Given as goal
 
 abbrev pub invariant-loop-i : goal.invariant-loop-i
-invariant-loop-i l = (l.i ≤ l.n) × (length l.hits ≡ length l.initial.hits) × Hits l.table l.i (hit_of l.shape) l.shape.space l.hits × Rest l.i l.shape.space l.initial.hits l.hits
-
-abbrev pub decreases-loop-i : goal.decreases-loop-i
-decreases-loop-i l = l.n - l.i
+invariant-loop-i l = (length l.hits ≡ length l.initial.hits) × Hits l.table l.i (hit_of l.shape) l.shape.space l.hits × Rest l.i l.shape.space l.initial.hits l.hits

@@ -6,6 +6,3 @@ use Rattle.matching.proofs.match_masks.Given as goal
 
 abbrev pub invariant-loop-a : goal.invariant-loop-a
 invariant-loop-a l = (length l.plane ≡ 64) × Looks l.several l.masks l.counts l.len l.plane l.size l.a
-
-abbrev pub decreases-loop-a : goal.decreases-loop-a
-decreases-loop-a l = l.a
