@@ -1,26 +1,44 @@
 -- The first request that shows a conflict: the lowest bit of the first block whose word has one.
 use Prim.Native.Nat.{ℕ, ◌+◌, ◌*◌, ◌/◌, ◌%◌, ◌≤◌, ◌<◌, zero-le}
-use mathlib.Core.Path.{◌≡◌, sym, ap, ap₂, ◌∙◌}
+use mathlib.Core.Path.{◌≡◌, refl, sym, ap, ap₂, ◌∙◌}
 use mathlib.Core.Bool.{Bool, false, ◌&&◌, ◌||◌}
 use mathlib.Core.List.{List}
-use mathlib.Core.Option.{none, some}
+use mathlib.Core.Option.{Option, none, some}
 use native.Mathlib.Omega.{arith}
 use lib.Bits.{bit_and, bit_or}
 use lib.Dec.{leb}
 use lib.ListN.{get_or}
 use borrow.Author.Tests.{leb-true, leb-false}
+use Rattle.std.specs.Prelude.{Option as Found, unwrap_or}
 use Rattle.meaning.specs.declared.Decision.{Decision}
 use Rattle.meaning.specs.Text.{first_from}
 use Rattle.meaning.specs.Deciding.{bit}
 use Rattle.meaning.specs.declared.Element.{Element}
+use Rattle.laws.specs.Found.{found}
 use Rattle.laws.proofs.Bits.{bit_and_lem, bit_or_lem, bit_zero}
 use Rattle.laws.proofs.Bools.{Test, passed, failed, test}
-use Rattle.laws.proofs.Search.{first_is, first_absent}
+use Rattle.laws.proofs.Search.{first_some, first_is, first_absent}
 use Rattle.table.specs.Tree.{place_or}
 use Rattle.outcomes.proofs.Searching.{first_alike}
 use Rattle.blocks.specs.Bits.{Lowest}
 use Rattle.rows.specs.Rows.{Applied, Given}
 use Rattle.conflicts.specs.Pairs.{shows_at, shown_by, shown_for, Pairs}
+
+-- What is found of the requests, or else their number
+module _ (t : ℕ → Bool) (space : ℕ) {r : ℕ} {o : Found ℕ} (first : o ≡ found (first_from t 0 space)) (is : r ≡ unwrap_or o space) where
+  pub first_or : r ≡ place_or space (first_from t 0 space)
+  first_or = is ∙ ap (λ x. unwrap_or x space) first ∙ go (first_from t 0 space)
+    where
+      go : (m : Option ℕ) → unwrap_or (found m) space ≡ place_or space m
+      go none = refl
+      go (some m) = refl
+
+  pub first_within : r ≤ space
+  first_within = rw first_or (go (first_from t 0 space) refl)
+    where
+      go : (m : Option ℕ) → first_from t 0 space ≡ m → place_or space m ≤ space
+      go none e = omega arith
+      go (some m) e = omega (arith, (first_some t 0 space m e).high)
 
 -- The word of block b: its bits are the requests of the block that show the conflict
 module _ (applied permits denies : List ℕ) (i j k : ℕ) where

@@ -3,10 +3,10 @@
 
 ghost use Rattle.std.specs.Prelude.{◌≡◌, ℕ, ◌*◌, ◌/◌, ◌%◌, ◌≤◌, ◌<◌, get_or};
 ghost use Rattle.meaning.specs.Text.{first_from};
-ghost use Rattle.table.specs.Tree.{place_or};
+ghost use Rattle.laws.specs.Found.{found};
 ghost use Rattle.conflicts.specs.Pairs.{shown_by, Later, PairsOf, Pairs, OthersStay, Laid, Pairing};
 
-// The first request that shows a conflict of j and k under i, or the number of requests.
+// The first request that shows a conflict of j and k under i.
 fn first_shown(
     applied: &[u64],
     permits: &[u64],
@@ -15,29 +15,28 @@ fn first_shown(
     i: usize,
     j: usize,
     k: usize,
-) -> usize
+) -> Option<usize>
     requires { Laid applied.now permits.now denies.now space × (i < 64) × (j < 64) × (k < 64) }
-    ensures { (result ≡ place_or space (first_from (shown_by applied.now permits.now denies.now i j k) 0 space)) × (result ≤ space) }
+    ensures { result ≡ found (first_from (shown_by applied.now permits.now denies.now i j k) 0 space) }
 {
     let blocks = (space + 63) / 64;
-    let mut b = 0;
-    while b < blocks {
+    for b in 0..blocks {
         let first = permits[64 * j + b] & denies[64 * k + b];
         let second = denies[64 * j + b] & permits[64 * k + b];
         let word = applied[64 * i + b] & (first | second);
         if word != 0 {
             let m = 64 * b + blocks::lowest(word) as usize;
             if m < space {
-                return m;
+                return Some(m);
             }
-            return space;
+            return None;
         }
-        b += 1;
     }
-    space
+    None
 }
 
 // Lays down at 64 j + k, for each later child k of j's parent, the first request that shows a conflict of j and k, or the number of requests. All other places stay.
+// (The number stands for none: 64 times 64 options would take four times the controller's memory.)
 fn pair_later(
     parents: &[usize],
     applied: &[u64],
@@ -55,14 +54,12 @@ fn pair_later(
     if n <= parent {
         return;
     }
-    let mut k = j + 1;
-    while k < n {
+    for k in j + 1..n {
         if parents[k] != parent {
-            k += 1;
             continue;
         }
-        pairs[64 * j + k] = first_shown(applied, permits, denies, space, parent, j, k) as u16;
-        k += 1;
+        let shown = first_shown(applied, permits, denies, space, parent, j, k);
+        pairs[64 * j + k] = shown.unwrap_or(space) as u16;
     }
 }
 
@@ -79,9 +76,7 @@ pub fn pair_all(
     requires { Pairing parents.now applied.now permits.now denies.now n space pairs.old }
     ensures { Pairs parents.now (shown_by applied.now permits.now denies.now) n space pairs.new × OthersStay parents.now n pairs.old pairs.new }
 {
-    let mut j = 0;
-    while j < n {
+    for j in 0..n {
         pair_later(parents, applied, permits, denies, n, space, j, pairs);
-        j += 1;
     }
 }

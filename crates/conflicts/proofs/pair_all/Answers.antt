@@ -6,13 +6,13 @@ use Rattle.conflicts.proofs.PairSteps.{pairs_more, others_more}
 use Rattle.conflicts.proofs.pair_all.Goals as goal
 
 pub loop-j-init : goal.loop-j-init
-loop-j-init c = (search rules, λ i l. absurd (omega arith), refl, λ i h. refl)
+loop-j-init c = (λ i l. absurd (omega arith), refl, λ i h. refl)
 
 pub pair_later-requires : goal.pair_later-requires
 pair_later-requires c =
     let pre = c.requires in
     let l = c.loop-j in
-    (record { few = pre.few; parents_room = pre.parents_room; rows = pre.rows; pairs_room = omega (arith, pre.pairs_room, l.invariant.2) }, omega arith)
+    (record { few = pre.few; parents_room = pre.parents_room; rows = pre.rows; pairs_room = omega (arith, pre.pairs_room, l.invariant.1) }, omega arith)
 
 pub loop-j-preserved : goal.loop-j-preserved
 loop-j-preserved c =
@@ -21,13 +21,12 @@ loop-j-preserved c =
     let few = c.requires.few in
     let call = c.pair_later in
     let new = call.new.pairs in (
-      omega arith,
-      pairs_more args.parents.now (shown_by args.applied.now args.permits.now args.denies.now) args.n args.space few l.j l.pairs new l.invariant.1 call.ensures.0 call.ensures.1,
+      pairs_more args.parents.now (shown_by args.applied.now args.permits.now args.denies.now) args.n args.space few l.j l.pairs new l.invariant.0 call.ensures.0 call.ensures.1,
       search rules,
-      others_more args.parents.now args.n l.j args.pairs.now l.pairs new l.invariant.3 call.ensures.1,
+      others_more args.parents.now args.n l.j args.pairs.now l.pairs new l.invariant.2 call.ensures.1,
     )
 
 pub returns : goal.returns
 returns c =
     let l = c.loop-j in
-    (λ j k child. l.invariant.1 j (omega (arith, child.after, child.within)) k child, l.invariant.3)
+    (λ j k child. l.invariant.0 j (omega (arith, child.after, child.within)) k child, l.invariant.2)

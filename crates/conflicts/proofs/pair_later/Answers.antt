@@ -2,8 +2,8 @@ use mathlib.Core.Path.{refl, sym}
 use Prim.Native.Nat.{◌+◌, ◌*◌, ◌<◌}
 use native.Mathlib.Omega.{arith}
 use lib.ListN.{length}
-use borrow.Author.Rules.{rules}
 use Rattle.conflicts.specs.Pairs.{shown_by, Later}
+use Rattle.conflicts.proofs.Showing.{first_or, first_within}
 use Rattle.conflicts.proofs.PairSteps.{pairs_begun, pair_skipped, pair_laid, pairs_ended, no_pair}
 use Rattle.conflicts.proofs.pair_later.Goals as goal
 
@@ -15,34 +15,37 @@ returns-then-n-parent c =
 pub loop-k-init : goal.loop-k-init
 loop-k-init c =
     let args = c.args in
-    (search rules, search rules, pairs_begun args.parents.now (shown_by args.applied.now args.permits.now args.denies.now) args.n args.space args.pairs.now args.j, refl)
+    (pairs_begun args.parents.now (shown_by args.applied.now args.permits.now args.denies.now) args.n args.space args.pairs.now args.j, refl)
 
 pub loop-k-preserved-then-parents-k : goal.loop-k-preserved-then-parents-k
 loop-k-preserved-then-parents-k c =
     let args = c.args in
     let l = c.loop-k in
-    (omega arith, omega arith, pair_skipped args.parents.now (shown_by args.applied.now args.permits.now args.denies.now) args.n args.space args.pairs.now args.j l.k l.pairs l.invariant.2 c.if-parents-k.true, l.invariant.3)
+    (pair_skipped args.parents.now (shown_by args.applied.now args.permits.now args.denies.now) args.n args.space args.pairs.now args.j l.k l.pairs l.invariant.0 c.if-parents-k.true, l.invariant.1)
 
-pub first_shown-requires : goal.first_shown-requires
-first_shown-requires c =
+pub first_shown-shown-requires : goal.first_shown-shown-requires
+first_shown-shown-requires c =
     let pre = c.requires in
     (pre.0.rows, omega (arith, pre.0.few), omega (arith, pre.0.few), omega (arith, pre.0.few))
 
+pub overflow_cast-pairs : goal.overflow_cast-pairs
+overflow_cast-pairs c = omega (arith, first_within _ _ c.first_shown-shown.ensures c.unwrap_or.ensures, c.requires.0.rows.small)
+
 pub bounds-pairs-j : goal.bounds-pairs-j
-bounds-pairs-j c = omega (arith, c.requires.0.few, c.requires.0.pairs_room, c.loop-k.invariant.3)
+bounds-pairs-j c = omega (arith, c.requires.0.few, c.requires.0.pairs_room, c.loop-k.invariant.1)
 
 pub loop-k-preserved : goal.loop-k-preserved
 loop-k-preserved c =
     let args = c.args in
     let l = c.loop-k in
     let pre = c.requires in
-    let room : 64 * args.j + l.k < length l.pairs = omega (arith, pre.0.few, pre.0.pairs_room, l.invariant.3) in
-    let later : Later args.parents.now args.n args.j l.k = record { after = l.invariant.0; within = omega arith; siblings = sym c.if-parents-k.false; some = c.if-n-parent.false } in
-    let laid = pair_laid args.parents.now (shown_by args.applied.now args.permits.now args.denies.now) args.n args.space args.pairs.now args.j l.k l.pairs l.invariant.2 _ _ refl pre.0.few later room c.first_shown.ensures.0 in
-    (omega arith, omega arith, laid, laid.same_length)
+    let room : 64 * args.j + l.k < length l.pairs = omega (arith, pre.0.few, pre.0.pairs_room, l.invariant.1) in
+    let later : Later args.parents.now args.n args.j l.k = record { after = omega arith; within = omega arith; siblings = sym c.if-parents-k.false; some = c.if-n-parent.false } in
+    let laid = pair_laid args.parents.now (shown_by args.applied.now args.permits.now args.denies.now) args.n args.space args.pairs.now args.j l.k l.pairs l.invariant.0 _ _ refl pre.0.few later room (first_or _ _ c.first_shown-shown.ensures c.unwrap_or.ensures) in
+    (laid, laid.same_length)
 
 pub returns : goal.returns
 returns c =
     let args = c.args in
     let l = c.loop-k in
-    (pairs_ended args.parents.now (shown_by args.applied.now args.permits.now args.denies.now) args.n args.space args.pairs.now args.j l.k l.pairs l.invariant.2 (omega (arith, c.loop-k-test)), l.invariant.2.others)
+    (pairs_ended args.parents.now (shown_by args.applied.now args.permits.now args.denies.now) args.n args.space args.pairs.now args.j l.k l.pairs l.invariant.0 (omega (arith, c.loop-k-test)), l.invariant.0.others)
