@@ -43,16 +43,13 @@ fn put_later(
 {
     let n = shape.n;
     let parent = parents[j];
-    let mut k = j + 1;
     let mut end = at;
-    while k < n {
+    for k in j + 1..n {
         if parents[k] != parent {
-            k += 1;
             continue;
         }
         let request = pairs[64 * j + k] as usize;
         if shape.space <= request {
-            k += 1;
             continue;
         }
         let conflict = Conflict {
@@ -62,7 +59,6 @@ fn put_later(
             request,
         };
         end = put_conflict(file, places, conflict, out, end);
-        k += 1;
     }
     end
 }
@@ -82,15 +78,12 @@ pub(crate) fn put_pairs(
     ensures { Wrote out.old at (pair_lines file.now places.now shape.n parents.now pairs.now shape.space i) out.new result × (result ≤ at + 2048000) }
 {
     let n = shape.n;
-    let mut j = 0;
     let mut end = at;
-    while j < n {
+    for j in 0..n {
         if parents[j] != i {
-            j += 1;
             continue;
         }
         end = put_later(file, places, shape, parents, pairs, j, out, end);
-        j += 1;
     }
     end
 }

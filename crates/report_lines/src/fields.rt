@@ -43,16 +43,13 @@ fn put_later_names(
     requires { Naming file.now places.now n × (from ≤ n) × (at ≤ 4000000000) }
     ensures { Wrote out.old at (later_names file.now places.now n word from) out.new result × (result ≤ at + 17 * (n - from)) }
 {
-    let mut i = from;
     let mut end = at;
-    while i < n {
+    for i in from..n {
         if !rows::has(word, i) {
-            i += 1;
             continue;
         }
         let name = printing::put(out, end, b',');
         end = put_name(file, places, i, out, name);
-        i += 1;
     }
     end
 }
@@ -69,14 +66,12 @@ pub(crate) fn put_names(
     requires { Naming file.now places.now n × (at ≤ 3000000000) }
     ensures { Wrote out.old at (or_dash (names_of file.now places.now n word) ++ (newline ∷ [])) out.new result × (result ≤ at + 1200) }
 {
-    let mut i = 0;
-    while i < n {
+    for i in 0..n {
         if rows::has(word, i) {
             let first = put_name(file, places, i, out, at);
             let end = put_later_names(file, places, n, word, i + 1, out, first);
             return printing::put(out, end, 10);
         }
-        i += 1;
     }
     printing::put_field(out, at, b"-", 10)
 }

@@ -30,12 +30,10 @@ pub fn put_segments(
     ensures { Wrote out.old at (segment_text file.now places.now shape.n words.now sizes.now decided.now shape.space) out.new result × (result ≤ at + 40960000) }
 {
     let space = shape.space;
-    let mut m = 0;
     let mut end = at;
-    while m < space {
+    for m in 0..space {
         let size = sizes[m];
         if size == 0 {
-            m += 1;
             continue;
         }
         let segment = Segment {
@@ -45,7 +43,6 @@ pub fn put_segments(
             word: words[m],
         };
         end = segment_lines::put_segment(file, places, shape.n, segment, out, end);
-        m += 1;
     }
     end
 }
@@ -64,11 +61,9 @@ pub fn put_conflicts(
     ensures { Wrote out.old at (conflict_text file.now places.now shape.n parents.now pairs.now shape.space) out.new result × (result ≤ at + 131072000) }
 {
     let n = shape.n;
-    let mut i = 0;
     let mut end = at;
-    while i < n {
+    for i in 0..n {
         end = conflict_lines::put_pairs(file, places, shape, parents, pairs, i, out, end);
-        i += 1;
     }
     end
 }
@@ -85,11 +80,9 @@ pub fn put_struck(
     requires { Ordered file.now places.now order.now count × (at ≤ 2000000000) }
     ensures { Wrote out.old at (struck_text file.now places.now order.now count) out.new result × (result ≤ at + 32000) }
 {
-    let mut k = 0;
     let mut end = at;
-    while k < count {
+    for k in 0..count {
         end = rule_lines::put_struck_rule(file, places, order[k], out, end);
-        k += 1;
     }
     end
 }
@@ -107,11 +100,9 @@ pub fn put_kept(
     ensures { Wrote out.old at (kept_text file.now places.now shape.n shown.now shape.space) out.new result × (result ≤ at + 32000) }
 {
     let n = shape.n;
-    let mut i = 0;
     let mut end = at;
-    while i < n {
+    for i in 0..n {
         end = rule_lines::put_kept_rule(file, places, shown, shape.space, i, out, end);
-        i += 1;
     }
     end
 }

@@ -1,29 +1,28 @@
 use native.Mathlib.Omega.{arith}
 use Rattle.printing.proofs.Walks.{begun, stored, ended_all}
 use Rattle.report_lines.specs.Lines.{pair_lines, conflict_text}
-use borrow.Author.Rules.{rules}
 use Rattle.report_lines.proofs.put_conflicts.Goals as goal
 
 pub loop-i-init : goal.loop-i-init
 loop-i-init c =
     let args = c.args in
-    (search rules, begun (pair_lines args.file.now args.places.now args.shape.n args.parents.now args.pairs.now args.shape.space) 2048000 0 args.out.now args.at)
+    begun (pair_lines args.file.now args.places.now args.shape.n args.parents.now args.pairs.now args.shape.space) 2048000 0 args.out.now args.at
 
 pub put_pairs-end-requires : goal.put_pairs-end-requires
 put_pairs-end-requires c =
     let pre = c.requires in
     let l = c.loop-i in
-    (pre.0, pre.1, omega arith, omega (arith, pre.0.few, l.invariant.1.within))
+    (pre.0, pre.1, omega arith, omega (arith, pre.0.few, l.invariant.within))
 
 pub loop-i-preserved : goal.loop-i-preserved
 loop-i-preserved c =
     let args = c.args in
     let l = c.loop-i in
-    (omega arith, stored (pair_lines args.file.now args.places.now args.shape.n args.parents.now args.pairs.now args.shape.space) 2048000 0 args.out.now args.at l.i l.invariant.1 c.put_pairs-end.ensures)
+    stored (pair_lines args.file.now args.places.now args.shape.n args.parents.now args.pairs.now args.shape.space) 2048000 0 args.out.now args.at l.i l.invariant c.put_pairs-end.ensures
 
 pub returns : goal.returns
 unfolding conflict_text
 returns c =
     let args = c.args in
     let l = c.loop-i in
-    (ended_all (pair_lines args.file.now args.places.now args.shape.n args.parents.now args.pairs.now args.shape.space) 2048000 args.out.now args.at l.i l.invariant.1 args.shape.n (omega (arith, l.invariant.0)), omega (arith, l.invariant, c.requires.0.few))
+    (ended_all (pair_lines args.file.now args.places.now args.shape.n args.parents.now args.pairs.now args.shape.space) 2048000 args.out.now args.at l.i l.invariant args.shape.n (omega arith), omega (arith, l.invariant, c.requires.0.few))

@@ -1,10 +1,6 @@
-use Prim.Native.Nat.{◌-◌, ◌≤◌}
 use Rattle.printing.proofs.Walks.{Sofar}
 use Rattle.report_lines.specs.Lines.{pair_lines}
 use Rattle.report_lines.proofs.put_conflicts.Given as goal
 
 abbrev pub invariant-loop-i : goal.invariant-loop-i
-invariant-loop-i l = (l.i ≤ l.n) × Sofar (pair_lines l.file l.places l.shape.n l.parents l.pairs l.shape.space) 2048000 0 l.initial.out l.at l.i l.out l.end
-
-abbrev pub decreases-loop-i : goal.decreases-loop-i
-decreases-loop-i l = l.n - l.i
+invariant-loop-i l = Sofar (pair_lines l.file l.places l.shape.n l.parents l.pairs l.shape.space) 2048000 0 l.initial.out l.at l.i l.out l.end

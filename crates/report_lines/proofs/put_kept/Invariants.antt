@@ -1,10 +1,6 @@
-use Prim.Native.Nat.{◌-◌, ◌≤◌}
 use Rattle.printing.proofs.Walks.{Sofar}
 use Rattle.report_lines.specs.Lines.{kept_line}
 use Rattle.report_lines.proofs.put_kept.Given as goal
 
 abbrev pub invariant-loop-i : goal.invariant-loop-i
-invariant-loop-i l = (l.i ≤ l.n) × Sofar (kept_line l.file l.places l.shown l.shape.space) 500 0 l.initial.out l.at l.i l.out l.end
-
-abbrev pub decreases-loop-i : goal.decreases-loop-i
-decreases-loop-i l = l.n - l.i
+invariant-loop-i l = Sofar (kept_line l.file l.places l.shown l.shape.space) 500 0 l.initial.out l.at l.i l.out l.end

@@ -1,10 +1,6 @@
-use Prim.Native.Nat.{◌-◌, ◌≤◌}
 use Rattle.printing.proofs.Walks.{Sofar}
 use Rattle.report_lines.specs.Lines.{segment_line}
 use Rattle.report_lines.proofs.put_segments.Given as goal
 
 abbrev pub invariant-loop-m : goal.invariant-loop-m
-invariant-loop-m l = (l.m ≤ l.space) × Sofar (segment_line l.file l.places l.shape.n l.words l.sizes l.decided) 10000 0 l.initial.out l.at l.m l.out l.end
-
-abbrev pub decreases-loop-m : goal.decreases-loop-m
-decreases-loop-m l = l.space - l.m
+invariant-loop-m l = Sofar (segment_line l.file l.places l.shape.n l.words l.sizes l.decided) 10000 0 l.initial.out l.at l.m l.out l.end

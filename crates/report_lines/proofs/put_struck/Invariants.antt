@@ -1,11 +1,7 @@
-use Prim.Native.Nat.{◌-◌, ◌≤◌}
 use lib.ListN.{get_or}
 use Rattle.printing.proofs.Walks.{Sofar}
 use Rattle.report_lines.specs.Lines.{struck_line}
 use Rattle.report_lines.proofs.put_struck.Given as goal
 
 abbrev pub invariant-loop-k : goal.invariant-loop-k
-invariant-loop-k l = (l.k ≤ l.count) × Sofar (λ k. struck_line l.file l.places (get_or l.order k 0)) 500 0 l.initial.out l.at l.k l.out l.end
-
-abbrev pub decreases-loop-k : goal.decreases-loop-k
-decreases-loop-k l = l.count - l.k
+invariant-loop-k l = Sofar (λ k. struck_line l.file l.places (get_or l.order k 0)) 500 0 l.initial.out l.at l.k l.out l.end

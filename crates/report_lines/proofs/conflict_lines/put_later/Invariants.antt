@@ -1,10 +1,7 @@
-use Prim.Native.Nat.{◌+◌, ◌-◌, ◌≤◌}
+use Prim.Native.Nat.{◌+◌}
 use Rattle.printing.proofs.Walks.{Sofar}
 use Rattle.report_lines.specs.Lines.{later_line}
 use Rattle.report_lines.proofs.conflict_lines.put_later.Given as goal
 
 abbrev pub invariant-loop-k : goal.invariant-loop-k
-invariant-loop-k l = (l.k ≤ l.n) × Sofar (later_line l.file l.places l.shape.n l.parents l.pairs l.shape.space l.parent l.j) 500 (l.j + 1) l.initial.out l.at l.k l.out l.end
-
-abbrev pub decreases-loop-k : goal.decreases-loop-k
-decreases-loop-k l = l.n - l.k
+invariant-loop-k l = Sofar (later_line l.file l.places l.shape.n l.parents l.pairs l.shape.space l.parent l.j) 500 (l.j + 1) l.initial.out l.at l.k l.out l.end

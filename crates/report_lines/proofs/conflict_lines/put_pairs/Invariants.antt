@@ -1,10 +1,6 @@
-use Prim.Native.Nat.{◌-◌, ◌≤◌}
 use Rattle.printing.proofs.Walks.{Sofar}
 use Rattle.report_lines.specs.Lines.{later_lines}
 use Rattle.report_lines.proofs.conflict_lines.put_pairs.Given as goal
 
 abbrev pub invariant-loop-j : goal.invariant-loop-j
-invariant-loop-j l = (l.j ≤ l.n) × Sofar (later_lines l.file l.places l.shape.n l.parents l.pairs l.shape.space l.i) 32000 0 l.initial.out l.at l.j l.out l.end
-
-abbrev pub decreases-loop-j : goal.decreases-loop-j
-decreases-loop-j l = l.n - l.j
+invariant-loop-j l = Sofar (later_lines l.file l.places l.shape.n l.parents l.pairs l.shape.space l.i) 32000 0 l.initial.out l.at l.j l.out l.end

@@ -1,10 +1,6 @@
-use Prim.Native.Nat.{◌-◌, ◌≤◌}
 use Rattle.report_lines.specs.Lines.{comma_name}
 use Rattle.printing.proofs.Walks.{Sofar}
 use Rattle.report_lines.proofs.fields.put_later_names.Given as goal
 
 abbrev pub invariant-loop-i : goal.invariant-loop-i
-invariant-loop-i l = (l.i ≤ l.n) × Sofar (comma_name l.file l.places l.n l.word) 17 l.from l.initial.out l.at l.i l.out l.end
-
-abbrev pub decreases-loop-i : goal.decreases-loop-i
-decreases-loop-i l = l.n - l.i
+invariant-loop-i l = Sofar (comma_name l.file l.places l.n l.word) 17 l.from l.initial.out l.at l.i l.out l.end

@@ -1,12 +1,9 @@
 use mathlib.Core.Path.{◌≡◌}
-use Prim.Native.Nat.{◌-◌, ◌≤◌}
+use Prim.Native.Nat.{◌-◌}
 use lib.ListN.{length}
 use Rattle.report_lines.specs.Lines.{names_of}
 use Rattle.report_lines.proofs.Names.{names_from}
 use Rattle.report_lines.proofs.fields.put_names.Given as goal
 
 abbrev pub invariant-loop-i : goal.invariant-loop-i
-invariant-loop-i l = (l.i ≤ l.n) × (names_of l.file l.places l.n l.word ≡ names_from l.file l.places l.n l.word l.i (l.n - l.i)) × (l.out ≡ l.initial.out) × (length l.out ≡ length l.initial.out)
-
-abbrev pub decreases-loop-i : goal.decreases-loop-i
-decreases-loop-i l = l.n - l.i
+invariant-loop-i l = (names_of l.file l.places l.n l.word ≡ names_from l.file l.places l.n l.word l.i (l.n - l.i)) × (l.out ≡ l.initial.out) × (length l.out ≡ length l.initial.out)
