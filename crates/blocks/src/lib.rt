@@ -4,12 +4,12 @@
 ghost use Rattle.std.specs.Prelude.{◌≡◌, ℕ, ◌+◌, ◌*◌, ◌≤◌, ◌<◌, Bool, not, ◌&&◌, [], ◌∷◌, get_or};
 ghost use Rattle.meaning.specs.declared.Element.{Element};
 ghost use Rattle.meaning.specs.declared.Word.TheVariants.{DenyOverrides, PermitOverrides, FirstApplicable, OnlyOneApplicable};
-ghost use Rattle.meaning.specs.Deciding.{bit, is, decision_number, combined};
+ghost use Rattle.meaning.specs.Deciding.{bit, is, combined};
 ghost use Rattle.table.specs.Rows.{algorithm_of};
 ghost use Rattle.decisions.specs.Replies.{next_of, step_of, replies_from, reply_at};
 ghost use Rattle.blocks.specs.Bits.{decision_bit, reply_bit, Answers, Fits, Lowest};
 
-use meaning::Word;
+use meaning::{Decision, Word};
 
 // Which requests are permitted and which denied: both is indeterminate, none not-applicable.
 #[derive(Clone, Copy)]
@@ -194,19 +194,18 @@ impl Block<'_> {
     }
 }
 
-// The number of the decision on the request whose bit is v.
-pub fn outcome_number(effects: Effects, v: usize) -> usize
+// The decision on the request whose bit is v.
+pub fn decision_of(effects: Effects, v: usize) -> Decision
     requires { v < 64 }
-    ensures { (result ≡ decision_number (decision_bit effects v)) × (result < 4) }
+    ensures { result ≡ decision_bit effects v }
 {
     let permitted = (effects.permits >> v) % 2 == 1;
     let denied = (effects.denies >> v) % 2 == 1;
-    if permitted {
-        if denied { 3 } else { 0 }
-    } else if denied {
-        1
-    } else {
-        2
+    match (permitted, denied) {
+        (true, true) => Decision::Indeterminate,
+        (true, false) => Decision::Permit,
+        (false, true) => Decision::Deny,
+        (false, false) => Decision::NotApplicable,
     }
 }
 

@@ -2,30 +2,31 @@
 use mathlib.Core.Path.{◌≡◌, refl, ap, ◌∙◌, subst}
 use Prim.Native.Nat.{ℕ, ◌+◌, ◌-◌, ◌*◌, ◌≤◌, ◌<◌, zero-le}
 use native.Mathlib.Omega.{arith}
-use mathlib.Core.Bool.{Bool, false, cond}
+use mathlib.Core.Bool.{Bool, false}
 use mathlib.Core.List.{List, []}
-use mathlib.Core.Logic.{⊎_elim}
+use mathlib.Core.Logic.{◌⊎◌, ⊎_elim}
 use native.Mathlib.Nat.{eq-or-lt_of_le}
-use lib.Dec.{eqb, ltb}
+use lib.Dec.{ltb}
 use lib.ListN.{length, get_or, set, replicate}
 use lib.Seq.{get_or-set_same, get_or-set_other}
 use borrow.Author.Tests.{le-ltb}
+use denote.Enum.Bare.{sameb}
+use Rattle.meaning.specs.contracts.Decision.{the_type}
 use Rattle.meaning.specs.declared.Answer.{Answer}
-use Rattle.meaning.specs.declared.Decided.{Decided}
 use Rattle.meaning.specs.declared.Element.{Element}
 use Rattle.meaning.specs.Text.{Bytes}
 use Rattle.meaning.specs.declared.Decision.{Decision}
-use Rattle.meaning.specs.Deciding.{Outcome, decision_number, bit, matches}
+use Rattle.meaning.specs.Deciding.{Outcome, bit, matches}
 use Rattle.laws.proofs.Bools.{Test, passed, failed, test}
 use Rattle.requests.specs.declared.Request.{Request}
 use Rattle.requests.specs.Values.{values_of, severals_of}
 use Rattle.table.specs.Rows.{element_at}
 use Rattle.blocks.specs.Bits.{Answers}
 use Rattle.printing.specs.Fitted.{Fitted}
-use Rattle.chains.specs.Chain.{alike, chained}
+use Rattle.chains.specs.Chain.{chained}
 use Rattle.obligations.specs.Given.{given_text, effect, marks_in, any_obliged, Giving}
 use Rattle.obligations.proofs.Texts.{text_alike, text_undecided, none_given}
-use Rattle.deciding.specs.Told.{outcome_on, Told, Asking}
+use Rattle.deciding.specs.Told.{deciding, Effect, outcome_on, Told, Asking}
 
 -- one element's word more
 pub next_answers : (t hits : List ℕ) (i w : ℕ) (hit : Element → Bool) → 64 * i < length hits → bit w 0 ≡ hit (element_at t i) → Answers t hits i 0 0 hit → Answers t (set hits (64 * i) w) (i + 1) 0 0 hit
@@ -43,11 +44,8 @@ next_answers t hits i w hit room is so_far j l = ⊎_elim here before (eq-or-lt_
     before : j < i → bit (get_or (set hits (64 * i) w) (64 * j + 0) 0) 0 ≡ hit (element_at t j)
     before below = ap (λ x. bit x 0) (get_or-set_other hits (64 * i) (64 * j + 0) w 0 (λ e. omega arith)) ∙ so_far j below
 
--- the answer with a decision, from the answer for the text of its obligations
-abbrev pub deciding : Answer → ℕ → Decided
-deciding told d = cond (eqb told.number 0) (record { number = 0; second = d; length = told.second }) (record { number = told.number; second = told.second; length = 0 })
-
-told_so : (o : Outcome) (old new : Bytes) (a : Answer) (d : ℕ) → Fitted old o.obligations new a → d ≡ decision_number o.decision → Told old new o (deciding a d)
+-- the answer for an outcome, from the answer for the text of its obligations
+told_so : (o : Outcome) (old new : Bytes) (a : Answer) (d : Decision) → Fitted old o.obligations new a → d ≡ o.decision → Told old new o (deciding a d)
 told_so o old new a d fits is = go (test (ltb (length old) (length o.obligations)))
   where
     go : Test (ltb (length old) (length o.obligations)) → Told old new o (deciding a d)
@@ -55,7 +53,7 @@ told_so o old new a d fits is = go (test (ltb (length old) (length o.obligations
     go (failed x) = record { answers = rw (fits.answers, is, x); lends = fits.lends ∙ rw x }
 
 -- where no obligations come the buffer stays
-none_told : (o : Outcome) (old : Bytes) (d : ℕ) → o.obligations ≡ [] → d ≡ decision_number o.decision → Told old old o (record { number = 0; second = d; length = 0 })
+none_told : (o : Outcome) (old : Bytes) (d : Decision) → o.obligations ≡ [] → d ≡ o.decision → Told old old o (deciding (record { number = 0; second = 0 }) d)
 none_told o old d none is = let fits : ltb (length old) 0 ≡ false = le-ltb (length old) 0 zero-le in record { answers = rw (none, is, fits); lends = rw (none, fits) }
 
 -- the words of who gave the decision are enough for the text
@@ -66,40 +64,33 @@ pub places_room : {f table places : List ℕ} {n : ℕ} {q : Request} → Asking
 places_room {n = n} ready = let last : n - 1 < n = omega (arith, ready.some) in omega (arith, ready.some, (ready.each (n - 1) last).room)
 
 -- which is that of the outcome
-effect_is : (d : Decision) → decision_number d < 2 → effect (eqb (decision_number d) 0) ≡ d
+effect_is : (d : Decision) → Effect d → effect (sameb the_type d Decision.Permit) ≡ d
 effect_is Decision.Permit l = refl
 effect_is Decision.Deny l = refl
 effect_is Decision.NotApplicable l = absurd (omega arith)
 effect_is Decision.Indeterminate l = absurd (omega arith)
 
-text_is : (f table places given : List ℕ) (n : ℕ) (q : Request) (d : ℕ) → d < 2 → d ≡ decision_number (outcome_on f table places n q).decision
+text_is : (f table places given : List ℕ) (n : ℕ) (q : Request) (d : Decision) {permit : Bool} → Effect d → d ≡ (outcome_on f table places n q).decision → permit ≡ sameb the_type d Decision.Permit
     → ((i : ℕ) → i < n → bit (get_or given i 0) 0 ≡ chained (matches (severals_of q) (values_of q)) table (replicate 64 0) n i)
-    → given_text (effect (eqb d 0)) (marks_in given 0) f places n ≡ (outcome_on f table places n q).obligations
-text_is f table places given n q d l is marks =
+    → given_text (effect permit) (marks_in given 0) f places n ≡ (outcome_on f table places n q).obligations
+text_is f table places given n q d l is permitted marks =
     let decision = (outcome_on f table places n q).decision in
-    let own : effect (eqb d 0) ≡ decision = ap (λ x. effect (eqb x 0)) is ∙ effect_is decision (omega (arith, is)) in
-    ap (λ x. given_text x (marks_in given 0) f places n) own ∙ text_alike decision f places (marks_in given 0) (chained (matches (severals_of q) (values_of q)) table (replicate 64 0) n) n marks
+    ap (λ x. given_text x (marks_in given 0) f places n) (ap effect permitted ∙ effect_is d l ∙ is) ∙ text_alike decision f places (marks_in given 0) (chained (matches (severals_of q) (values_of q)) table (replicate 64 0) n) n marks
 
 -- so the answer for the text is the answer for the outcome
-pub given_told : (f table places : List ℕ) (n : ℕ) (q : Request) (d : ℕ) → d < 2 → d ≡ decision_number (outcome_on f table places n q).decision → (given : List ℕ) {old new : List ℕ} {a : Answer}
+pub given_told : (f table places : List ℕ) (n : ℕ) (q : Request) (d : Decision) {permit : Bool} → Effect d → d ≡ (outcome_on f table places n q).decision → permit ≡ sameb the_type d Decision.Permit → (given : List ℕ) {old new : List ℕ} {a : Answer}
     → ((i : ℕ) → i < n → bit (get_or given i 0) 0 ≡ chained (matches (severals_of q) (values_of q)) table (replicate 64 0) n i)
-    → Fitted old (given_text (effect (eqb d 0)) (marks_in given 0) f places n) new a → Told old new (outcome_on f table places n q) (deciding a d)
-given_told f table places n q d l is given {old} {new} {a} marks fits =
-    told_so (outcome_on f table places n q) old new a d (subst (λ t. Fitted old t new a) (text_is f table places given n q d l is marks) fits) is
+    → Fitted old (given_text (effect permit) (marks_in given 0) f places n) new a → Told old new (outcome_on f table places n q) (deciding a d)
+given_told f table places n q d l is permitted given {old} {new} {a} marks fits =
+    told_so (outcome_on f table places n q) old new a d (subst (λ t. Fitted old t new a) (text_is f table places given n q d l is permitted marks) fits) is
 
 -- no obligations come: the decision is neither permit nor deny, or the file has none
-alike_number : (d : Decision) → 1 < decision_number d → alike d d ≡ false
-alike_number Decision.Permit l = absurd (omega arith)
-alike_number Decision.Deny l = absurd (omega arith)
-alike_number Decision.NotApplicable l = refl
-alike_number Decision.Indeterminate l = refl
-
-module _ (f table places : List ℕ) (n : ℕ) (q : Request) (old : Bytes) (d : ℕ) (is : d ≡ decision_number (outcome_on f table places n q).decision) where
+module _ (f table places : List ℕ) (n : ℕ) (q : Request) (old : Bytes) (d : Decision) (is : d ≡ (outcome_on f table places n q).decision) where
   abbrev o : Outcome
   o = outcome_on f table places n q
 
-  pub undecided : 1 < d → Told old old o (record { number = 0; second = d; length = 0 })
-  undecided l = none_told o old d (text_undecided o.decision f places (chained (matches (severals_of q) (values_of q)) table (replicate 64 0) n) n (alike_number o.decision (omega (arith, is)))) is
+  pub undecided : (d ≡ Decision.NotApplicable) ⊎ (d ≡ Decision.Indeterminate) → Told old old o (deciding (record { number = 0; second = 0 }) d)
+  undecided other = none_told o old d (text_undecided o.decision f places (chained (matches (severals_of q) (values_of q)) table (replicate 64 0) n) n (rw (← is) (⊎_elim (λ e. rw e) (λ e. rw e) other))) is
 
-  pub unobliged : any_obliged places n ≡ false → Told old old o (record { number = 0; second = d; length = 0 })
+  pub unobliged : any_obliged places n ≡ false → Told old old o (deciding (record { number = 0; second = 0 }) d)
   unobliged none = none_told o old d (none_given o.decision f places (chained (matches (severals_of q) (values_of q)) table (replicate 64 0) n) n none) is

@@ -1,15 +1,25 @@
 -- What a request gets, for a lent buffer.
-use Rattle.std.specs.Prelude.{◌≡◌, ℕ, ◌≤◌, ◌<◌, List, length, replicate}
+use Rattle.std.specs.Prelude.{◌≡◌, ℕ, ◌≤◌, ◌<◌, cond, eqb, List, length, replicate}
+use Rattle.meaning.specs.declared.Answer.{Answer}
 use Rattle.meaning.specs.declared.Decided.{Decided}
+use Rattle.meaning.specs.declared.Decision.{Decision}
 use Rattle.meaning.specs.Text.{Bytes}
 use Rattle.meaning.specs.Model.{Result, given, ◌then◌, fitted}
-use Rattle.meaning.specs.Deciding.{Outcome, matches}
+use Rattle.meaning.specs.Deciding.{Outcome, decision_number, matches}
 use Rattle.meaning.specs.Operations.{lent, decided_by}
 use Rattle.requests.specs.declared.Request.{Request}
 use Rattle.requests.specs.Values.{values_of, severals_of}
 use Rattle.table.specs.Rows.{Rows}
 use Rattle.layout.specs.Places.{Obliged}
 use Rattle.obligations.specs.Given.{outcome_left}
+
+-- the answer with a decision, from the answer for the text of its obligations
+abbrev pub deciding : Answer → Decision → Decided
+deciding told d = cond (eqb told.number 0) (record { number = 0; second = decision_number d; length = told.second }) (record { number = told.number; second = told.second; length = 0 })
+
+-- a request is permitted or denied: obligations may come
+abbrev pub Effect : Decision → Type 0
+Effect d = decision_number d < 2
 
 -- what a request gets from the elements of a table, none of which is struck
 abbrev pub outcome_on : Bytes → (table places : List ℕ) → ℕ → Request → Outcome

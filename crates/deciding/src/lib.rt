@@ -1,16 +1,16 @@
 // What one request gets: its decision, and the obligations that come with it in a lent buffer.
 #![tactic(auto)]
 
-ghost use Rattle.std.specs.Prelude.{◌≡◌, ℕ, ◌*◌, ◌≤◌, ◌<◌, cond, eqb, length, get_or, replicate};
-ghost use Rattle.meaning.specs.Deciding.{decision_number, matches, bit};
+ghost use Rattle.std.specs.Prelude.{◌≡◌, ℕ, ◌*◌, ◌≤◌, ◌<◌, length, get_or, replicate};
+ghost use Rattle.meaning.specs.Deciding.{matches, bit};
 ghost use Rattle.requests.specs.Values.{values_of, severals_of};
 ghost use Rattle.table.specs.Rows.{Rows};
 ghost use Rattle.blocks.specs.Bits.{Answers};
 ghost use Rattle.chains.specs.Chain.{chained};
-ghost use Rattle.deciding.specs.Told.{outcome_on, Told, Asking};
+ghost use Rattle.deciding.specs.Told.{deciding, Effect, outcome_on, Told, Asking};
 
 use blocks::Block;
-use meaning::{Answer, Decided};
+use meaning::{Answer, Decided, Decision};
 use obligations::Marks;
 use requests::Request;
 
@@ -52,32 +52,19 @@ fn ask_one(table: &[u16], n: usize, q: Request, given: &mut [u64])
 }
 
 // The answer of a decision whose obligations were told.
-fn with_decision(told: Answer, decision: usize) -> Decided
-    requires { decision < 4 }
-    ensures { result ≡ cond (eqb told.number 0) (record { number = 0; second = decision; length = told.second }) (record { number = told.number; second = told.second; length = 0 }) }
+fn with_decision(told: Answer, decision: Decision) -> Decided
+    ensures { result ≡ deciding told decision }
 {
     if told.number == 0 {
         return Decided {
             number: 0,
-            second: decision as u32,
+            second: decisions::decision_number(decision) as u32,
             length: told.second,
         };
     }
     Decided {
         number: told.number,
         second: told.second,
-        length: 0,
-    }
-}
-
-// The answer of a decision with which no obligations come.
-fn without(decision: usize) -> Decided
-    requires { decision < 4 }
-    ensures { result ≡ record { number = 0; second = decision; length = 0 } }
-{
-    Decided {
-        number: 0,
-        second: decision as u32,
         length: 0,
     }
 }
@@ -89,15 +76,15 @@ fn give(
     places: &[usize],
     n: usize,
     q: Request,
-    decision: usize,
+    decision: Decision,
     out: &mut [u8],
 ) -> Decided
-    requires { Asking file.now table.now places.now n q × (decision < 2) × (decision ≡ decision_number (outcome_on file.now table.now places.now n q).decision) }
+    requires { Asking file.now table.now places.now n q × Effect decision × (decision ≡ (outcome_on file.now table.now places.now n q).decision) }
     ensures { Told out.old out.new (outcome_on file.now table.now places.now n q) result }
 {
     let mut given = [0u64; 64];
     ask_one(table, n, q, &mut given);
-    let permit = decision == 0;
+    let permit = decision == Decision::Permit;
     let mut none = [0u8; 0];
     let marks = Marks {
         file,
@@ -125,13 +112,17 @@ pub fn answer(
     ensures { Told out.old out.new (outcome_on file.now table.now places.now n q) result }
 {
     let struck = [0u8; 64];
-    let decided = decisions::decide(table, &struck, n, q);
-    let decision = decisions::decision_number(decided);
-    if 1 < decision {
-        return without(decision);
+    let decision = decisions::decide(table, &struck, n, q);
+    let none = Answer {
+        number: 0,
+        second: 0,
+    };
+    match decision {
+        Decision::Permit | Decision::Deny => {}
+        Decision::NotApplicable | Decision::Indeterminate => return with_decision(none, decision),
     }
     if !obligations::any_obligations(places, n) {
-        return without(decision);
+        return with_decision(none, decision);
     }
     give(file, table, places, n, q, decision, out)
 }

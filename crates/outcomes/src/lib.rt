@@ -3,7 +3,6 @@
 
 ghost use Rattle.std.specs.Prelude.{◌≡◌, ◌++◌, map, ◌*◌, ◌≤◌, ◌<◌, length, drop};
 ghost use Rattle.meaning.specs.Text.{counting};
-ghost use Rattle.meaning.specs.Deciding.{decision_number};
 ghost use Rattle.table.specs.Shape.{hit_of};
 ghost use Rattle.matching.specs.Hits.{Rest, HitsLaid};
 ghost use Rattle.outcomes.specs.Decided.{none_struck, outcome_at, decided_at, differs_at};
@@ -11,6 +10,7 @@ ghost use Rattle.outcomes.specs.PolicyTable.{PolicyTable, OutcomesLaid};
 ghost use Rattle.outcomes.specs.Changes.{Other, InBlock};
 
 use blocks::{Block, Effects};
+use meaning::Decision;
 use table::Shape;
 
 // Lays down what each request gets, a block of 64 at a time: the words of those permitted, and 64 places on of those denied. All other words stay.
@@ -47,30 +47,30 @@ pub fn find_outcomes(
     decide_all(table, struck, hits, shape, outcomes);
 }
 
-// Lays down the number of what each request gets, by the words that tell it. What lies behind them stays.
-pub fn number_all(outcomes: &[u64], space: usize, decided: &mut [u8])
+// Lays down what each request gets, by the words that tell it. What lies behind them stays.
+pub fn tell_all(outcomes: &[u64], space: usize, decided: &mut [Decision])
     requires { (128 ≤ length outcomes.now) × (space ≤ 4096) × (space ≤ length decided.old) }
-    ensures { decided.new ≡ map (λ m. decision_number (outcome_at outcomes.now m)) (counting 0 space) ++ drop space decided.old }
+    ensures { decided.new ≡ map (outcome_at outcomes.now) (counting 0 space) ++ drop space decided.old }
 {
     for m in 0..space {
         let given = Effects {
             permits: outcomes[m / 64],
             denies: outcomes[64 + m / 64],
         };
-        decided[m] = blocks::outcome_number(given, m % 64) as u8;
+        decided[m] = blocks::decision_of(given, m % 64);
     }
 }
 
-// Lays down the number of what each request gets where no element is struck. What lies behind them stays.
-pub fn decide_requests(table: &[u16], shape: Shape, decided: &mut [u8])
+// Lays down what each request gets where no element is struck. What lies behind them stays.
+pub fn decide_requests(table: &[u16], shape: Shape, decided: &mut [Decision])
     requires { PolicyTable table.now none_struck shape × (shape.space ≤ length decided.old) }
-    ensures { decided.new ≡ map (λ m. decision_number (decided_at table.now shape.n (hit_of shape) none_struck m)) (counting 0 shape.space) ++ drop shape.space decided.old }
+    ensures { decided.new ≡ map (decided_at table.now shape.n (hit_of shape) none_struck) (counting 0 shape.space) ++ drop shape.space decided.old }
 {
     let struck = [0u8; 64];
     let mut hits = [0u64; 4096];
     let mut outcomes = [0u64; 128];
     find_outcomes(table, &struck, shape, &mut hits, &mut outcomes);
-    number_all(&outcomes, shape.space, decided);
+    tell_all(&outcomes, shape.space, decided);
 }
 
 // The first request from `from` on, of 64 at most, whose bits in the two tell another decision, or the number of requests.
@@ -82,7 +82,7 @@ fn first_other(given: Effects, before: Effects, from: usize, space: usize) -> us
         if space <= from + v {
             return space;
         }
-        if blocks::outcome_number(given, v) != blocks::outcome_number(before, v) {
+        if blocks::decision_of(given, v) != blocks::decision_of(before, v) {
             return from + v;
         }
     }

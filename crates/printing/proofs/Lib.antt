@@ -2,6 +2,5 @@
 pub mod Laws
 pub mod Digits
 pub mod LineFields
-pub mod Decisions
 pub mod Walks
 pub mod Fitting

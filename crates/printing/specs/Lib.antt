@@ -1,4 +1,3 @@
 -- What the contracts of printing cite.
 pub mod Wrote
-pub mod Decisions
 pub mod Fitted

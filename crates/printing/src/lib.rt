@@ -5,10 +5,9 @@ ghost use Rattle.std.specs.Prelude.{◌≡◌, ◌+◌, ◌/◌, ◌≤◌, ◌<
 ghost use Rattle.meaning.specs.Text.{decimal};
 ghost use Rattle.meaning.specs.Model.{decision_text};
 ghost use Rattle.printing.specs.Wrote.{Wrote};
-ghost use Rattle.printing.specs.Decisions.{decision_from};
 ghost use Rattle.printing.specs.Fitted.{lendable, text_told};
 
-use meaning::Answer;
+use meaning::{Answer, Decision};
 
 // Stores a byte.
 pub fn put(out: &mut [u8], at: usize, b: u8) -> usize
@@ -79,21 +78,17 @@ pub fn put_number(out: &mut [u8], at: usize, number: usize, end: u8) -> usize
     put(out, behind, end)
 }
 
-// Stores the decision of that number and the byte that ends it.
-pub fn put_decision(out: &mut [u8], at: usize, decided: u8, end: u8) -> usize
+// Stores a decision's text and the byte that ends it.
+pub fn put_decision(out: &mut [u8], at: usize, decision: Decision, end: u8) -> usize
     requires { at + 15 < 2 ^ 64 }
-    ensures { Wrote out.old at (decision_text (decision_from decided) ++ (end ∷ [])) out.new result × (result ≤ at + 15) }
+    ensures { Wrote out.old at (decision_text decision ++ (end ∷ [])) out.new result × (result ≤ at + 15) }
 {
-    if decided == 0 {
-        return put_field(out, at, b"permit", end);
+    match decision {
+        Decision::Permit => put_field(out, at, b"permit", end),
+        Decision::Deny => put_field(out, at, b"deny", end),
+        Decision::NotApplicable => put_field(out, at, b"not-applicable", end),
+        Decision::Indeterminate => put_field(out, at, b"indeterminate", end),
     }
-    if decided == 1 {
-        return put_field(out, at, b"deny", end);
-    }
-    if decided == 2 {
-        return put_field(out, at, b"not-applicable", end);
-    }
-    put_field(out, at, b"indeterminate", end)
 }
 
 // How many bytes of a buffer to lend for a text: all, or none where the text does not fit. What is laid into that part is the whole text, or nothing.

@@ -6,12 +6,12 @@ use native.Mathlib.Omega.{arith}
 use mathlib.Core.List.{List, []}
 use lib.ListN.{get_or}
 use borrow.Author.Tests.{ne_eqb, lt-ltb, le-ltb}
+use Rattle.meaning.specs.declared.Decision.{Decision}
 use Rattle.meaning.specs.Text.{Bytes, bytes, decimal}
 use Rattle.meaning.specs.Model.{decision_text}
 use Rattle.meaning.specs.Report.{or_dash}
 use Rattle.layout.specs.Places.{name_in}
 use Rattle.printing.specs.Wrote.{Wrote}
-use Rattle.printing.specs.Decisions.{decision_from}
 use Rattle.printing.proofs.Laws.{then, nothing, line_next}
 use Rattle.printing.proofs.LineFields.{field, last, three, five}
 use Rattle.report_lines.specs.declared.segment_lines.Segment.{Segment}
@@ -24,11 +24,11 @@ module _ (f : Bytes) (places : List ℕ) {x : List ℕ} {at : ℕ} where
       → Wrote x at (field (bytes "G")) u a
       → Wrote u a (field (decimal s.first)) v b × (b ≤ a + s.first / 10 + 2)
       → Wrote v b (field (decimal size)) w c × (c ≤ b + size / 10 + 2)
-      → Wrote w c (field (decision_text (decision_from s.decided))) z d × (d ≤ c + 15)
+      → Wrote w c (field (decision_text s.decision)) z d × (d ≤ c + 15)
       → Wrote z d (last (or_dash (names_of f places n s.word))) y r × (r ≤ d + 1200)
       → Wrote x at (segment_row f places n s) y r × (r ≤ at + 10000)
   segment n s {y = y} {r = r} size is few small one (two, i) (three, j) (four, k) (five-th, l) = (
-    rw (← is) (subst (λ t. Wrote x at t y r) (five (bytes "G") (decimal s.first) (decimal size) (decision_text (decision_from s.decided)) (or_dash (names_of f places n s.word))) (then one (then two (then three (then four five-th))))),
+    rw (← is) (subst (λ t. Wrote x at t y r) (five (bytes "G") (decimal s.first) (decimal size) (decision_text s.decision) (or_dash (names_of f places n s.word))) (then one (then two (then three (then four five-th))))),
     omega (arith, one.moved, i, j, k, l),
   )
 
@@ -68,11 +68,11 @@ module _ (f : Bytes) (places : List ℕ) {x : List ℕ} {at : ℕ} where
     )
 
 -- a request with a size has a segment line
-module _ (f : Bytes) (places : List ℕ) (n : ℕ) (words sizes decided : List ℕ) (m : ℕ) where
+module _ (f : Bytes) (places : List ℕ) (n : ℕ) (words sizes : List ℕ) (decided : List Decision) (m : ℕ) where
   pub no_segment : get_or sizes m 0 ≡ 0 → segment_line f places n words sizes decided m ≡ []
   unfolding segment_line
   no_segment e = rw e
 
-  pub is_segment : {x y : List ℕ} {at r : ℕ} → get_or sizes m 0 ≢ 0 → Wrote x at (segment_row f places n (record { first = m; size = get_or sizes m 0; decided = get_or decided m 0; word = get_or words m 0 })) y r × (r ≤ at + 10000) → Wrote x at (segment_line f places n words sizes decided m) y r × (r ≤ at + 10000)
+  pub is_segment : {x y : List ℕ} {at r : ℕ} → get_or sizes m 0 ≢ 0 → Wrote x at (segment_row f places n (record { first = m; size = get_or sizes m 0; decision = get_or decided m Decision.Permit; word = get_or words m 0 })) y r × (r ≤ at + 10000) → Wrote x at (segment_line f places n words sizes decided m) y r × (r ≤ at + 10000)
   unfolding segment_line
   is_segment e w = rw (ne_eqb (get_or sizes m 0) 0 e) w

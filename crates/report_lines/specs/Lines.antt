@@ -1,11 +1,11 @@
 -- The report's text, from what was found of a policy: its names stand in the file, at their places.
 use Rattle.std.specs.Prelude.{ℕ, ◌+◌, ◌-◌, ◌*◌, Bool, cond, List, [], ◌∷◌, map, eqb, ltb, get_or}
+use Rattle.meaning.specs.declared.Decision.{Decision}
 use Rattle.meaning.specs.Text.{Bytes, bytes, keep, gathered, counting, comma, line, decimal}
 use Rattle.meaning.specs.Model.{decision_text}
 use Rattle.meaning.specs.Deciding.{bit}
 use Rattle.meaning.specs.Report.{or_dash}
 use Rattle.layout.specs.Places.{name_in}
-use Rattle.printing.specs.Decisions.{decision_from}
 use Rattle.report_lines.specs.declared.segment_lines.Segment.{Segment}
 use Rattle.report_lines.specs.declared.conflict_lines.Conflict.{Conflict}
 
@@ -49,16 +49,16 @@ module _ (f : Bytes) (places : List ℕ) where
     unfoldable pub later_names : (w i : ℕ) → Bytes
     later_names w i = gathered (comma_name w) (counting i (n - i))
 
-    -- `G`: for request m where the size is not 0, with its word of applying elements and its decision's number
+    -- `G`: for request m where the size is not 0, with its word of applying elements and its decision
     abbrev pub segment_row : Segment → Bytes
-    segment_row s = line (bytes "G" ∷ decimal s.first ∷ decimal s.size ∷ decision_text (decision_from s.decided) ∷ or_dash (names_of s.word) ∷ [])
+    segment_row s = line (bytes "G" ∷ decimal s.first ∷ decimal s.size ∷ decision_text s.decision ∷ or_dash (names_of s.word) ∷ [])
 
-    unfoldable pub segment_line : (words sizes decided : List ℕ) → ℕ → Bytes
+    unfoldable pub segment_line : (words sizes : List ℕ) (decided : List Decision) → ℕ → Bytes
     segment_line words sizes decided m =
         let size = get_or sizes m 0 in
-        cond (eqb size 0) [] (segment_row (record { first = m; size = size; decided = get_or decided m 0; word = get_or words m 0 }))
+        cond (eqb size 0) [] (segment_row (record { first = m; size = size; decision = get_or decided m Decision.Permit; word = get_or words m 0 }))
 
-    unfoldable pub segment_text : (words sizes decided : List ℕ) (space : ℕ) → Bytes
+    unfoldable pub segment_text : (words sizes : List ℕ) (decided : List Decision) (space : ℕ) → Bytes
     segment_text words sizes decided space = gathered (segment_line words sizes decided) (counting 0 space)
 
     -- by the elements' parents

@@ -12,6 +12,7 @@ ghost use Rattle.printing.specs.Wrote.{Wrote};
 ghost use Rattle.report_lines.specs.Lines.{segment_text, conflict_text, struck_text, kept_text};
 ghost use Rattle.report_lines.specs.Ready.{Ordered};
 
+use meaning::Decision;
 use segment_lines::Segment;
 use table::Shape;
 
@@ -22,7 +23,7 @@ pub fn put_segments(
     shape: Shape,
     words: &[u64; 4096],
     sizes: &[u16; 4096],
-    decided: &[u8; 4096],
+    decided: &[Decision; 4096],
     out: &mut [u8],
     at: usize,
 ) -> usize
@@ -39,7 +40,7 @@ pub fn put_segments(
         let segment = Segment {
             first: m,
             size,
-            decided: decided[m],
+            decision: decided[m],
             word: words[m],
         };
         end = segment_lines::put_segment(file, places, shape.n, segment, out, end);

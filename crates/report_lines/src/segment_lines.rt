@@ -5,13 +5,14 @@ ghost use Rattle.printing.specs.Wrote.{Wrote};
 ghost use Rattle.report_lines.specs.Lines.{segment_row};
 
 use crate::fields;
+use meaning::Decision;
 
-// A segment: its first request, how many it has, the number of their decision, and the word of the elements that apply to them.
+// A segment: its first request, how many it has, their decision, and the word of the elements that apply to them.
 #[derive(Clone, Copy)]
 pub(crate) struct Segment {
     pub first: usize,
     pub size: u16,
-    pub decided: u8,
+    pub decision: Decision,
     pub word: u64,
 }
 
@@ -29,6 +30,6 @@ pub(crate) fn put_segment(
     let first = printing::put_field(out, at, b"G", 9);
     let many = printing::put_number(out, first, segment.first, 9);
     let decision = printing::put_number(out, many, segment.size as usize, 9);
-    let names = printing::put_decision(out, decision, segment.decided, 9);
+    let names = printing::put_decision(out, decision, segment.decision, 9);
     fields::put_names(file, places, n, segment.word, out, names)
 }

@@ -9,7 +9,6 @@ use lib.Seq.{take_at, get_or-take}
 use mathlib.Core.Bool.{Bool}
 use Rattle.meaning.specs.declared.Decision.{Decision}
 use Rattle.meaning.specs.Text.{Bytes, counting}
-use Rattle.meaning.specs.Deciding.{decision_number}
 use Rattle.meaning.specs.declared.Element.{Element}
 use Rattle.table.specs.Tree.{parent_of, place_or}
 use Rattle.table.specs.declared.Shape.{Shape}
@@ -55,17 +54,17 @@ module _ (t : List ℕ) (s : Shape) where
           counted = trims.count_is;
           few = omega (arith, trims.count_is, order_few f places t s.n (hit_of s) s.space s.n none_struck);
           stays = subst (λ fs. get_or fs 0 0 ≡ 0) trims.flags_are trims.ready.stays;
-          needed = λ i l. laid_at_lem (shown_at f places t s.n (hit_of s) s.space flags) s.n behind e i l ∙ ap (λ fs. shown_at f places t s.n (hit_of s) s.space fs i) trims.flags_are;
+          needed = λ i l. laid_at_lem 0 (shown_at f places t s.n (hit_of s) s.space flags) s.n behind e i l ∙ ap (λ fs. shown_at f places t s.n (hit_of s) s.space fs i) trims.flags_are;
         }
 
   -- segments, from the words of all requests
-  pub segments_found : (words sizes decided rows a b : List ℕ) → Applied t s.n (hit_of s) s.space rows → words ≡ map (word_across rows s.n) (counting 0 s.space) ++ a
-      → sizes ≡ map (size_at words s.space) (counting 0 s.space) ++ b → (outcomes y : List ℕ) → OutcomesLaid t none_struck outcomes s → decided ≡ map (λ m. decision_number (outcome_at outcomes m)) (counting 0 s.space) ++ y → SegmentsFound t s.n (hit_of s) s.space words sizes decided
-  segments_found words sizes decided rows a b applied marked measured outcomes y holds numbers =
+  pub segments_found : (words sizes : List ℕ) {decided : List Decision} (rows a b : List ℕ) → Applied t s.n (hit_of s) s.space rows → words ≡ map (word_across rows s.n) (counting 0 s.space) ++ a
+      → sizes ≡ map (size_at words s.space) (counting 0 s.space) ++ b → (outcomes : List ℕ) (y : List Decision) → OutcomesLaid t none_struck outcomes s → decided ≡ map (outcome_at outcomes) (counting 0 s.space) ++ y → SegmentsFound t s.n (hit_of s) s.space words sizes decided
+  segments_found words sizes rows a b applied marked measured outcomes y holds decides =
       record {
-        applying = λ m l. laid_at_lem (word_across rows s.n) s.space a marked m l ∙ across_applying t s.n (hit_of s) s.space rows applied m l;
-        sized = λ m l. laid_at_lem (size_at words s.space) s.space b measured m l;
-        numbered = λ m l. laid_at_lem (λ m. decision_number (outcome_at outcomes m)) s.space y numbers m l ∙ ap decision_number (holds.outcomes_are m l);
+        applying = λ m l. laid_at_lem 0 (word_across rows s.n) s.space a marked m l ∙ across_applying t s.n (hit_of s) s.space rows applied m l;
+        sized = λ m l. laid_at_lem 0 (size_at words s.space) s.space b measured m l;
+        told = λ m l. laid_at_lem Decision.Permit (outcome_at outcomes) s.space y decides m l ∙ holds.outcomes_are m l;
       }
 
   -- conflicts, from the rows
@@ -73,7 +72,7 @@ module _ (t : List ℕ) (s : Shape) where
       → parents ≡ map (λ i. place_or s.n (parent_of t i)) (counting 0 s.n) ++ x → Pairs parents (shown_by rows permits denies) s.n s.space pairs → ConflictsFound t s.n (hit_of s) s.space parents pairs
   conflicts_found rows permits denies parents pairs x applied permitted denied above paired =
       record {
-        parented = λ j l. laid_at_lem (λ i. place_or s.n (parent_of t i)) s.n x above j l;
+        parented = λ j l. laid_at_lem 0 (λ i. place_or s.n (parent_of t i)) s.n x above j l;
         paired = pairs_by_table t none_struck s.n (hit_of s) s.space rows permits denies applied permitted denied parents pairs paired;
       }
 

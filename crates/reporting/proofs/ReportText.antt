@@ -5,6 +5,7 @@ use native.Mathlib.Omega.{arith}
 use mathlib.Core.List.{List, ◌++◌}
 use lib.ListN.{length, length-take}
 use Rattle.meaning.specs.declared.Answer.{Answer}
+use Rattle.meaning.specs.declared.Decision.{Decision}
 use Rattle.meaning.specs.Text.{Bytes, gathered}
 use Rattle.meaning.specs.Report.{report, report_file}
 use Rattle.meaning.specs.Operations.{report_answer, report_lent}
@@ -22,7 +23,7 @@ use Rattle.reporting.proofs.SegmentText.{segments_are}
 use Rattle.reporting.proofs.ConflictText.{conflicts_are}
 use Rattle.reporting.proofs.StruckText.{struck_are, kept_are}
 
-module _ (f table places : List ℕ) (s : Shape) (held : PolicyHeld f table places s) (words lengths decided parents pairs order shown : List ℕ) (count : ℕ)
+module _ (f table places : List ℕ) (s : Shape) (held : PolicyHeld f table places s) (words lengths : List ℕ) (decided : List Decision) (parents pairs order shown : List ℕ) (count : ℕ)
     (found : SegmentsFound table s.n (hit_of s) s.space words lengths decided) (shown-pairs : ConflictsFound table s.n (hit_of s) s.space parents pairs) (rules : RulesFound f places table s.n (hit_of s) s.space order shown count) where
   -- the four kinds of lines, one behind the other
   abbrev text : Bytes
@@ -46,7 +47,7 @@ module _ (f table places : List ℕ) (s : Shape) (held : PolicyHeld f table plac
       let space = s.space in
       let hits_are = held.hits_are in
       let space_is = held.space_is in
-      ap₂ (λ g rest. g ++ rest) (segments_are f table places n p is hit space hits_are space_is words lengths decided none_struck (λ k l. none_clear k) found.applying found.sized found.numbered)
+      ap₂ (λ g rest. g ++ rest) (segments_are f table places n p is hit space hits_are space_is words lengths decided none_struck (λ k l. none_clear k) found.applying found.sized found.told)
       (ap₂ (λ c rest. c ++ rest) (conflicts_are f table places n p is hit space hits_are space_is parents none_struck none_clear shown-pairs.parented pairs shown-pairs.paired)
       (ap₂ (λ x k. x ++ k) (struck_lines ∙ struck_are f p h table places n is hit space hits_are space_is) (kept_are f p h table places n is hit space hits_are space_is shown rules.stays rules.needed)))
 

@@ -9,9 +9,10 @@ use lib.Dec.{eqb}
 use lib.ListN.{length, get_or}
 use borrow.Author.Tests.{eqb-true, eq-eqb}
 use Rattle.meaning.specs.declared.Element.{Element}
+use Rattle.meaning.specs.declared.Decision.{Decision}
 use Rattle.meaning.specs.Text.{Bytes, any, keep, gathered, counting, line}
 use Rattle.meaning.specs.Model.{name_of, Policy, sizes, space as space_of}
-use Rattle.meaning.specs.Deciding.{request_of, bit, decision_number, hits, decision_on, first_decision}
+use Rattle.meaning.specs.Deciding.{request_of, bit, hits, decision_on, first_decision}
 use Rattle.meaning.specs.Segments.{applying, applying_to, together, segments, segment_size}
 use Rattle.meaning.specs.Report.{marked, segment_fields}
 use Rattle.laws.proofs.Bools.{Test, passed, failed, test, contradiction}
@@ -26,8 +27,6 @@ use Rattle.trimmed_text.proofs.Table.{count_is, name_at_lem}
 use Rattle.rows.specs.Words.{marks, applying_at}
 use Rattle.rows.proofs.Marks.{bit_mark, same_marks}
 use Rattle.segments.specs.Sizes.{alike, opens_at, size_at}
-use Rattle.printing.specs.Decisions.{decision_from}
-use Rattle.printing.proofs.Decisions.{decision_again}
 use Rattle.report_lines.specs.Lines.{names_of, segment_line, segment_text}
 use Rattle.reporting.proofs.Applying.{word_is}
 
@@ -113,16 +112,16 @@ module _ (f : Bytes) (table places : List ℕ) (n : ℕ) (p : Policy) (is : p.el
       has_some (keep_has (together p m) m (counting_has 0 (space_of p.attributes) m zero-le (rw zero-add u)) (same_together p m m refl))
 
   -- the `G` lines
-  module _ (words lengths decided struck : List ℕ) (live : (k : ℕ) → k < n → get_or struck k 0 ≡ 0)
+  module _ (words lengths : List ℕ) (decided : List Decision) (struck : List ℕ) (live : (k : ℕ) → k < n → get_or struck k 0 ≡ 0)
       (worded : (m : ℕ) → m < space → get_or words m 0 ≡ applying_at table n hit m)
       (counted : (m : ℕ) → m < space → get_or lengths m 0 ≡ size_at words space m)
-      (numbered : (m : ℕ) → m < space → get_or decided m 0 ≡ decision_number (decided_at table n hit struck m)) where
+      (told : (m : ℕ) → m < space → get_or decided m Decision.Permit ≡ decided_at table n hit struck m) where
     line_is : (m : ℕ) → m < space → segment_line f places n words lengths decided m ≡ cond (opens m) (line (segment_fields p m)) []
     unfolding segment_line
     line_is m l = go (test (opens m)) (counted m l ∙ size_is words worded m l)
       where
-        shown : decision_from (get_or decided m 0) ≡ decision_on p m
-        shown = ap decision_from (numbered m l) ∙ decision_again (decided_at table n hit struck m) ∙ decision_is struck live m
+        shown : get_or decided m Decision.Permit ≡ decision_on p m
+        shown = told m l ∙ decision_is struck live m
 
         named : names_of f places n (get_or words m 0) ≡ marked (applying_to p m) p.elements
         named = ap (names_of f places n) (worded m l) ∙ names_are m

@@ -1,7 +1,7 @@
 -- What was found of a policy: a list for each thing that the report needs, by what stands at its places.
 use Rattle.std.specs.Prelude.{ℕ, ◌≤◌, ◌<◌, ◌≡◌, List, length, take, get_or, Bool}
 use Rattle.meaning.specs.Text.{Bytes}
-use Rattle.meaning.specs.Deciding.{decision_number}
+use Rattle.meaning.specs.declared.Decision.{Decision}
 use Rattle.meaning.specs.declared.Element.{Element}
 use Rattle.table.specs.Tree.{parent_of, place_or}
 use Rattle.outcomes.specs.Decided.{none_struck, decided_at}
@@ -15,13 +15,13 @@ abbrev pub trimmed_at : Bytes → (places table : List ℕ) → ℕ → (ℕ →
 trimmed_at f places table n hit space = trimming_at f places table n hit space n none_struck
 
 -- Of a table of n elements, which requests match an element's own target, and how many there are: what there is to say of each request
-pub record SegmentsFound (table : List ℕ) (n : ℕ) (hit : ℕ → Element → Bool) (space : ℕ) (words sizes decided : List ℕ) : Type 0 where
+pub record SegmentsFound (table : List ℕ) (n : ℕ) (hit : ℕ → Element → Bool) (space : ℕ) (words sizes : List ℕ) (decided : List Decision) : Type 0 where
   -- the word of the elements that apply to it
   pub applying : (m : ℕ) → m < space → get_or words m 0 ≡ applying_at table n hit m
   -- the size of the segment whose first request it is, else 0
   pub sized : (m : ℕ) → m < space → get_or sizes m 0 ≡ size_at words space m
-  -- the number of its decision
-  pub numbered : (m : ℕ) → m < space → get_or decided m 0 ≡ decision_number (decided_at table n hit none_struck m)
+  -- its decision
+  pub told : (m : ℕ) → m < space → get_or decided m Decision.Permit ≡ decided_at table n hit none_struck m
 
 -- and of each pair of children
 pub record ConflictsFound (table : List ℕ) (n : ℕ) (hit : ℕ → Element → Bool) (space : ℕ) (parents pairs : List ℕ) : Type 0 where

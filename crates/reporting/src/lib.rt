@@ -12,7 +12,7 @@ ghost use Rattle.trimmed_text.specs.Held.{PolicyHeld};
 ghost use Rattle.reporting.specs.Found.{SegmentsFound, ConflictsFound, RulesFound};
 
 use differences::{PolicyFile, PolicyOutcomes};
-use meaning::Answer;
+use meaning::{Answer, Decision};
 use report_lines::{put_conflicts, put_kept, put_segments, put_struck};
 use table::Shape;
 
@@ -48,7 +48,7 @@ fn find_conflicts(
     conflicts::pair_all(parents, rows, &permits, &denies, n, space, pairs);
 }
 
-// Lays down the number of each request's decision, and the segments.
+// Lays down each request's decision, and the segments.
 fn find_segments(
     table: &[u16],
     hits: &[u64],
@@ -56,14 +56,14 @@ fn find_segments(
     outcomes: &[u64],
     words: &mut [u64],
     sizes: &mut [u16],
-    decided: &mut [u8],
+    decided: &mut [Decision],
 )
     requires { PolicyTable table.now none_struck shape × HitsLaid table.now hits.now shape × (4096 ≤ length hits.now) × OutcomesLaid table.now none_struck outcomes.now shape × (4096 ≤ length words.old) × (4096 ≤ length sizes.old) × (4096 ≤ length decided.old) }
     ensures { SegmentsFound table.now shape.n (hit_of shape) shape.space words.new sizes.new decided.new }
 {
     let n = shape.n;
     let space = shape.space;
-    outcomes::number_all(outcomes, space, decided);
+    outcomes::tell_all(outcomes, space, decided);
     let mut applied = [0u64; 4096];
     rows::apply_all(table, hits, shape, &mut applied);
     segments::words_all(&applied, n, space, words);
@@ -97,7 +97,7 @@ fn write_lines(
 {
     let mut words = [0u64; 4096];
     let mut sizes = [0u16; 4096];
-    let mut decided = [0u8; 4096];
+    let mut decided = [Decision::Permit; 4096];
     let mut parents = [0usize; 64];
     let mut pairs = [0u16; 4096];
     find_conflicts(table, hits, shape, &mut words, &mut parents, &mut pairs);

@@ -140,5 +140,5 @@ sized_all {ws} {old} {d} {m} n room end so_far =
     let short : length (take n d) ≡ n = length-take-le n d (omega (arith, whole.size)) in
     let sizes : take n d ≡ map (size_at ws n) (counting 0 n) =
     ext_get_or 0 (take n d) (map (size_at ws n) (counting 0 n)) (short ∙ sym (length_counted (size_at ws n) 0 n))
-    (λ k l. let below : k < n = omega arith in get_or-take n d k 0 below ∙ whole.counted k below ∙ sym (rw zero-add at (counted_at (size_at ws n) 0 n k below))) in
+    (λ k l. let below : k < n = omega arith in get_or-take n d k 0 below ∙ whole.counted k below ∙ sym (rw zero-add at (counted_at (size_at ws n) 0 0 n k below))) in
     sym (take-append-drop n d) ∙ ap₂ ◌++◌ sizes whole.behind

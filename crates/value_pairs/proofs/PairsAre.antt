@@ -1,27 +1,23 @@
 -- The lines by arithmetic on request numbers are the meaning's.
 use mathlib.Core.Path.{◌≡◌, refl, sym, ap, ◌∙◌, subst}
-use mathlib.Core.Logic.{◌≢◌}
 use Prim.Native.Nat.{ℕ, ◌+◌, ◌-◌, ◌*◌, ◌/◌, ◌%◌, ◌^◌, ◌≤◌, ◌<◌}
 use native.Mathlib.Nat.{lt_of_lt_of_le, mod-lt, suc-mul, mul-le-mul_right, add-mul, add-zero, mul-add-div_right, mul-add-mod_self_right, div-eq_of_lt, mod-eq_of_lt}
 use native.Mathlib.Omega.{arith}
 use mathlib.Core.Bool.{Bool, true, false, not, cond, ◌&&◌, ◌||◌}
 use mathlib.Core.List.{List, [], ◌∷◌, ◌++◌, append-nil}
-use lib.Dec.{eqb}
 use lib.ListN.{length, get_or, set}
 use lib.Pow.{pow_pos}
 use lib.Seq.{get_or_at, set_at}
-use borrow.Author.Tests.{ne_eqb}
 use Rattle.meaning.specs.declared.Decision.{Decision}
 use Rattle.meaning.specs.Text.{Bytes, gathered, counting, line}
 use Rattle.meaning.specs.Model.{Policy, sizes, product, space}
-use Rattle.meaning.specs.Deciding.{number_of, request_of, requests, members, decision_number, is, decision_on}
+use Rattle.meaning.specs.Deciding.{number_of, request_of, requests, members, is, decision_on}
 use Rattle.meaning.specs.ValuePairs.{ValuePair, differs, alone, of_two, pair_on, value_pairs, pair_fields, pairs_text}
 use Rattle.laws.proofs.Lists.{gathered_alike, gathered_keep, gathered_twice}
 use Rattle.laws.proofs.Search.{counting_only}
 use Rattle.laws.proofs.Sets.{sum_of, members_sum}
 use Rattle.laws.proofs.Requests.{Fits, Positive, fits_positive, Parts, parts, number_request, request_number, number_parts, product_parts}
 use Rattle.laws.proofs.RequestLines.{paired_length}
-use Rattle.printing.proofs.Decisions.{decision_again}
 use Rattle.value_pairs.specs.Lines.{pair_row, pair_line, value_lines, run_lines, pair_lines}
 use Rattle.value_pairs.proofs.Runs.{gathered_runs, gathered_none}
 
@@ -38,12 +34,9 @@ module _ (b e l : Decision) (n : ℕ) where
   abbrev shown : ValuePair
   shown = record { request = n; both = b; earlier = e; later = l }
 
-  kept_line_lem : gathered (λ d. cond (differs d) (line (pair_fields d)) []) (shown ∷ []) ≡ cond (eqb (decision_number b) (decision_number e) && eqb (decision_number b) (decision_number l)) [] (pair_row n (decision_number b) (decision_number e) (decision_number l))
-  kept_line_lem = append-nil (cond (differs shown) (line (pair_fields shown)) []) ∙ go (is b e) (is b l) ∙ ap (λ t. cond (is b e && is b l) [] t) (sym row)
+  kept_line_lem : gathered (λ d. cond (differs d) (line (pair_fields d)) []) (shown ∷ []) ≡ cond (is b e && is b l) [] (pair_row n b e l)
+  kept_line_lem = append-nil (cond (differs shown) (line (pair_fields shown)) []) ∙ go (is b e) (is b l)
     where
-      row : pair_row n (decision_number b) (decision_number e) (decision_number l) ≡ line (pair_fields shown)
-      row = rw (decision_again b, decision_again e, decision_again l)
-
       go : (x y : Bool) → cond (not x || not y) (line (pair_fields shown)) [] ≡ cond (x && y) [] (line (pair_fields shown))
       go true true = refl
       go true false = refl
@@ -51,7 +44,7 @@ module _ (b e l : Decision) (n : ℕ) where
 
 -- The policy's sizes: before a place, there, and behind it
 module _ (p : Policy) (i : ℕ) (xs : List ℕ) (size : ℕ) (ys : List ℕ) (split : sizes p.attributes ≡ xs ++ (size ∷ ys)) (at : length xs ≡ i) (positive : Positive (sizes p.attributes)) (some-set : 0 < size) (few : size ≤ 4095)
-    (decided : List ℕ) (numbered : (m : ℕ) → m < space p.attributes → get_or decided m 0 ≡ decision_number (decision_on p m)) where
+    (decided : List Decision) (told : (m : ℕ) → m < space p.attributes → get_or decided m Decision.Permit ≡ decision_on p m) where
   abbrev ss : List ℕ
   ss = sizes p.attributes
 
@@ -115,18 +108,18 @@ module _ (p : Policy) (i : ℕ) (xs : List ℕ) (size : ℕ) (ys : List ℕ) (sp
         let whole : r ≡ number_of xs own.before * size + (2 ^ v - 1) + bit = omega (arith, number_is.0, set_is, e) in
         omega (arith, there, number_is.1, ap (λ x. x * behind) whole, add-mul (number_of xs own.before * size + (2 ^ v - 1)) bit behind)
 
-    number_alone : (v bit : ℕ) → 2 ^ v - 1 + bit ≡ r % size → get_or decided (n - bit * behind) 0 ≡ decision_number (decision_on p (alone ss i n v))
-    number_alone v bit e = numbered (n - bit * behind) (omega (arith, in_space)) ∙ ap (λ m. decision_number (decision_on p m)) (sym (alone_is v bit e))
+    told_alone : (v bit : ℕ) → 2 ^ v - 1 + bit ≡ r % size → get_or decided (n - bit * behind) Decision.Permit ≡ decision_on p (alone ss i n v)
+    told_alone v bit e = told (n - bit * behind) (omega (arith, in_space)) ∙ ap (decision_on p) (sym (alone_is v bit e))
 
     pub line_of_two : (v w : ℕ) → members (r % size) ≡ v ∷ w ∷ [] → 2 ^ v + 2 ^ w ≡ r % size + 1 → line_on n ≡ pair_line decided ((r % size + 1 - 2 ^ w) * behind) (2 ^ w * behind) n
     unfolding pair_line
     line_of_two v w e sum =
         let low : r % size + 1 - 2 ^ w ≡ 2 ^ v = omega (arith, sum) in
-        let earlier = number_alone v (2 ^ w) (omega (arith, sum, pow_pos v)) in
-        let later = number_alone w (2 ^ v) (omega (arith, sum, pow_pos w)) in
+        let earlier = told_alone v (2 ^ w) (omega (arith, sum, pow_pos v)) in
+        let later = told_alone w (2 ^ v) (omega (arith, sum, pow_pos w)) in
         ap (gathered (λ d. cond (differs d) (line (pair_fields d)) [])) (shows (v ∷ w ∷ []) e)
         ∙ kept_line_lem (decision_on p n) (decision_on p (alone ss i n v)) (decision_on p (alone ss i n w)) n
-        ∙ sym (rw (low, numbered n in_space, earlier, later))
+        ∙ sym (rw (low, told n in_space, earlier, later))
 
   -- A run, by its set
   run_is : (r : ℕ) → r < runs → gathered (λ k. line_on (r * behind + k)) (counting 0 behind) ≡ run_lines decided size behind r
@@ -147,9 +140,8 @@ module _ (p : Policy) (i : ℕ) (xs : List ℕ) (size : ℕ) (ys : List ℕ) (sp
       go (v ∷ w ∷ x ∷ vs) e = nothing (v ∷ w ∷ x ∷ vs) e (λ n. refl) ∙ rw e
       go (v ∷ w ∷ []) e =
           let total : 2 ^ v + (2 ^ w + 0) ≡ r % size + 1 = ap sum_of (sym e) ∙ members_sum (r % size) few_sets in
-          let some-bit : 2 ^ w ≢ 0 = λ none. omega (arith, none, pow_pos w) in
           gathered_alike _ (λ k. pair_line decided ((r % size + 1 - 2 ^ w) * behind) (2 ^ w * behind) (r * behind + k)) (counting 0 behind) (λ k m. line_of_two r k l (omega (arith, (counting_only 0 behind k m).1)) v w e (omega (arith, total)))
-          ∙ sym (rw (e, ne_eqb (2 ^ w) 0 some-bit))
+          ∙ sym (rw e)
 
   pub pairs_are : pairs_text p i ≡ pair_lines decided size behind runs
   unfolding pair_lines

@@ -6,14 +6,14 @@ use native.Mathlib.Numerals.{add-one}
 use native.Mathlib.Omega.{arith}
 use mathlib.Core.List.Memᴰ
 use mathlib.Core.List.{List, [], ◌∷◌, ◌++◌, map, map-append}
-use lib.ListN.{length, take, drop, get_or, length-map, take-append-drop}
+use lib.ListN.{length, take, drop, get_or, length-map, length-append, take-append-drop}
 use lib.Pow.{pow_mono}
 use lib.Seq.{drop-cons, get_or-take, get_or_at, length-take-le}
-use borrow.Author.Tests.{lt-ltb, le-ltb}
 use Rattle.meaning.specs.declared.Answer.{Answer}
+use Rattle.meaning.specs.declared.Decision.{Decision}
 use Rattle.meaning.specs.Text.{Bytes, counting}
 use Rattle.meaning.specs.Model.{Attribute, choices, sizes, product, space, refused, given}
-use Rattle.meaning.specs.Deciding.{decision_number, decision_on}
+use Rattle.meaning.specs.Deciding.{decision_on}
 use Rattle.meaning.specs.ValuePairs.{several_at, pairs_text, pairs_named, value_pairs_file}
 use Rattle.meaning.specs.Operations.{value_pairs_answer, value_pairs_lent}
 use Rattle.meaning.specs.Claims.Texts.{All}
@@ -32,7 +32,7 @@ use Rattle.layout.specs.Places.{attributes_of}
 use Rattle.layout.proofs.Laws.{attributes_length}
 use Rattle.printing.specs.Fitted.{Fitted}
 use Rattle.value_pairs.specs.Lines.{pair_lines}
-use Rattle.value_pairs.specs.Held.{place_or13, PolicyDecided}
+use Rattle.value_pairs.specs.Held.{PolicyDecided}
 use Rattle.value_pairs.proofs.Finding.{drop_positive}
 use Rattle.value_pairs.proofs.PairsAre.{pairs_are}
 
@@ -72,29 +72,34 @@ module _ (f : Bytes) (a : Attributes) (table : List ℕ) (s : Shape) (held : Pol
   many : length ss ≡ a.len
   many = length-map attrs choices ∙ ap length held.attributes ∙ attributes_length f a
 
-  module _ (name : Bytes) (place : ℕ) (is : several_at 0 name (attributes_of f a) ≡ place_or13 a.len place) where
+  module _ (name : Bytes) where
     -- no attribute
-    module _ (none : place ≡ a.len) (out : Bytes) where
+    module _ (is : several_at 0 name (attributes_of f a) ≡ refused 13 0) (out : Bytes) where
       none_found : several_at 0 name attrs ≡ refused 13 0
-      none_found = ap (several_at 0 name) held.attributes ∙ is ∙ rw (le-ltb place a.len (omega arith))
+      none_found = ap (several_at 0 name) held.attributes ∙ is
 
       pub no_attribute : (record { number = 13; second = 0 } ≡ value_pairs_answer f name out) × (out ≡ value_pairs_lent f name out)
       unfolding value_pairs_file pairs_named
       no_attribute = (rw (held.is_read, none_found), rw (held.is_read, none_found))
 
-    -- the attribute there
-    module _ (inside : place < a.len) where
+    -- the attribute that was found
+    module _ (place : ℕ) (is : several_at 0 name (attributes_of f a) ≡ given place) where
       found : several_at 0 name attrs ≡ given place
-      found = ap (several_at 0 name) held.attributes ∙ is ∙ rw (lt-ltb place a.len inside)
+      found = ap (several_at 0 name) held.attributes ∙ is
+
+      pub inside : place < a.len
+      inside =
+          let (b, at) = found_named 0 name attrs place found in
+          omega (arith, at, ap length b.in_file, length-append b.before (b.attribute ∷ b.behind), ap length held.attributes, attributes_length f a)
 
       abbrev size : ℕ
       size = get_or s.counts place 0
 
       size_is : size ≡ get_or ss place 0
-      size_is = sym (get_or-take s.len s.counts place 0 (omega (arith, held.counted))) ∙ ap (λ l. get_or l place 0) held.counts
+      size_is = sym (get_or-take s.len s.counts place 0 (omega (arith, inside, held.counted))) ∙ ap (λ l. get_or l place 0) held.counts
 
       pub some_set : 0 < size
-      some_set = rw size_is (positive_at ss place (positive attrs good) (omega (arith, many)))
+      some_set = rw size_is (positive_at ss place (positive attrs good) (omega (arith, inside, many)))
 
       pub few_sets : size ≤ 4095
       few_sets =
@@ -104,7 +109,7 @@ module _ (f : Bytes) (a : Attributes) (table : List ℕ) (s : Shape) (held : Pol
 
       -- the sizes before it, its own, and those behind it
       split : ss ≡ take place ss ++ (size ∷ drop (place + 1) ss)
-      split = sym (take-append-drop place ss) ∙ ap (λ l. take place ss ++ l) (drop-cons ss place 0 (omega (arith, many)) ∙ ap₂ (λ x k. x ∷ drop k ss) (sym size_is) (sym (add-one place)))
+      split = sym (take-append-drop place ss) ∙ ap (λ l. take place ss ++ l) (drop-cons ss place 0 (omega (arith, inside, many)) ∙ ap₂ (λ x k. x ∷ drop k ss) (sym size_is) (sym (add-one place)))
 
       module _ (behind : ℕ) (product_is : behind ≡ product (drop (place + 1) (counts_of s))) where
         behind_is : behind ≡ product (drop (place + 1) ss)
@@ -125,13 +130,13 @@ module _ (f : Bytes) (a : Attributes) (table : List ℕ) (s : Shape) (held : Pol
         runs_small = omega (arith, div-mul-le_self s.space behind, held.ready.small)
 
         -- the lines of the decisions laid down
-        module _ (decided rest : List ℕ) (laid : decided ≡ map (λ m. decision_number (decided_at table s.n (hit_of s) none_struck m)) (counting 0 s.space) ++ rest) where
-          numbered : (m : ℕ) → m < space attrs → get_or decided m 0 ≡ decision_number (decision_on held.policy m)
-          numbered m l = let within : m < s.space = rw space_is l in laid_at_lem _ s.space rest laid m within ∙ ap decision_number (held.decided m within)
+        module _ {decided : List Decision} (rest : List Decision) (laid : decided ≡ map (decided_at table s.n (hit_of s) none_struck) (counting 0 s.space) ++ rest) where
+          told : (m : ℕ) → m < space attrs → get_or decided m Decision.Permit ≡ decision_on held.policy m
+          told m l = let within : m < s.space = rw space_is l in laid_at_lem Decision.Permit _ s.space rest laid m within ∙ held.decided m within
 
           text_is : pairs_text held.policy place ≡ pair_lines decided size behind (s.space / behind)
           text_is =
-              pairs_are held.policy place (take place ss) size (drop (place + 1) ss) split (length-take-le place ss (omega (arith, many))) (positive attrs good) some_set few_sets decided numbered
+              pairs_are held.policy place (take place ss) size (drop (place + 1) ss) split (length-take-le place ss (omega (arith, inside, many))) (positive attrs good) some_set few_sets decided told
               ∙ ap₂ (λ b r. pair_lines decided size b r) (sym behind_is) (sym runs_are)
 
           pub pairs_fitted : {out new : Bytes} {r : Answer} → Fitted out (pair_lines decided size behind (s.space / behind)) new r → (r ≡ value_pairs_answer f name out) × (new ≡ value_pairs_lent f name out)

@@ -1,5 +1,5 @@
 -- What is asked of the attributes, the table and the shape that are lent; and the place of an attribute, or 13.
-use Rattle.std.specs.Prelude.{◌≡◌, ℕ, ◌<◌, cond, List, ltb}
+use Rattle.std.specs.Prelude.{◌≡◌, ℕ, ◌<◌, Option, Some, None, List}
 use Rattle.meaning.specs.Text.{Bytes}
 use Rattle.meaning.specs.Model.{Policy, sizes, Result, refused, given}
 use Rattle.meaning.specs.Reading.{read}
@@ -11,8 +11,9 @@ use Rattle.outcomes.specs.PolicyTable.{PolicyTable}
 use Rattle.layout.specs.declared.Attributes.{Attributes}
 use Rattle.layout.specs.Places.{attributes_of, AllStanding}
 
-abbrev pub place_or13 : ℕ → ℕ → Result ℕ
-place_or13 len place = cond (ltb place len) (given place) (refused 13 0)
+abbrev pub place_or13 : Option ℕ → Result ℕ
+place_or13 None = refused 13 0
+place_or13 (Some place) = given place
 
 -- the policy that reading f gives: where its attributes stand, how many choices they have, and what the table decides
 pub record PolicyDecided (f : Bytes) (a : Attributes) (table : List ℕ) (s : Shape) : Type 0 where

@@ -1,9 +1,9 @@
 // The pairs of values of an attribute that get another decision than one of the two alone, as lines. With an empty buffer the same code counts.
 #![tactic(auto)]
 
-ghost use Rattle.std.specs.Prelude.{◌≡◌, ◌+◌, ◌*◌, ◌-◌, ◌≤◌, ◌<◌, not, ◌&&◌, eqb, take, drop};
+ghost use Rattle.std.specs.Prelude.{◌≡◌, ◌+◌, ◌*◌, ◌-◌, ◌≤◌, ◌<◌, not, ◌&&◌, take, drop};
 ghost use Rattle.meaning.specs.Model.{product};
-ghost use Rattle.meaning.specs.Deciding.{members};
+ghost use Rattle.meaning.specs.Deciding.{is, members};
 ghost use Rattle.meaning.specs.ValuePairs.{several_at};
 ghost use Rattle.meaning.specs.Operations.{value_pairs_answer, value_pairs_lent};
 ghost use Rattle.laws.proofs.Requests.{Positive};
@@ -13,27 +13,24 @@ ghost use Rattle.value_pairs.specs.Lines.{later_bit, pair_line, value_lines, pai
 ghost use Rattle.value_pairs.specs.Held.{place_or13, PolicyDecided};
 
 use layout::Attributes;
-use meaning::Answer;
+use meaning::{Answer, Decision};
 use table::Shape;
 
-// The place of the attribute of an `M` line that has this name, or how many attributes there are.
-fn several_at(file: &[u8], a: Attributes, name: &[u8]) -> usize
+// The place of the attribute of an `M` line that has this name.
+fn several_at(file: &[u8], a: Attributes, name: &[u8]) -> Option<usize>
     requires { AllStanding file.now a }
-    ensures { (result ≤ a.len) × (several_at 0 name.now (attributes_of file.now a) ≡ place_or13 a.len result) }
+    ensures { several_at 0 name.now (attributes_of file.now a) ≡ place_or13 result }
 {
     let len = a.len;
-    let mut i = 0;
-    while i < len {
+    for i in 0..len {
         if !a.all[i].several {
-            i += 1;
             continue;
         }
         if layout::has_name(file, a, i, name) {
-            return i;
+            return Some(i);
         }
-        i += 1;
     }
-    len
+    None
 }
 
 // How many choices the attributes from a place on have.
@@ -42,32 +39,30 @@ fn choices_from(counts: [usize; 6], from: usize, len: usize) -> usize
     ensures { result ≡ product (drop from (take len counts)) }
 {
     let mut total: usize = 1;
-    let mut i = len;
-    while from < i {
-        i -= 1;
+    for i in (from..len).rev() {
         total *= counts[i];
     }
     total
 }
 
-// The later value's bit, if a set has two values, else 0.
-fn later_bit(set: usize) -> usize
+// The later value's bit, if a set has two values.
+fn later_bit(set: usize) -> Option<usize>
     requires { (1 ≤ set) × (set ≤ 4095) }
     ensures { result ≡ later_bit (members (set - 1)) }
 {
     let later = set & (set - 1);
     if later == 0 {
-        return 0;
+        return None;
     }
     if (later & (later - 1)) != 0 {
-        return 0;
+        return None;
     }
-    later
+    Some(later)
 }
 
 // Whether the decision with both values is another than with one of them alone.
-fn differs(both: u8, earlier: u8, later: u8) -> bool
-    ensures { result ≡ not (eqb both earlier && eqb both later) }
+fn differs(both: Decision, earlier: Decision, later: Decision) -> bool
+    ensures { result ≡ not (is both earlier && is both later) }
 {
     if both == earlier {
         return both != later;
@@ -78,7 +73,7 @@ fn differs(both: u8, earlier: u8, later: u8) -> bool
 // The line of request n, if its decision is another than with one of its two values alone: the request with the earlier
 // alone is `high` numbers before it, the one with the later alone `low`.
 fn put_pair(
-    decided: &[u8; 4096],
+    decided: &[Decision; 4096],
     n: usize,
     low: usize,
     high: usize,
@@ -103,7 +98,7 @@ fn put_pair(
 
 // The lines of two values and a choice of the attributes before: one for each choice of those behind, from request `first` on.
 fn put_values(
-    decided: &[u8; 4096],
+    decided: &[Decision; 4096],
     first: usize,
     low: usize,
     high: usize,
@@ -114,11 +109,9 @@ fn put_values(
     requires { (first + behind ≤ 4096) × (low ≤ first) × (high ≤ first) × (at ≤ 1000000000) }
     ensures { Wrote out.old at (value_lines decided.now first low high behind) out.new result × (result ≤ at + 500 * behind) }
 {
-    let mut k = 0;
     let mut end = at;
-    while k < behind {
+    for k in 0..behind {
         end = put_pair(decided, first + k, low, high, out, end);
-        k += 1;
     }
     end
 }
@@ -126,7 +119,7 @@ fn put_values(
 // The lines of an attribute of so many sets, with so many choices behind it. A run of requests has one choice of the
 // attributes before and one set: set `run % size`, whose mask is one more.
 fn put_pairs(
-    decided: &[u8; 4096],
+    decided: &[Decision; 4096],
     size: usize,
     behind: usize,
     runs: usize,
@@ -136,15 +129,12 @@ fn put_pairs(
     requires { (1 ≤ size) × (size ≤ 4095) × (runs * behind ≤ 4096) × (at ≤ 100000000) }
     ensures { Wrote out.old at (pair_lines decided.now size behind runs) out.new result × (result ≤ at + 2048000) }
 {
-    let mut run = 0;
     let mut end = at;
-    while run < runs {
+    for run in 0..runs {
         let set = run % size + 1;
-        let high = later_bit(set);
-        if high == 0 {
-            run += 1;
+        let Some(high) = later_bit(set) else {
             continue;
-        }
+        };
         let low = set - high;
         end = put_values(
             decided,
@@ -155,7 +145,6 @@ fn put_pairs(
             out,
             end,
         );
-        run += 1;
     }
     end
 }
@@ -173,14 +162,13 @@ pub fn tell(
     ensures value { result ≡ value_pairs_answer file.now name.now out.old }
     ensures out_after { out.new ≡ value_pairs_lent file.now name.now out.old }
 {
-    let place = several_at(file, attributes, name);
-    if place == attributes.len {
+    let Some(place) = several_at(file, attributes, name) else {
         return Answer {
             number: 13,
             second: 0,
         };
-    }
-    let mut decided = [0u8; 4096];
+    };
+    let mut decided = [Decision::Permit; 4096];
     outcomes::decide_requests(table, shape, &mut decided);
     let counts = shape.counts;
     let size = counts[place];

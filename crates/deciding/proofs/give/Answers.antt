@@ -27,4 +27,4 @@ pub returns : goal.returns
 returns c =
     let a = c.args in
     let fits = written c.put-needed.ensures.0 a.out.now _ c.lend-part.ensures.value c.put.ensures.0 c.text_answer.ensures in
-    rw c.with_decision.ensures (given_told a.file.now a.table.now a.places.now a.n a.q a.decision c.requires.1 c.requires.2 c.ask_one.new.given c.ask_one.ensures.0 fits)
+    rw c.with_decision.ensures (given_told a.file.now a.table.now a.places.now a.n a.q a.decision c.requires.1 c.requires.2 c.eq-permit.ensures c.ask_one.new.given c.ask_one.ensures.0 fits)

@@ -1,8 +1,8 @@
 -- `first_other`: no place passed tells two decisions. Assumes nothing.
-use mathlib.Core.Path.{◌≡◌, refl, sym, ap, ◌∙◌}
+use mathlib.Core.Path.{◌≡◌, refl, sym, ◌∙◌}
 use native.Mathlib.Omega.{arith}
-use Rattle.meaning.specs.Deciding.{decision_number}
-use Rattle.laws.proofs.Outcomes.{same_number}
+use borrow.Author.Tests.{not-true, not-false}
+use Rattle.decisions.proofs.Same.{alike, apart}
 use Rattle.blocks.specs.Bits.{decision_bit}
 use Rattle.outcomes.proofs.Searching.{up_to}
 use Rattle.outcomes.proofs.first_other.Goals as goal
@@ -15,17 +15,17 @@ returns-then-space-from c =
     let turn = c.loop-v in
     record { within = omega arith; found = λ l. absurd (omega arith); none_earlier = λ u l before. turn.invariant u (omega arith) }
 
-pub returns-then-outcome_number : goal.returns-then-outcome_number
-returns-then-outcome_number c =
+pub returns-then-ne : goal.returns-then-ne
+returns-then-ne c =
     let turn = c.loop-v in
-    let differ : decision_bit c.args.given turn.v ≡ decision_bit c.args.before turn.v → ⊥ = λ e. c.if-outcome_number.true (c.outcome_number.ensures.0 ∙ ap decision_number e ∙ sym c.outcome_number-in-loop-v.ensures.0) in
+    let differ : decision_bit c.args.given turn.v ≡ decision_bit c.args.before turn.v → ⊥ = λ e. apart _ _ (not-true _ (sym c.ne.ensures ∙ c.if-ne.true)) (c.decision_of.ensures ∙ e ∙ sym c.decision_of-in-loop-v.ensures) in
     record { within = omega arith; found = λ l. (turn.v, omega arith, refl, differ); none_earlier = λ u l before. turn.invariant u (omega arith) }
 
 pub loop-v-preserved : goal.loop-v-preserved
 loop-v-preserved c =
     let turn = c.loop-v in
     let args = c.args in
-    let here : decision_bit args.given turn.v ≡ decision_bit args.before turn.v = same_number _ _ (sym c.outcome_number.ensures.0 ∙ c.if-outcome_number.false ∙ c.outcome_number-in-loop-v.ensures.0) in
+    let here : decision_bit args.given turn.v ≡ decision_bit args.before turn.v = sym c.decision_of.ensures ∙ alike _ _ (not-false _ (sym c.ne.ensures ∙ c.if-ne.false)) ∙ c.decision_of-in-loop-v.ensures in
     up_to (λ u. decision_bit args.given u ≡ decision_bit args.before u) turn.v turn.invariant here
 
 pub returns : goal.returns

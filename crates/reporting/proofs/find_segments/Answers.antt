@@ -3,11 +3,11 @@ use native.Mathlib.Omega.{arith}
 use Rattle.reporting.proofs.Finding.{segments_found}
 use Rattle.reporting.proofs.find_segments.Goals as goal
 
-pub number_all-requires : goal.number_all-requires
-number_all-requires c = let pre = c.requires in (pre.3.enough, pre.0.small, omega (arith, pre.0.small))
+pub tell_all-requires : goal.tell_all-requires
+tell_all-requires c = let pre = c.requires in (pre.3.enough, pre.0.small, omega (arith, pre.0.small))
 
 pub returns : goal.returns
 returns c =
     let pre = c.requires in
     let applied = c.apply_all in
-    segments_found _ _ _ _ _ applied.new.applied _ _ applied.ensures.0 c.words_all.ensures c.size_all.ensures _ _ pre.3 c.number_all.ensures
+    segments_found _ _ _ _ applied.new.applied _ _ applied.ensures.0 c.words_all.ensures c.size_all.ensures _ _ pre.3 c.tell_all.ensures

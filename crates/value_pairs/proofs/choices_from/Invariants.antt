@@ -6,7 +6,4 @@ use Rattle.meaning.specs.Model.{product}
 use Rattle.value_pairs.proofs.choices_from.Given as goal
 
 abbrev pub invariant-loop-i : goal.invariant-loop-i
-invariant-loop-i l = (l.from ≤ l.i) × (l.i ≤ l.len) × (l.total ≡ product (drop l.i (take l.len l.counts)))
-
-abbrev pub decreases-loop-i : goal.decreases-loop-i
-decreases-loop-i l = l.i
+invariant-loop-i l = (l.from ≤ l.i) × (l.total ≡ product (drop l.i (take l.len l.counts)))

@@ -1,9 +1,10 @@
 -- `differs`: by its two comparisons. Assumes nothing.
-use borrow.Author.Tests.{eq-eqb, ne_eqb}
+use mathlib.Core.Path.{sym, ◌∙◌}
+use Rattle.decisions.proofs.Same.{same_is}
 use Rattle.value_pairs.proofs.differs.Goals as goal
 
-pub returns-then-both-earlier : goal.returns-then-both-earlier
-returns-then-both-earlier c = let args = c.args in rw (eq-eqb args.both args.earlier c.if-both-earlier.true)
+pub returns-then-eq : goal.returns-then-eq
+returns-then-eq c = rw (sym (same_is c.args.both c.args.earlier) ∙ sym c.eq.ensures ∙ c.if-eq.true, ← same_is c.args.both c.args.later) c.ne.ensures
 
 pub returns : goal.returns
-returns c = let args = c.args in rw (ne_eqb args.both args.earlier c.if-both-earlier.false)
+returns c = rw (sym (same_is c.args.both c.args.earlier) ∙ sym c.eq.ensures ∙ c.if-eq.false)

@@ -1,11 +1,8 @@
 -- `put_pairs`: the lines of the runs so far. Assumes nothing.
-use Prim.Native.Nat.{◌-◌, ◌*◌, ◌≤◌}
+use Prim.Native.Nat.{◌*◌}
 use Rattle.printing.proofs.Walks.{Sofar}
 use Rattle.value_pairs.specs.Lines.{run_lines}
 use Rattle.value_pairs.proofs.put_pairs.Given as goal
 
 abbrev pub invariant-loop-run : goal.invariant-loop-run
-invariant-loop-run l = (l.run ≤ l.runs) × Sofar (run_lines l.decided l.size l.behind) (500 * l.behind) 0 l.initial.out l.at l.run l.out l.end
-
-abbrev pub decreases-loop-run : goal.decreases-loop-run
-decreases-loop-run l = l.runs - l.run
+invariant-loop-run l = Sofar (run_lines l.decided l.size l.behind) (500 * l.behind) 0 l.initial.out l.at l.run l.out l.end

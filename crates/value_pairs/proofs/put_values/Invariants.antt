@@ -1,11 +1,8 @@
 -- `put_values`: the lines of the requests so far. Assumes nothing.
-use Prim.Native.Nat.{◌+◌, ◌-◌, ◌≤◌}
+use Prim.Native.Nat.{◌+◌}
 use Rattle.printing.proofs.Walks.{Sofar}
 use Rattle.value_pairs.specs.Lines.{pair_line}
 use Rattle.value_pairs.proofs.put_values.Given as goal
 
 abbrev pub invariant-loop-k : goal.invariant-loop-k
-invariant-loop-k l = (l.k ≤ l.behind) × Sofar (λ k. pair_line l.decided l.low l.high (l.first + k)) 500 0 l.initial.out l.at l.k l.out l.end
-
-abbrev pub decreases-loop-k : goal.decreases-loop-k
-decreases-loop-k l = l.behind - l.k
+invariant-loop-k l = Sofar (λ k. pair_line l.decided l.low l.high (l.first + k)) 500 0 l.initial.out l.at l.k l.out l.end
