@@ -51,7 +51,7 @@ pub record EndedLine (f : Bytes) (st : State) (end : ℕ) : Type 0 where
 
 -- The state before the first line
 abbrev pub beginning : State
-beginning = record { at = 0; line = 1; attributes = no_attributes; space = 1; tree = record { len = 0; depth = 0; kinds = replicate 8 0 } }
+beginning = record { at = 0; line = 1; attributes = no_attributes; space = 1; tree = record { len = 0; depth = 0; kinds = replicate 8 None } }
 
 -- the state behind an attribute line of these fields, so many
 abbrev pub behind_attribute : State → ℕ → (several : Bool) → List Bytes → ℕ → State

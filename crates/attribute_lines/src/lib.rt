@@ -38,7 +38,7 @@ pub fn start() -> State
     let tree = Tree {
         len: 0,
         depth: 0,
-        kinds: [0; 8],
+        kinds: [None; 8],
     };
     State {
         at: 0,

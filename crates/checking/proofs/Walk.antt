@@ -108,7 +108,7 @@ module _ (attrs : List Attribute) (all : List Element) (i : ℕ) (e : Element) w
       omega (arith, leb-false 64 (length (earlier all i)) passes.1.1.0, earlier_length all i)
 
 -- the tree before the first element, and behind one more
-pub begun_first : (all : List Element) → Begun all (record { len = 0; depth = 0; kinds = replicate 8 0 })
+pub begun_first : (all : List Element) → Begun all (record { len = 0; depth = 0; kinds = replicate 8 None })
 unfolding earlier
 begun_first all = record { stands = empty_stands; few = zero-le; shallow = zero-le; short_names = λ i l. absurd (omega arith) }
 

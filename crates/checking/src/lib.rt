@@ -150,7 +150,7 @@ pub fn check_elements(counts: [usize; 6], attributes: usize, list: Elements) -> 
     let mut tree = Tree {
         len: 0,
         depth: 0,
-        kinds: [0; 8],
+        kinds: [None; 8],
     };
     let mut line = attributes + 1;
     loop {

@@ -21,6 +21,7 @@ use Rattle.table.proofs.Rows.{row_here, row_other}
 use Rattle.layout.specs.declared.Attributes.{Attributes}
 use Rattle.layout.specs.Places.{part, attribute_at, attributes_from, attributes_of, kind_at, start_of, name_in, obligation_place, obligation_count, element_in, elements_to, names_to, Named, Obliged, Clear, lines_to, Lined}
 use Rattle.layout.proofs.Slots.{SameSlots, count_alike, obligations_alike, lines_alike, obliged_alike, none_in, none_obliged}
+use Rattle.std.specs.Prelude.{None}
 use Rattle.layout.specs.Nearest.{nearest, Stands}
 
 -- The element of a row: its line's start, its name's end, its word's number, its depth and its masks
@@ -160,9 +161,9 @@ pub attributes_length : (f : Bytes) (a : Attributes) → length (attributes_of f
 attributes_length f a = attributes_from_length f a 0 a.len
 
 -- The empty tree
-pub empty_stands : Stands (record { len = 0; depth = 0; kinds = replicate 8 0 }) []
+pub empty_stands : Stands (record { len = 0; depth = 0; kinds = replicate 8 None }) []
 unfolding nearest
-empty_stands = record { room = refl; count = refl; last = refl; kinds = λ d l. get_or-replicate 8 d 0 0 l }
+empty_stands = record { room = refl; count = refl; last = refl; kinds = λ d l. get_or-replicate 8 d None None l }
 
 -- A decision looks at neither kinds nor names nor obligations: at elements as a table has them it is the same
 abbrev pub bare : Element → Element

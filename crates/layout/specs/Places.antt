@@ -1,5 +1,5 @@
 -- Where attributes and elements stand in a file, and what the definitions make of the places.
-use Rattle.std.specs.Prelude.{ℕ, zero, suc, ◌+◌, ◌-◌, ◌*◌, ◌≤◌, ◌<◌, Bool, true, false, cond, List, [], ◌∷◌, map, ◌≡◌, ◌≢◌, eqb, length, take, drop, get_or, set, replicate}
+use Rattle.std.specs.Prelude.{ℕ, zero, suc, ◌+◌, ◌-◌, ◌*◌, ◌≤◌, ◌<◌, Bool, true, false, cond, List, [], ◌∷◌, map, ◌≡◌, ◌≢◌, eqb, length, take, drop, get_or, set, replicate, Option, Some, None}
 use Rattle.meaning.specs.declared.Kind.{Kind}
 use Rattle.meaning.specs.declared.Kind.TheVariants.{Set, Policy, Rule}
 use Rattle.meaning.specs.declared.Word.{Word}
@@ -8,6 +8,7 @@ use Rattle.meaning.specs.declared.Obligation.{Obligation}
 use Rattle.meaning.specs.declared.Element.{Element}
 use Rattle.meaning.specs.Text.{Bytes, same, same_name, cut, tab, newline}
 use Rattle.meaning.specs.Model.{Attribute, padded, unused, with_obligations, letter_text, choices_of}
+use Rattle.meaning.specs.Joining.{declared, place_in}
 use Rattle.table.specs.Rows.{element_at}
 use Rattle.layout.specs.declared.AttributePlace.{AttributePlace}
 use Rattle.layout.specs.declared.Attributes.{Attributes}
@@ -54,6 +55,10 @@ pub record Standing (f : Bytes) (a : Attributes) (i : ℕ) : Type 0 where
 pub record AllStanding (f : Bytes) (a : Attributes) : Type 0 where
   pub few : a.len ≤ 6
   pub each : (i : ℕ) → i < a.len → Standing f a i
+
+-- the place of the first attribute that has this name
+abbrev pub place_named : List Attribute → Bytes → Option ℕ
+place_named attrs n = cond (declared attrs n) (Some (place_in attrs n)) None
 
 -- how many values each attribute has
 abbrev pub value_counts : List Attribute → List ℕ

@@ -121,7 +121,7 @@ module _ {f table places : List ℕ} {st : State} {end n : ℕ} (ready : BeforeL
     free : obligation_count places m < 2
     free =
         let is = followed f places st.tree fs some ready.in_file.shallow s.before ready.tree (follows ready).obligations in
-        ltb-true (obligation_count places m) 2 (and_true (not (eqb (get_or st.tree.kinds st.tree.depth 0) 3)) (ltb (obligation_count places m) 2) (sym is ∙ well)).1
+        ltb-true (obligation_count places m) 2 (and_true (not (rule_found (get_or st.tree.kinds st.tree.depth None))) (ltb (obligation_count places m) 2) (sym is ∙ well)).1
 
     there : Stood f st.at end name word
     there = stood f st.at end name word (omega (arith, here.ends)) (word_some word passes.1.1.1.0) (obligation_fields_lem fs name word (is_obligation s fs n line three))

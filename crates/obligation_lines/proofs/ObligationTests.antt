@@ -16,8 +16,9 @@ use Rattle.laws.proofs.Types.{Kind, set, policy, rule, Element}
 use Rattle.laws.proofs.Bools.{eqb_same}
 use Rattle.syntax.specs.Fields.{number_of_word}
 use Rattle.syntax.proofs.Fields.{no_word}
+use Rattle.std.specs.Prelude.{Option, Some, None}
 use Rattle.layout.specs.declared.Tree.{Tree}
-use Rattle.layout.specs.Nearest.{kind_number, nearest, Stands}
+use Rattle.layout.specs.Nearest.{nearest, Stands}
 use Rattle.layout.specs.Places.{obligations_in, obligation_count}
 use Rattle.layout.proofs.Slots.{count_is}
 use Rattle.attribute_lines.proofs.ObligationShape.{stored_test}
@@ -27,8 +28,14 @@ use Rattle.obligation_lines.specs.Obligations.{last_obligations, Follows, Obliga
 abbrev pub first_found : (named known followed : Bool) (word : ℕ) → ℕ
 first_found named known followed word = lowest ((3, not named) ∷ (4, known) ∷ (14, not followed) ∷ (7, eqb word 6) ∷ [])
 
--- a rule's number is 3
-kind_may : (k : Kind) → may_have_obligations k ≡ not (eqb (kind_number k) 3)
+-- a rule may have none
+abbrev pub rule_found : Option Kind → Bool
+rule_found None = false
+rule_found (Some set) = false
+rule_found (Some policy) = false
+rule_found (Some rule) = true
+
+kind_may : (k : Kind) → may_have_obligations k ≡ not (rule_found (Some k))
 kind_may set = refl
 kind_may policy = refl
 kind_may rule = refl
@@ -50,11 +57,11 @@ module _ (f : Bytes) (places : List ℕ) (tree : Tree) (fs : List Bytes) where
   none_followed none (e ∷ es) s = absurd (omega (arith, s.count))
 
   pub followed : tree.len ≢ 0 → tree.depth ≤ 7 → (es : List Element) → Stands tree es → nearest_obligations es ≡ last_obligations f places tree.len
-      → well_followed es ≡ (not (eqb (get_or tree.kinds tree.depth 0) 3) && ltb (obligation_count places (tree.len - 1)) 2)
+      → well_followed es ≡ (not (rule_found (get_or tree.kinds tree.depth None)) && ltb (obligation_count places (tree.len - 1)) 2)
   unfolding nearest
   followed some shallow [] s own = absurd (some s.count)
   followed some shallow (e ∷ es) s own =
-      let here : get_or tree.kinds tree.depth 0 ≡ kind_number e.kind = s.kinds tree.depth (omega arith) ∙ rw (s.last, eqb_same e.depth) in
+      let here : get_or tree.kinds tree.depth None ≡ Some e.kind = s.kinds tree.depth (omega arith) ∙ rw (s.last, eqb_same e.depth) in
       let more : tree.len ≡ suc (tree.len - 1) = omega (arith, s.count) in
       let counted = ap length (own ∙ ap (last_obligations f places) more) ∙ count_is f places (tree.len - 1) in
       rw (here, counted, kind_may e.kind)
@@ -81,19 +88,19 @@ module _ (f : Bytes) (places : List ℕ) (tree : Tree) (fs : List Bytes) where
       known_name known = refuses 4 (omega arith) (λ s h. rw (named, last_names_lem, known))
 
       module _ (fresh : among_names (get_or fs 1 []) (map obligation_name (obligations_in f places (tree.len - 1))) ≡ false) (shallow : tree.depth ≤ 7) where
-        by_followed : (s : Sofar) → Follows f places tree s → found (well_followed s.before) ≡ lowest ((14, not (not (eqb (get_or tree.kinds tree.depth 0) 3) && ltb (obligation_count places (tree.len - 1)) 2)) ∷ (7, eqb (number_of_word (word_of rule (get_or fs 2 []))) 6) ∷ [])
+        by_followed : (s : Sofar) → Follows f places tree s → found (well_followed s.before) ≡ lowest ((14, not (not (rule_found (get_or tree.kinds tree.depth None)) && ltb (obligation_count places (tree.len - 1)) 2)) ∷ (7, eqb (number_of_word (word_of rule (get_or fs 2 []))) 6) ∷ [])
         by_followed s h = rw (named, last_names_lem, fresh, followed some shallow s.before h.stands h.obligations)
 
-        pub behind_rule : get_or tree.kinds tree.depth 0 ≡ 3 → Answer 14
-        behind_rule is = refuses 14 (omega arith) (λ s h. by_followed s h ∙ rw (eq-eqb _ 3 is))
+        pub behind_rule : rule_found (get_or tree.kinds tree.depth None) ≡ true → Answer 14
+        behind_rule is = refuses 14 (omega arith) (λ s h. by_followed s h ∙ rw is)
 
-        module _ (other : get_or tree.kinds tree.depth 0 ≢ 3) where
+        module _ (other : rule_found (get_or tree.kinds tree.depth None) ≡ false) where
           pub third : 2 ≤ obligation_count places (tree.len - 1) → Answer 14
-          third full = refuses 14 (omega arith) (λ s h. by_followed s h ∙ rw (ne_eqb _ 3 other, le-ltb _ 2 full))
+          third full = refuses 14 (omega arith) (λ s h. by_followed s h ∙ rw (other, le-ltb _ 2 full))
 
           module _ (free : obligation_count places (tree.len - 1) < 2) where
             by_word : (s : Sofar) → Follows f places tree s → found (well_followed s.before) ≡ lowest ((7, eqb (number_of_word (word_of rule (get_or fs 2 []))) 6) ∷ [])
-            by_word s h = by_followed s h ∙ rw (ne_eqb _ 3 other, lt-ltb _ 2 free)
+            by_word s h = by_followed s h ∙ rw (other, lt-ltb _ 2 free)
 
             pub bad_word : number_of_word (word_of rule (get_or fs 2 [])) ≡ 6 → Answer 7
             bad_word bad = refuses 7 (omega arith) (λ s h. by_word s h ∙ rw (eq-eqb _ 6 bad))

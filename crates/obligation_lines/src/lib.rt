@@ -30,10 +30,8 @@ fn obligation_refusal(file: &[u8], places: &[usize], tree: Tree, line: &[u8]) ->
     if layout::known_obligation(file, places, last, name) {
         return Err(Refusal::KnownName);
     }
-    let kinds = tree.kinds;
-    let depth = tree.depth;
     // the nearest element is a rule
-    if kinds[depth] == 3 {
+    if matches!(tree.kinds[tree.depth], Some(Kind::Rule)) {
         return Err(Refusal::NoObligation);
     }
     if 2 <= layout::obligation_count(places, last) {

@@ -8,81 +8,81 @@ use borrow.Author.Rules.{rules}
 use Rattle.meaning.specs.Text.{Bytes}
 use Rattle.laws.proofs.Search.{last_here, last_earlier, last_nowhere}
 use Rattle.names.proofs.Ends.{other_end}
-use Rattle.table.specs.Tree.{place_or}
+use Rattle.laws.specs.Found.{found}
 use Rattle.layout.specs.Places.{start_of, has_name, Named}
-use Rattle.layout.proofs.element_named.Goals as goal
+use Rattle.layout.proofs.element_places.element_named.Goals as goal
 
 -- the places of the element below `i`
 placed : {f : Bytes} {places : List ℕ} {n : ℕ} → Named f places n → (i : ℕ) → 0 < i → i ≤ n → let k = i - 1 in (2 * k + 2 ≤ length places) × (start_of places k + 4 ≤ get_or places (2 * k + 1) 0) × (get_or places (2 * k + 1) 0 ≤ length f)
 placed named i some inside = (omega (arith, named.room), named.starts (i - 1) (omega arith), named.ends (i - 1) (omega arith))
 
 pub loop-i-init : goal.loop-i-init
-loop-i-init c = (search rules, refl)
+loop-i-init c = refl
 
 pub overflow_mul-end : goal.overflow_mul-end
-overflow_mul-end c = let (room, start, end) = placed c.requires c.loop-i.i (omega arith) c.loop-i.invariant.0 in search rules
+overflow_mul-end c = let (room, start, end) = placed c.requires c.loop-i.i (omega arith) (omega arith) in search rules
 
 pub overflow_add-end : goal.overflow_add-end
-overflow_add-end c = let (room, start, end) = placed c.requires c.loop-i.i (omega arith) c.loop-i.invariant.0 in search rules
+overflow_add-end c = let (room, start, end) = placed c.requires c.loop-i.i (omega arith) (omega arith) in search rules
 
 pub offset_bounds-places-i : goal.offset_bounds-places-i
-offset_bounds-places-i c = let (room, start, end) = placed c.requires c.loop-i.i (omega arith) c.loop-i.invariant.0 in search rules
+offset_bounds-places-i c = let (room, start, end) = placed c.requires c.loop-i.i (omega arith) (omega arith) in search rules
 
 pub bounds-places-i : goal.bounds-places-i
 bounds-places-i c =
-    let (room, start, end) = placed c.requires c.loop-i.i (omega arith) c.loop-i.invariant.0 in search rules
+    let (room, start, end) = placed c.requires c.loop-i.i (omega arith) (omega arith) in search rules
 
 pub ends_otherwise-requires : goal.ends_otherwise-requires
 ends_otherwise-requires c =
-    let (room, start, end) = placed c.requires c.loop-i.i (omega arith) c.loop-i.invariant.0 in (omega arith, end)
+    let (room, start, end) = placed c.requires c.loop-i.i (omega arith) (omega arith) in (omega arith, end)
 
 pub loop-i-preserved-then-ends_otherwise : goal.loop-i-preserved-then-ends_otherwise
 loop-i-preserved-then-ends_otherwise c =
     let a = c.args in
-    let (room, start, end) = placed c.requires c.loop-i.i (omega arith) c.loop-i.invariant.0 in
+    let (room, start, end) = placed c.requires c.loop-i.i (omega arith) (omega arith) in
     let i = c.loop-i.i - 1 in
     let other = other_end a.file.now a.name.now (start_of a.places.now i + 4) (get_or a.places.now (2 * i + 1) 0) start end (sym c.ends_otherwise.ensures ∙ c.if-ends_otherwise.true) in
-    (omega arith, c.loop-i.invariant.1 ∙ last_earlier (has_name a.file.now a.places.now a.name.now) c.loop-i.i (omega arith) other)
+    c.loop-i.invariant ∙ last_earlier (has_name a.file.now a.places.now a.name.now) c.loop-i.i (omega arith) other
 
 pub overflow_mul-start : goal.overflow_mul-start
 overflow_mul-start c =
-    let (room, start, end) = placed c.requires c.loop-i.i (omega arith) c.loop-i.invariant.0 in search rules
+    let (room, start, end) = placed c.requires c.loop-i.i (omega arith) (omega arith) in search rules
 
 pub offset_bounds-places-i-in-loop-i : goal.offset_bounds-places-i-in-loop-i
 offset_bounds-places-i-in-loop-i c =
-    let (room, start, end) = placed c.requires c.loop-i.i (omega arith) c.loop-i.invariant.0 in search rules
+    let (room, start, end) = placed c.requires c.loop-i.i (omega arith) (omega arith) in search rules
 
 pub bounds-places-i-in-loop-i : goal.bounds-places-i-in-loop-i
 bounds-places-i-in-loop-i c =
-    let (room, start, end) = placed c.requires c.loop-i.i (omega arith) c.loop-i.invariant.0 in search rules
+    let (room, start, end) = placed c.requires c.loop-i.i (omega arith) (omega arith) in search rules
 
 pub overflow_add-start : goal.overflow_add-start
 overflow_add-start c =
-    let (room, start, end) = placed c.requires c.loop-i.i (omega arith) c.loop-i.invariant.0 in search rules
+    let (room, start, end) = placed c.requires c.loop-i.i (omega arith) (omega arith) in search rules
 
 pub slice_bounds-same_name-count : goal.slice_bounds-same_name-count
 slice_bounds-same_name-count c =
-    let (room, start, end) = placed c.requires c.loop-i.i (omega arith) c.loop-i.invariant.0 in search rules
+    let (room, start, end) = placed c.requires c.loop-i.i (omega arith) (omega arith) in search rules
 
 pub slice_bounds-same_name-start : goal.slice_bounds-same_name-start
 slice_bounds-same_name-start c =
-    let (room, start, end) = placed c.requires c.loop-i.i (omega arith) c.loop-i.invariant.0 in search rules
+    let (room, start, end) = placed c.requires c.loop-i.i (omega arith) (omega arith) in search rules
 
 pub slice_bounds-same_name-end : goal.slice_bounds-same_name-end
 slice_bounds-same_name-end c =
-    let (room, start, end) = placed c.requires c.loop-i.i (omega arith) c.loop-i.invariant.0 in search rules
+    let (room, start, end) = placed c.requires c.loop-i.i (omega arith) (omega arith) in search rules
 
 pub returns-then-same_name : goal.returns-then-same_name
 returns-then-same_name c =
     let a = c.args in
-    sym (ap (place_or a.n) (c.loop-i.invariant.1 ∙ last_here (has_name a.file.now a.places.now a.name.now) c.loop-i.i (omega arith) (sym c.same_name.ensures ∙ c.if-same_name.true)))
+    sym (ap found (c.loop-i.invariant ∙ last_here (has_name a.file.now a.places.now a.name.now) c.loop-i.i (omega arith) (sym c.same_name.ensures ∙ c.if-same_name.true)))
 
 pub loop-i-preserved : goal.loop-i-preserved
 loop-i-preserved c =
     let a = c.args in
-    (omega arith, c.loop-i.invariant.1 ∙ last_earlier (has_name a.file.now a.places.now a.name.now) c.loop-i.i (omega arith) (sym c.same_name.ensures ∙ c.if-same_name.false))
+    c.loop-i.invariant ∙ last_earlier (has_name a.file.now a.places.now a.name.now) c.loop-i.i (omega arith) (sym c.same_name.ensures ∙ c.if-same_name.false)
 
 pub returns : goal.returns
 returns c =
     let a = c.args in
-    sym (ap (place_or a.n) (c.loop-i.invariant.1 ∙ last_nowhere (has_name a.file.now a.places.now a.name.now) c.loop-i.i (omega arith)))
+    sym (ap found (c.loop-i.invariant ∙ last_nowhere (has_name a.file.now a.places.now a.name.now) c.loop-i.i (omega arith)))

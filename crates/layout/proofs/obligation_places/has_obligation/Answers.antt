@@ -7,7 +7,7 @@ use lib.ListN.{length}
 use borrow.Author.Rules.{rules}
 use Rattle.meaning.specs.Text.{Bytes}
 use Rattle.layout.specs.Places.{obligation_start, obligation_end, Obliged}
-use Rattle.layout.proofs.has_obligation.Goals as goal
+use Rattle.layout.proofs.obligation_places.has_obligation.Goals as goal
 
 within : (end size : ℕ) → (end ≢ 0 → end + 1 < size) → end ≤ size
 within zero size h = omega arith

@@ -2,7 +2,7 @@
 use native.Mathlib.Omega.{arith}
 use native.Mathlib.Numerals.{add-one}
 use lib.ListN.{length-set}
-use Rattle.layout.proofs.put_obligation.Goals as goal
+use Rattle.layout.proofs.obligation_places.put_obligation.Goals as goal
 
 pub bounds-places-i-2 : goal.bounds-places-i-2
 bounds-places-i-2 c = simp length-set (omega arith)

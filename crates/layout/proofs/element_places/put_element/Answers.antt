@@ -3,7 +3,7 @@ use Prim.Native.Nat.{◌*◌}
 use native.Mathlib.Omega.{arith}
 use native.Mathlib.Numerals.{add-one}
 use lib.ListN.{length-set}
-use Rattle.layout.proofs.put_element.Goals as goal
+use Rattle.layout.proofs.element_places.put_element.Goals as goal
 
 pub bounds-places-i-2 : goal.bounds-places-i-2
 bounds-places-i-2 c = simp length-set (omega arith)
