@@ -1,5 +1,5 @@
 -- What a state of reading stands for, and what reading one line does.
-use Rattle.std.specs.Prelude.{ℕ, ◌+◌, ◌-◌, ◌*◌, ◌≤◌, ◌<◌, Bool, List, [], ◌≡◌, length, drop, get_or, replicate, Result, IfOk, OnErr}
+use Rattle.std.specs.Prelude.{ℕ, ◌+◌, ◌-◌, ◌*◌, ◌≤◌, ◌<◌, Bool, List, [], ◌≡◌, length, drop, get_or, replicate, None, Result, IfOk, OnErr}
 use Rattle.meaning.specs.Text.{Bytes, cut, tab, newline}
 use Rattle.meaning.specs.Model.{space, choices_of}
 use Rattle.meaning.specs.Reading.{line_of, Sofar}

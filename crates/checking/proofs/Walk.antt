@@ -11,6 +11,7 @@ use lib.Dec.{lit≤}
 use lib.ListN.{length, take, drop, get_or, replicate, length-replicate, drop_of_length-le}
 use lib.Seq.{length-take-le, drop-cons, get_or-take}
 use borrow.Author.Tests.{leb-false}
+use Rattle.std.specs.Prelude.{None}
 use Rattle.meaning.specs.Text.{Bytes}
 use Rattle.meaning.specs.Model.{Attribute, Result, refused, given, ◌then◌, word_text}
 use Rattle.meaning.specs.Reading.{Sofar, lowest, element_tests}

@@ -6,16 +6,27 @@ use Prim.Native.Nat.{ℕ, suc, ◌+◌, ◌-◌, ◌≤◌, ◌<◌}
 use native.Mathlib.Numerals.{add-one}
 use native.Mathlib.Omega.{arith}
 use lib.ListN.{length, set, replicate, length-append, length-map}
-use Rattle.meaning.specs.Text.{Bytes, keep}
+use Rattle.std.specs.Option.{unwrap_or}
+use Rattle.meaning.specs.Text.{Bytes, same_name, keep}
 use Rattle.meaning.specs.Model.{Attribute, padded}
 use Rattle.meaning.specs.Joining.{declared, both, place_in}
 use Rattle.laws.proofs.Bools.{Test, passed, failed, test}
 use Rattle.layout.specs.declared.Attributes.{Attributes}
-use Rattle.layout.specs.Places.{attribute_at, attributes_from}
+use Rattle.layout.specs.Places.{place_named, attribute_at, attributes_from}
 use Rattle.layout.proofs.Laws.{attributes_from_length}
 use Rattle.layout.proofs.Adding.{from_more}
 use Rattle.joined_attributes.specs.declared.Placing.{Placing}
 use Rattle.joined_attributes.specs.Placing.{listed, places_in}
+
+-- the place of a name, or their count where none has it
+pub place_or_count : (attrs : List Attribute) (n : Bytes) → unwrap_or (place_named attrs n) (length attrs) ≡ place_in attrs n
+place_or_count [] n = refl
+place_or_count (a ∷ attrs) n = go (test (same_name n a.name)) (test (declared attrs n)) (place_or_count attrs n)
+  where
+    go : Test (same_name n a.name) → Test (declared attrs n) → unwrap_or (place_named attrs n) (length attrs) ≡ place_in attrs n → unwrap_or (place_named (a ∷ attrs) n) (length (a ∷ attrs)) ≡ place_in (a ∷ attrs) n
+    go (passed e) d later = rw e
+    go (failed e) (passed d) later = rw (e, d)
+    go (failed e) (failed d) later = rw (e, d) (ap suc (rw d at later))
 
 -- the first zero behind some places becomes one more
 set_behind : (ns : List ℕ) (k n : ℕ) → set (ns ++ replicate (suc k) 0) (length ns) n ≡ (ns ++ (n ∷ [])) ++ replicate k 0

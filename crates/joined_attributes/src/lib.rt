@@ -3,7 +3,7 @@
 
 ghost use Rattle.std.specs.Prelude.{◌≡◌, ◌+◌, ◌≤◌, ◌<◌, set};
 ghost use Rattle.meaning.specs.Text.{any};
-ghost use Rattle.meaning.specs.Joining.{both, differs, first_differing};
+ghost use Rattle.meaning.specs.Joining.{both, differs, first_differing, place_in};
 ghost use Rattle.table.specs.Tree.{place_or};
 ghost use Rattle.layout.specs.Places.{attribute_at, attributes_of, Standing, AllStanding};
 ghost use Rattle.joined_attributes.specs.Placing.{listed, places_in};
@@ -79,6 +79,14 @@ fn with_place(p: Placing, place: usize) -> Placing
     }
 }
 
+// The place of the attribute of this name among those of a file, or their count.
+fn place_in(own: &[u8], c: Attributes, name: &[u8]) -> usize
+    requires { AllStanding own.now c }
+    ensures { result ≡ place_in (attributes_of own.now c) name.now }
+{
+    layout::attribute_named(own, c, name).unwrap_or(c.len)
+}
+
 // Where the attributes of the first file stand among those of a file.
 fn of_first(first: &[u8], a: Attributes, own: &[u8], c: Attributes) -> Placing
     requires { AllStanding first.now a × AllStanding own.now c }
@@ -91,7 +99,7 @@ fn of_first(first: &[u8], a: Attributes, own: &[u8], c: Attributes) -> Placing
     };
     let mut i = 0;
     while i < len {
-        p = with_place(p, layout::attribute_named(own, c, a.name(first, i)));
+        p = with_place(p, place_in(own, c, a.name(first, i)));
         i += 1;
     }
     p
@@ -119,7 +127,7 @@ pub fn places_in(
             j += 1;
             continue;
         }
-        p = with_place(p, layout::attribute_named(own, c, name));
+        p = with_place(p, place_in(own, c, name));
         j += 1;
     }
     p

@@ -1,5 +1,5 @@
 -- An obligation's line that is read: what it laid down is the obligation of the nearest element, and the state behind it.
-use Rattle.std.specs.Prelude.{Result, Ok, Err}
+use Rattle.std.specs.Prelude.{None, Result, Ok, Err}
 use mathlib.Core.Path.{◌≡◌, refl, sym, ap, ap₂, ◌∙◌, subst, subst⁻¹}
 use mathlib.Core.Logic.{◌≢◌, ⊎_elim}
 use Prim.Native.Nat.{ℕ, zero, suc, ◌+◌, ◌-◌, ◌≤◌, ◌<◌, zero-le, suc-le-suc}
@@ -35,7 +35,7 @@ use Rattle.attribute_lines.proofs.LineKinds.{wrong_refused}
 use Rattle.attribute_lines.proofs.ObligationShape.{not_three, is_obligation, by_obligation_tests}
 use Rattle.attribute_lines.proofs.Parts.{first_byte, part_length, field_at_lem, next_start}
 use Rattle.obligation_lines.specs.Obligations.{last_obligations, Follows, obliged, behind_obligation, ObligationStep}
-use Rattle.obligation_lines.proofs.ObligationTests.{none_followed, followed}
+use Rattle.obligation_lines.proofs.ObligationTests.{rule_found, none_followed, followed}
 
 -- What was read so far is what the state stands for
 last_are : (f table places : List ℕ) (n : ℕ) → nearest_obligations (elements_to f table places n) ≡ last_obligations f places n

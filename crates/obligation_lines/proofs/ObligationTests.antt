@@ -17,6 +17,7 @@ use Rattle.laws.proofs.Bools.{eqb_same}
 use Rattle.syntax.specs.Fields.{number_of_word}
 use Rattle.syntax.proofs.Fields.{no_word}
 use Rattle.std.specs.Prelude.{Option, Some, None}
+use Rattle.std.specs.Option.{option_eq}
 use Rattle.layout.specs.declared.Tree.{Tree}
 use Rattle.layout.specs.Nearest.{nearest, Stands}
 use Rattle.layout.specs.Places.{obligations_in, obligation_count}
@@ -34,6 +35,12 @@ rule_found None = false
 rule_found (Some set) = false
 rule_found (Some policy) = false
 rule_found (Some rule) = true
+
+pub rule_told : (same : Kind → Kind → Bool) → same set rule ≡ false → same policy rule ≡ false → same rule rule ≡ true → (o : Option Kind) {r : Bool} → r ≡ option_eq same o (Some rule) → rule_found o ≡ r
+rule_told same a b c None e = sym e
+rule_told same a b c (Some set) e = sym (e ∙ a)
+rule_told same a b c (Some policy) e = sym (e ∙ b)
+rule_told same a b c (Some rule) e = sym (e ∙ c)
 
 kind_may : (k : Kind) → may_have_obligations k ≡ not (rule_found (Some k))
 kind_may set = refl

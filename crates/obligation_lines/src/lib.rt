@@ -31,7 +31,7 @@ fn obligation_refusal(file: &[u8], places: &[usize], tree: Tree, line: &[u8]) ->
         return Err(Refusal::KnownName);
     }
     // the nearest element is a rule
-    if matches!(tree.kinds[tree.depth], Some(Kind::Rule)) {
+    if tree.kinds[tree.depth] == Some(Kind::Rule) {
         return Err(Refusal::NoObligation);
     }
     if 2 <= layout::obligation_count(places, last) {

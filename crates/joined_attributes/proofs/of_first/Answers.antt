@@ -15,8 +15,8 @@ pub name-requires : goal.name-requires
 name-requires c =
     (omega (arith, c.requires.0.few), c.requires.0.each c.loop-i.i (omega arith))
 
-pub attribute_named-requires : goal.attribute_named-requires
-attribute_named-requires c = c.requires.1
+pub place_in-requires : goal.place_in-requires
+place_in-requires c = c.requires.1
 
 pub with_place-p-requires : goal.with_place-p-requires
 with_place-p-requires c =
@@ -27,7 +27,7 @@ pub loop-i-preserved : goal.loop-i-preserved
 loop-i-preserved c =
     let l = c.loop-i in
     let own = attributes_of c.args.own.now c.args.c in
-    let place = c.attribute_named.ensures.value ∙ ap (place_in own) c.name.ensures in
+    let place = c.place_in.ensures ∙ ap (place_in own) c.name.ensures in
     (omega arith, c.with_place-p.ensures ∙ attribute_listed c.args.first.now c.args.a own (omega (arith, c.requires.0.few)) place l.invariant.1)
 
 pub returns : goal.returns

@@ -44,7 +44,7 @@ loop-j-preserved c =
     let first = attributes_of c.args.first.now c.args.a in
     let own = attributes_of c.args.own.now c.args.c in
     let alone = sym (c.known_attribute.ensures ∙ ap (declared first) name) ∙ c.if-known_attribute.false in
-    let place = c.attribute_named.ensures.value ∙ ap (place_in own) name in
+    let place = c.place_in.ensures ∙ ap (place_in own) name in
     (omega arith, c.with_place-p.ensures ∙ alone_listed c.args.second.now c.args.b own first l.j (omega (arith, c.requires.0.few, c.requires.1.few, attributes_length c.args.first.now c.args.a)) alone place l.invariant.1)
 
 pub returns : goal.returns
@@ -60,5 +60,5 @@ of_first-p-requires c = (c.requires.0, c.requires.2)
 pub known_attribute-requires : goal.known_attribute-requires
 known_attribute-requires c = c.requires.0
 
-pub attribute_named-requires : goal.attribute_named-requires
-attribute_named-requires c = c.requires.2
+pub place_in-requires : goal.place_in-requires
+place_in-requires c = c.requires.2

@@ -1,6 +1,6 @@
 -- `obligation_refusal` meets its contract: the law of each answer, by what was found on the way to it.
 use Prim.Native.Nat.{◌-◌}
-use mathlib.Core.Path.{◌≡◌, sym, ap, ◌∙◌}
+use mathlib.Core.Path.{◌≡◌, refl, sym, ap, ◌∙◌}
 use mathlib.Core.Bool.{true}
 use mathlib.Core.List.{[], map}
 use native.Mathlib.Omega.{arith}
@@ -11,7 +11,7 @@ use Rattle.meaning.specs.Reading.{word_of}
 use Rattle.laws.proofs.Types.{rule}
 use Rattle.syntax.specs.Fields.{number_of_word}
 use Rattle.layout.specs.Places.{obligations_in}
-use Rattle.obligation_lines.proofs.ObligationTests.{bad_name_lem, no_element, known_name, behind_rule, third, bad_word, good_obligation}
+use Rattle.obligation_lines.proofs.ObligationTests.{rule_told, bad_name_lem, no_element, known_name, behind_rule, third, bad_word, good_obligation}
 use Rattle.obligation_lines.proofs.obligation_refusal.Goals as goal
 
 pub returns-then-not-is_name : goal.returns-then-not-is_name
@@ -37,13 +37,13 @@ returns-then-known_obligation c =
     sym (ap (λ n. among_names n (map obligation_name (obligations_in a.file.now a.places.now (a.tree.len - 1)))) c.field-name.ensures) ∙ sym c.known_obligation.ensures in
     known_name _ _ _ _ named c.if-tree-eq0.false (known_found ∙ c.if-known_obligation.true)
 
-pub returns-then-kinds-depth-eq3 : goal.returns-then-kinds-depth-eq3
-returns-then-kinds-depth-eq3 c =
+pub returns-then-eq : goal.returns-then-eq
+returns-then-eq c =
     let name_found : is_name (get_or (cut tab c.args.line.now) 1 []) ≡ c.is_name.result = sym (ap is_name c.field-name.ensures) ∙ sym c.is_name.ensures in
     let named : is_name (get_or (cut tab c.args.line.now) 1 []) ≡ true = name_found ∙ c.if-not-is_name.false in
     let known_found : let a = c.args in among_names (get_or (cut tab c.args.line.now) 1 []) (map obligation_name (obligations_in a.file.now a.places.now (a.tree.len - 1))) ≡ c.known_obligation.result = let a = c.args in
     sym (ap (λ n. among_names n (map obligation_name (obligations_in a.file.now a.places.now (a.tree.len - 1)))) c.field-name.ensures) ∙ sym c.known_obligation.ensures in
-    behind_rule _ _ _ _ named c.if-tree-eq0.false (known_found ∙ c.if-known_obligation.false) c.requires.0 c.if-kinds-depth-eq3.true
+    behind_rule _ _ _ _ named c.if-tree-eq0.false (known_found ∙ c.if-known_obligation.false) c.requires.0 (rule_told _ refl refl refl _ c.eq.ensures ∙ c.if-eq.true)
 
 pub obligation_count-requires : goal.obligation_count-requires
 obligation_count-requires c =
@@ -56,7 +56,7 @@ returns-then-obligation_count-ge2 c =
     let known_found : let a = c.args in among_names (get_or (cut tab c.args.line.now) 1 []) (map obligation_name (obligations_in a.file.now a.places.now (a.tree.len - 1))) ≡ c.known_obligation.result = let a = c.args in
     sym (ap (λ n. among_names n (map obligation_name (obligations_in a.file.now a.places.now (a.tree.len - 1)))) c.field-name.ensures) ∙ sym c.known_obligation.ensures in
     let counted = c.obligation_count.ensures.value in
-    third _ _ _ _ named c.if-tree-eq0.false (known_found ∙ c.if-known_obligation.false) c.requires.0 c.if-kinds-depth-eq3.false (omega (arith, counted, c.if-obligation_count-ge2.true))
+    third _ _ _ _ named c.if-tree-eq0.false (known_found ∙ c.if-known_obligation.false) c.requires.0 (rule_told _ refl refl refl _ c.eq.ensures ∙ c.if-eq.false) (omega (arith, counted, c.if-obligation_count-ge2.true))
 
 pub returns-then-word_number-eq6 : goal.returns-then-word_number-eq6
 returns-then-word_number-eq6 c =
@@ -66,7 +66,7 @@ returns-then-word_number-eq6 c =
     sym (ap (λ n. among_names n (map obligation_name (obligations_in a.file.now a.places.now (a.tree.len - 1)))) c.field-name.ensures) ∙ sym c.known_obligation.ensures in
     let word_found : number_of_word (word_of rule (get_or (cut tab c.args.line.now) 2 [])) ≡ c.word_number.result = sym (ap (λ w. number_of_word (word_of rule w)) c.field.ensures) ∙ sym c.word_number.ensures.value in
     let counted = c.obligation_count.ensures.value in
-    bad_word _ _ _ _ named c.if-tree-eq0.false (known_found ∙ c.if-known_obligation.false) c.requires.0 c.if-kinds-depth-eq3.false (omega (arith, counted, c.if-obligation_count-ge2.false)) (word_found ∙ c.if-word_number-eq6.true)
+    bad_word _ _ _ _ named c.if-tree-eq0.false (known_found ∙ c.if-known_obligation.false) c.requires.0 (rule_told _ refl refl refl _ c.eq.ensures ∙ c.if-eq.false) (omega (arith, counted, c.if-obligation_count-ge2.false)) (word_found ∙ c.if-word_number-eq6.true)
 
 pub returns : goal.returns
 returns c =
@@ -76,4 +76,4 @@ returns c =
     sym (ap (λ n. among_names n (map obligation_name (obligations_in a.file.now a.places.now (a.tree.len - 1)))) c.field-name.ensures) ∙ sym c.known_obligation.ensures in
     let word_found : number_of_word (word_of rule (get_or (cut tab c.args.line.now) 2 [])) ≡ c.word_number.result = sym (ap (λ w. number_of_word (word_of rule w)) c.field.ensures) ∙ sym c.word_number.ensures.value in
     let counted = c.obligation_count.ensures.value in
-    good_obligation _ _ _ _ named c.if-tree-eq0.false (known_found ∙ c.if-known_obligation.false) c.requires.0 c.if-kinds-depth-eq3.false (omega (arith, counted, c.if-obligation_count-ge2.false)) (λ e. c.if-word_number-eq6.false (sym word_found ∙ e))
+    good_obligation _ _ _ _ named c.if-tree-eq0.false (known_found ∙ c.if-known_obligation.false) c.requires.0 (rule_told _ refl refl refl _ c.eq.ensures ∙ c.if-eq.false) (omega (arith, counted, c.if-obligation_count-ge2.false)) (λ e. c.if-word_number-eq6.false (sym word_found ∙ e))

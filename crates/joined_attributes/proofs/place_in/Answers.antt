@@ -1,0 +1,12 @@
+-- `place_in`: where the name is not declared, the count.
+use mathlib.Core.Path.{ap, ap₂, sym, ◌∙◌}
+use Rattle.std.specs.Option.{unwrap_or}
+use Rattle.layout.specs.Places.{attributes_of, place_named}
+use Rattle.layout.proofs.Laws.{attributes_length}
+use Rattle.joined_attributes.proofs.Listing.{place_or_count}
+use Rattle.joined_attributes.proofs.place_in.Goals as goal
+
+pub returns : goal.returns
+returns c =
+    let attrs = attributes_of c.args.own.now c.args.c in
+    c.unwrap_or.ensures ∙ ap₂ unwrap_or c.attribute_named.ensures.value (sym (attributes_length c.args.own.now c.args.c)) ∙ place_or_count attrs c.args.name.now
