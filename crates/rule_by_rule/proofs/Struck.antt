@@ -22,7 +22,6 @@ use Rattle.laws.proofs.Trimming.{needless_rule, rule_needless}
 use Rattle.laws.proofs.RuleByRule.{one_element, striking, no_needless_rule}
 use Rattle.table.specs.declared.Shape.{Shape}
 use Rattle.table.specs.Shape.{hit_of}
-use Rattle.table.specs.Tree.{place_or}
 use Rattle.outcomes.specs.Decided.{none_struck}
 use Rattle.layout.specs.Places.{has_name}
 use Rattle.printing.specs.Fitted.{Fitted}
@@ -76,52 +75,46 @@ module _ (f table places : List ℕ) (s : Shape) (held : PolicyHeld f table plac
   unfolding strike_file
   none_struck_so out none_named = let e = (no_needless_rule f p h name 15 0).1 (none_named, refl, refl) in (rw (h, e), rw (h, e))
 
-  module _ (i : ℕ) (is : i ≡ place_or s.n (last_below (has_name f places name) s.n)) where
-    abbrev last : Option ℕ
-    last = last_below (has_name f places name) s.n
+  abbrev last : Option ℕ
+  last = last_below (has_name f places name) s.n
 
-    -- no element has the name
-    pub no_element : i ≡ s.n → (out : Bytes) → (record { number = 15; second = 0 } ≡ strike_answer f name out) × (out ≡ strike_lent f name out)
-    no_element end out = none_struck_so out (λ r. go last refl (rule_found r))
+  -- no element has the name
+  pub no_element : last ≡ none → (out : Bytes) → (record { number = 15; second = 0 } ≡ strike_answer f name out) × (out ≡ strike_lent f name out)
+  no_element none_there out = none_struck_so out (λ r. go (rule_found r))
+    where
+      go : Found → ⊥
+      go x = contradiction x.called (last_none (has_name f places name) s.n none_there x.place x.inside)
+
+  -- an element has it
+  module _ (i : ℕ) (is : last ≡ some i) where
+    pub here : (i < s.n) × (has_name f places name i ≡ true)
+    here = let x = last_some (has_name f places name) s.n i is in (x.below, x.holds)
+
+    -- it is not needless
+    pub needed : table-level.needless_at f places table s.n (hit_of s) s.space none_struck i ≡ false → (out : Bytes) → (record { number = 15; second = 0 } ≡ strike_answer f name out) × (out ≡ strike_lent f name out)
+    needed not out = none_struck_so out (λ r. go (rule_found r))
       where
-        go : (o : Option ℕ) → last ≡ o → Found → ⊥
-        go none e x = contradiction x.called (last_none (has_name f places name) s.n e x.place x.inside)
-        go (some j) e x = omega (arith, end, is ∙ ap (place_or s.n) e, (last_some (has_name f places name) s.n j e).below)
+        go : Found → ⊥
+        go x =
+            let one = one_element f p h name x.place i (omega (arith, x.inside, size)) (omega (arith, here.0, size)) (sym (has_name_lem x.place x.inside) ∙ x.called) (sym (has_name_lem i here.0) ∙ here.1) in
+            contradiction x.is_needless (ap (needless_at p none_struck) one ∙ sym (by_table i here.0) ∙ not)
 
-    -- an element has it
-    module _ (other : i ≡ s.n → ⊥) where
-      pub here : (i < s.n) × (has_name f places name i ≡ true)
-      here = go last refl
-        where
-          go : (o : Option ℕ) → last ≡ o → (i < s.n) × (has_name f places name i ≡ true)
-          go none e = absurd (other (is ∙ ap (place_or s.n) e))
-          go (some j) e = let x = last_some (has_name f places name) s.n j e in rw (is ∙ ap (place_or s.n) e) (x.below, x.holds)
+    -- it is
+    module _ (needless : table-level.needless_at f places table s.n (hit_of s) s.space none_struck i ≡ true) where
+      abbrev rule : needless_at p none_struck i ≡ true
+      rule = sym (by_table i here.0) ∙ needless
 
-      -- it is not needless
-      pub needed : table-level.needless_at f places table s.n (hit_of s) s.space none_struck i ≡ false → (out : Bytes) → (record { number = 15; second = 0 } ≡ strike_answer f name out) × (out ≡ strike_lent f name out)
-      needed not out = none_struck_so out (λ r. go (rule_found r))
-        where
-          go : Found → ⊥
-          go x =
-              let one = one_element f p h name x.place i (omega (arith, x.inside, size)) (omega (arith, here.0, size)) (sym (has_name_lem x.place x.inside) ∙ x.called) (sym (has_name_lem i here.0) ∙ here.1) in
-              contradiction x.is_needless (ap (needless_at p none_struck) one ∙ sym (by_table i here.0) ∙ not)
+      own_rule : NeedlessRule f name
+      own_rule = record {
+        place = line_of f p h i;
+        is_needless = needless_rule f p h (line_of f p h i) (needless_line f p h i rule);
+        has_name = (equal_names name (name_at f (line_of f p h i))).holds (ap (same_name name) (line_name i here.0) ∙ sym (has_name_lem i here.0) ∙ here.1);
+      }
 
-      -- it is
-      module _ (needless : table-level.needless_at f places table s.n (hit_of s) s.space none_struck i ≡ true) where
-        abbrev rule : needless_at p none_struck i ≡ true
-        rule = sym (by_table i here.0) ∙ needless
+      text_is : strike_named f name ≡ given (copied f places (set none_struck i 1) s.n)
+      unfolding own_rule
+      text_is = (striking f p h name (copied f places (set none_struck i 1) s.n)).1 (own_rule, sym (strike_line f p h i rule ∙ text_copied f p h table places (set none_struck i 1) (length p.attributes) s.n refl held.elements size held.lined held.ready.some))
 
-        own_rule : NeedlessRule f name
-        own_rule = record {
-          place = line_of f p h i;
-          is_needless = needless_rule f p h (line_of f p h i) (needless_line f p h i rule);
-          has_name = (equal_names name (name_at f (line_of f p h i))).holds (ap (same_name name) (line_name i here.0) ∙ sym (has_name_lem i here.0) ∙ here.1);
-        }
-
-        text_is : strike_named f name ≡ given (copied f places (set none_struck i 1) s.n)
-        unfolding own_rule
-        text_is = (striking f p h name (copied f places (set none_struck i 1) s.n)).1 (own_rule, sym (strike_line f p h i rule ∙ text_copied f p h table places (set none_struck i 1) (length p.attributes) s.n refl held.elements size held.lined held.ready.some))
-
-        pub strike_fitted : (old : List ℕ) → old ≡ none_struck → {out new : Bytes} {a : Answer} → Fitted out (copied f places (set old i 1) s.n) new a → (a ≡ strike_answer f name out) × (new ≡ strike_lent f name out)
-        unfolding strike_file
-        strike_fitted old clear fits = (fits.answers ∙ rw (h, text_is, clear), fits.lends ∙ rw (h, text_is, clear))
+      pub strike_fitted : (old : List ℕ) → old ≡ none_struck → {out new : Bytes} {a : Answer} → Fitted out (copied f places (set old i 1) s.n) new a → (a ≡ strike_answer f name out) × (new ≡ strike_lent f name out)
+      unfolding strike_file
+      strike_fitted old clear fits = (fits.answers ∙ rw (h, text_is, clear), fits.lends ∙ rw (h, text_is, clear))

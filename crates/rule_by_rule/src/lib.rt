@@ -60,13 +60,12 @@ pub fn strike(
     ensures out_after { out.new ≡ strike_lent file.now rule.now out.old }
 {
     let n = shape.n;
-    let i = layout::element_named(file, places, n, rule);
-    if i == n {
+    let Some(i) = layout::element_named(file, places, n, rule) else {
         return Answer {
             number: 15,
             second: 0,
         };
-    }
+    };
     let mut struck = [0u8; 64];
     let policy = PolicyFile {
         file,

@@ -2,31 +2,32 @@
 use mathlib.Core.Path.{sym, ◌∙◌}
 use native.Mathlib.Omega.{arith}
 use lib.Seq.{length-take-le}
+use Rattle.laws.proofs.Found.{found_some, found_none}
 use Rattle.printing.proofs.Fitting.{written}
 use Rattle.trimmed_text.proofs.Held.{steady_held, named_held, copies_held, small_part}
 use Rattle.rule_by_rule.proofs.Struck.{no_element, here, needed, strike_fitted}
 use Rattle.rule_by_rule.proofs.strike.Goals as goal
 
-pub element_named-i-requires : goal.element_named-i-requires
-element_named-i-requires c = named_held _ _ _ _ c.requires
+pub element_named-requires : goal.element_named-requires
+element_named-requires c = named_held _ _ _ _ c.requires
 
-pub returns-then-i-n : goal.returns-then-i-n
-returns-then-i-n c =
-    let both = no_element _ _ _ _ c.requires c.args.rule.now _ c.element_named-i.ensures c.if-i-n.true c.args.out.now in
+pub returns-in_default : goal.returns-in_default
+returns-in_default c =
+    let both = no_element _ _ _ _ c.requires c.args.rule.now (found_none _ (sym c.element_named.ensures ∙ c.in_default.is)) c.args.out.now in
     record { value = both.0; out_after = both.1 }
 
 pub is_needless-requires : goal.is_needless-requires
 is_needless-requires c =
-    (steady_held _ _ _ _ c.requires, c.requires.ready, (here _ _ _ _ c.requires c.args.rule.now _ c.element_named-i.ensures c.if-i-n.false).0)
+    (steady_held _ _ _ _ c.requires, c.requires.ready, (here _ _ _ _ c.requires c.args.rule.now _ (found_some _ (sym c.element_named.ensures ∙ c.in-Some.is))).0)
 
 pub returns-then-not-is_needless : goal.returns-then-not-is_needless
 returns-then-not-is_needless c =
-    let both = needed _ _ _ _ c.requires c.args.rule.now _ c.element_named-i.ensures c.if-i-n.false (sym c.is_needless.ensures.0 ∙ c.if-not-is_needless.true) c.args.out.now in
+    let both = needed _ _ _ _ c.requires c.args.rule.now _ (found_some _ (sym c.element_named.ensures ∙ c.in-Some.is)) (sym c.is_needless.ensures.0 ∙ c.if-not-is_needless.true) c.args.out.now in
     record { value = both.0; out_after = both.1 }
 
 pub bounds-struck-i : goal.bounds-struck-i
 bounds-struck-i c =
-    omega (arith, (here _ _ _ _ c.requires c.args.rule.now _ c.element_named-i.ensures c.if-i-n.false).0, c.requires.ready.few)
+    omega (arith, (here _ _ _ _ c.requires c.args.rule.now _ (found_some _ (sym c.element_named.ensures ∙ c.in-Some.is))).0, c.requires.ready.few)
 
 pub put_text-needed-requires : goal.put_text-needed-requires
 put_text-needed-requires c = copies_held _ _ _ _ c.requires _ c.is_needless.ensures.1 _ _
@@ -42,6 +43,6 @@ text_answer-requires c = small_part _ _ _ _ c.requires _ c.put_text-needed.ensur
 
 pub returns : goal.returns
 returns c =
-    let both = strike_fitted _ _ _ _ c.requires c.args.rule.now _ c.element_named-i.ensures c.if-i-n.false (sym c.is_needless.ensures.0 ∙ c.if-not-is_needless.false) _ c.is_needless.ensures.1
+    let both = strike_fitted _ _ _ _ c.requires c.args.rule.now _ (found_some _ (sym c.element_named.ensures ∙ c.in-Some.is)) (sym c.is_needless.ensures.0 ∙ c.if-not-is_needless.false) _ c.is_needless.ensures.1
     (written c.put_text-needed.ensures.0 c.args.out.now _ c.lend-part.ensures.value c.put_text.ensures.0 c.text_answer.ensures) in
     record { value = both.0; out_after = both.1 }
