@@ -10,10 +10,9 @@ ghost use Rattle.meaning.specs.Text.{same_name, among_names};
 ghost use Rattle.meaning.specs.Model.{choices_of};
 ghost use Rattle.layout.specs.Places.{attribute_at, attributes_of, Standing, AllStanding, FewValues, sizes_of, values_in, severals_at, counts_at, no_attributes, added, place_named};
 
-use meaning::Kind;
-
 pub use element_places::{element_name, element_named, known_element, put_element};
 pub use growing::{well_placed, with_element};
+use meaning::Kind;
 pub use obligation_places::{known_obligation, obligation_count, put_obligation};
 
 // Where an attribute stands, and whether it may have several values in a request: the start of its name, of its first value, the end of its
