@@ -1,6 +1,9 @@
 -- Test 3 by the parts of a name, and test 4 element by element.
-use Prim.Native.Nat.{ℕ, suc, ◌-◌, ◌≤◌, ◌<◌}
-use mathlib.Core.Path.{◌≡◌, ap, ◌∙◌}
+use Prim.Native.Nat.{ℕ, zero, suc, ◌+◌, ◌≤◌, ◌<◌}
+use mathlib.Core.Path.{◌≡◌, refl}
+use mathlib.Core.Logic.{◌⊎◌, inl, inr}
+use native.Mathlib.Nat.{eq-or-lt_of_le}
+use native.Mathlib.Numerals.{add-one}
 use mathlib.Core.Bool.{true, false, and-false, or-true}
 use mathlib.Core.List.{List, map}
 use native.Mathlib.Omega.{arith}
@@ -26,17 +29,27 @@ module _ (len : ℕ) (name : Bytes) where
   pub name_right : 1 ≤ len → len ≤ 16 → is_name (take len name) ≡ true → bad_stored len name ≡ non_zero (drop len name)
   name_right long short good = rw (le-leb 1 len long, le-leb len 16 short, good)
 
--- a name looked for from the last element on
-module _ (es : List Element) (name : Bytes) (i : ℕ) where
-  pub names_end : i ≡ 0 → among_names name (map name_of (earlier es i)) ≡ false
+-- a name looked for element by element
+module _ (es : List Element) (name : Bytes) where
+  pub name_none : among_names name (map name_of (earlier es 0)) ≡ false
   unfolding earlier
-  names_end empty = rw empty
+  name_none = refl
 
-  module _ (l : 0 < i) where
-    pub name_hit : same_name name (name_of (get_or es (i - 1) none)) ≡ true → among_names name (map name_of (earlier es i)) ≡ true
+  module _ (i : ℕ) where
+    pub name_hit : same_name name (name_of (get_or es i none)) ≡ true → among_names name (map name_of (earlier es (i + 1))) ≡ true
     unfolding earlier
-    name_hit same = let more : i ≡ suc (i - 1) = omega arith in rw (more, same)
+    name_hit same = rw (add-one i, same)
 
-    pub name_miss : same_name name (name_of (get_or es (i - 1) none)) ≡ false → among_names name (map name_of (earlier es i)) ≡ among_names name (map name_of (earlier es (i - 1)))
+    pub name_miss : same_name name (name_of (get_or es i none)) ≡ false → among_names name (map name_of (earlier es i)) ≡ false → among_names name (map name_of (earlier es (i + 1))) ≡ false
     unfolding earlier
-    name_miss other = let more : i ≡ suc (i - 1) = omega arith in ap (λ m. among_names name (map name_of (earlier es m))) more ∙ rw other
+    name_miss other before = rw (add-one i, other, before)
+
+  -- one that was found is found among more elements, too
+  pub name_among : (i n : ℕ) → i ≤ n → among_names name (map name_of (earlier es i)) ≡ true → among_names name (map name_of (earlier es n)) ≡ true
+  unfolding earlier
+  name_among i n l found = go n (eq-or-lt_of_le l)
+    where
+      go : (n : ℕ) → (i ≡ n) ⊎ (i < n) → among_names name (map name_of (earlier es n)) ≡ true
+      go n (inl e) = rw (← e) found
+      go zero (inr l) = absurd (omega arith)
+      go (suc n) (inr l) = rw (go n (eq-or-lt_of_le (omega arith)), or-true)

@@ -1,7 +1,8 @@
 -- The obligations of an element, read one after the other: what each test of them leaves.
 use Prim.Native.Nat.{ℕ, zero, suc, ◌+◌, ◌-◌, ◌≤◌, ◌<◌}
 use mathlib.Core.Path.{◌≡◌, refl}
-use mathlib.Core.Bool.{Bool, true, false, cond, and-true}
+use mathlib.Core.Bool.{and-true}
+use Rattle.std.specs.Prelude.{Option, Some, None}
 use mathlib.Core.List.{[], ◌∷◌}
 use native.Mathlib.Numerals.{add-one}
 use native.Mathlib.Omega.{arith}
@@ -11,17 +12,17 @@ use Rattle.meaning.specs.Text.{Bytes}
 use Rattle.meaning.specs.Model.{Result, refused, given, with_obligations, word_text, unless}
 use Rattle.meaning.specs.Reading.{Sofar, lowest, nearest_obligations, may_have_obligations, well_followed, obligation_tests, with_element}
 use Rattle.laws.proofs.Types.{Kind, Obligation, Element}
-use Rattle.checking.specs.Tested.{carrying, obligations_read}
+use Rattle.checking.specs.Tested.{carrying, listed, obligations_read}
 use Rattle.checking.proofs.Told.{lowest_within}
 
 -- 4 and 14 of an obligation: what it stands behind is one other at most, and so 14 goes by the kind alone
-pub nearest_is : (k : Kind) (later : Bool) (o : Obligation) → nearest_obligations (carrying k (cond later (o ∷ []) [])).before ≡ cond later (o ∷ []) []
-nearest_is k true o = refl
-nearest_is k false o = refl
+pub nearest_is : (k : Kind) (before : Option Obligation) → nearest_obligations (carrying k (listed before)).before ≡ listed before
+nearest_is k (Some o) = refl
+nearest_is k None = refl
 
-pub followed : (k : Kind) (later : Bool) (o : Obligation) → well_followed (carrying k (cond later (o ∷ []) [])).before ≡ may_have_obligations k
-followed k true o = and-true (may_have_obligations k)
-followed k false o = and-true (may_have_obligations k)
+pub followed : (k : Kind) (before : Option Obligation) → well_followed (carrying k (listed before)).before ≡ may_have_obligations k
+followed k (Some o) = and-true (may_have_obligations k)
+followed k None = and-true (may_have_obligations k)
 
 -- a test that holds refuses
 pub holds : {A : Type 0} (k n : ℕ) (r : Result A) → (k ≡ 0 → ⊥) → unless k n r ≡ refused k n

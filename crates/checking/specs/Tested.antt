@@ -1,5 +1,6 @@
 -- The elements before a place of a list, and what testing the elements of a list gives.
-use Rattle.std.specs.Prelude.{ℕ, zero, suc, ◌+◌, ◌≤◌, ◌<◌, cond, List, [], ◌∷◌, ◌≡◌, ltb, get_or}
+use Rattle.std.specs.Prelude.{ℕ, zero, suc, ◌+◌, ◌≤◌, ◌<◌, cond, List, [], ◌∷◌, ◌≡◌, ltb, get_or, length, Option, Some, None, Ok, Err}
+use Rattle.std.specs.Prelude.{Result as Outcome}
 use Rattle.meaning.specs.declared.Kind.{Kind}
 use Rattle.meaning.specs.declared.Kind.TheVariants.{Set}
 use Rattle.meaning.specs.declared.Word.TheVariants.{Permit}
@@ -10,7 +11,8 @@ use Rattle.meaning.specs.Reading.{Sofar, with_element}
 use Rattle.meaning.specs.Writing.{read_obligations}
 use Rattle.layout.specs.declared.Tree.{Tree}
 use Rattle.layout.specs.Nearest.{Stands}
-use Rattle.checking.specs.declared.Checked.{Checked}
+use Rattle.refusals.specs.declared.Refused.{Refused}
+use Rattle.refusals.specs.Numbers.{number_of}
 
 -- at most six attributes, with at most 16 values each
 pub record FewValues (counts : List ℕ) (attributes : ℕ) : Type 0 where
@@ -54,21 +56,37 @@ ShortNames es n = (i : ℕ) → i < n → (get_or es i none).len ≤ 16
 pub record Begun (all : List Element) (tree : Tree) : Type 0 where
   pub stands : Stands tree (earlier all tree.len)
   pub few : tree.len ≤ 64
+  pub inside : tree.len ≤ length all
   pub shallow : tree.depth ≤ 7
   pub short_names : ShortNames all tree.len
 
+-- the obligation before, if there is one
+abbrev pub listed : Option Obligation → List Obligation
+listed None = []
+listed (Some o) = o ∷ []
+
+-- the number and the line of a refusal; both are 0 where there is none
+module _ {A : Type 0} where
+  abbrev pub number_told : Outcome A Refused → ℕ
+  number_told (Ok _) = 0
+  number_told (Err r) = number_of r.why
+
+  abbrev pub line_told : Outcome A Refused → ℕ
+  line_told (Ok _) = 0
+  line_told (Err r) = r.second
+
 -- The elements of a list: the first refusal, with small numbers, or none. 6 attributes have a line each, 64 elements three
-pub record Refused (n m : ℕ) (r : Checked) : Type 0 where
-  pub number : r.number ≡ n
-  pub line : r.line ≡ m
+pub record RefusedAs (n m : ℕ) (r : Outcome (Unit {0}) Refused) : Type 0 where
+  pub number : number_told r ≡ n
+  pub line : line_told r ≡ m
   pub from_three : 3 ≤ n
   pub low : n ≤ 14
   pub small : m ≤ 199
 
-pub record Passed (r : Checked) : Type 0 where
-  pub number : r.number ≡ 0
-  pub line : r.line ≡ 0
+pub record Passed (r : Outcome (Unit {0}) Refused) : Type 0 where
+  pub number : number_told r ≡ 0
+  pub line : line_told r ≡ 0
 
-abbrev pub CheckedAs : Checked → Result Sofar → Type 0
-CheckedAs r (refused n m) = Refused n m r
+abbrev pub CheckedAs : Outcome (Unit {0}) Refused → Result Sofar → Type 0
+CheckedAs r (refused n m) = RefusedAs n m r
 CheckedAs r (given s) = Passed r

@@ -4,25 +4,20 @@
 mod obligations;
 mod parts;
 
-ghost use Rattle.std.specs.Prelude.{◌≡◌, ◌||◌, List, [], map, suc, ◌+◌, ◌*◌, ◌≤◌, take};
+ghost use Rattle.std.specs.Prelude.{◌≡◌, ◌||◌, List, [], map, suc, ◌+◌, ◌*◌, ◌≤◌, take, length, IsOk};
 ghost use Rattle.meaning.specs.Text.{among_names};
 ghost use Rattle.meaning.specs.Model.{Attribute, name_of, word_text};
 ghost use Rattle.meaning.specs.Reading.{lowest, bad_name, bad_unused, bad_masks, element_tests};
 ghost use Rattle.meaning.specs.Writing.{read_element, read_elements};
+ghost use Rattle.meaning.specs.Claims.Texts.{All};
+ghost use Rattle.meaning.specs.Claims.Writing.{Shaped};
+ghost use Rattle.refusals.specs.Numbers.{number_in};
 ghost use Rattle.layout.specs.Places.{value_counts};
-ghost use Rattle.elements.specs.Listed.{elements_of};
 ghost use Rattle.checking.specs.Tested.{FewValues, earlier, ShortNames, Begun, behind, CheckedAs};
 
-use elements::Elements;
 use layout::Tree;
 use meaning::Element;
-
-// The first refusal of an element or an obligation: its number and the line that would hold it; number 0 is none.
-#[derive(Clone, Copy)]
-pub struct Checked {
-    pub number: usize,
-    pub line: usize,
-}
+use refusals::{Refusal, Refused};
 
 // 3 of an element.
 fn bad_record(e: Element) -> bool
@@ -35,19 +30,13 @@ fn bad_record(e: Element) -> bool
     obligations::bad_unused(e)
 }
 
-// 4: whether one of the first n elements has the name of e.
-fn known(all: [Element; 65], n: usize, e: Element) -> bool
-    requires { (n ≤ 65) × (e.len ≤ 16) × ShortNames all n }
-    ensures { result ≡ among_names (name_of e) (map name_of (earlier all n)) }
+// 4: whether an element before has the name of e.
+fn known(before: &[Element], e: Element) -> bool
+    requires { (e.len ≤ 16) × ShortNames before.now (length before.now) }
+    ensures { result ≡ among_names (name_of e) (map name_of (earlier before.now (length before.now))) }
 {
-    let name = e.name;
-    let len = e.len;
-    let mut i = n;
-    while 0 < i {
-        i -= 1;
-        let other = all[i];
-        let before = other.name;
-        if parts::same_stored(name, len, before, other.len) {
+    for other in before {
+        if parts::same_stored(e.name, e.len, other.name, other.len) {
             return true;
         }
     }
@@ -59,8 +48,7 @@ fn bad_masks(counts: [usize; 6], attributes: usize, masks: [u16; 6]) -> bool
     requires { FewValues counts attributes }
     ensures { (attrs : List Attribute) → take attributes counts ≡ value_counts attrs → result ≡ bad_masks attrs masks }
 {
-    let mut i = 0;
-    while i < attributes {
+    for i in 0..attributes {
         let mask = masks[i];
         if mask == 0 {
             return true;
@@ -68,104 +56,82 @@ fn bad_masks(counts: [usize; 6], attributes: usize, masks: [u16; 6]) -> bool
         if elements::full_mask(counts[i]) < mask {
             return true;
         }
-        i += 1;
     }
-    while i < 6 {
-        if masks[i] != 0 {
-            return true;
-        }
-        i += 1;
-    }
-    false
+    masks[attributes..].iter().any(|mask| *mask != 0)
 }
 
-// The lowest of 3 to 8 that refuses the element e behind those that the tree stands for, or 0.
-fn element_refusal(
+// The lowest of 3 to 8 that refuses the element e behind those that the tree stands for.
+fn test_element(
     counts: [usize; 6],
     attributes: usize,
-    all: [Element; 65],
+    all: &[Element],
     tree: Tree,
     e: Element,
-) -> usize
-    requires { FewValues counts attributes × Begun all tree }
-    ensures { (attrs : List Attribute) → take attributes counts ≡ value_counts attrs → result ≡ lowest (element_tests (behind attrs all tree.len) (word_text e.word) e) }
+) -> Result<(), Refusal>
+    requires { FewValues counts attributes × Begun all.now tree }
+    ensures { (attrs : List Attribute) → take attributes counts ≡ value_counts attrs → number_in result ≡ lowest (element_tests (behind attrs all.now tree.len) (word_text e.word) e) }
 {
     if bad_record(e) {
-        return 3;
+        return Err(Refusal::BadName);
     }
-    if known(all, tree.len, e) {
-        return 4;
+    if known(&all[..tree.len], e) {
+        return Err(Refusal::KnownName);
     }
     if 64 <= tree.len {
-        return 5;
+        return Err(Refusal::TooMany);
     }
     if attributes == 0 {
-        return 6;
+        return Err(Refusal::Misplaced);
     }
-    let kind = e.kind;
-    let depth = e.depth as usize;
-    if !layout::well_placed(kind, depth, tree) {
-        return 6;
+    if !layout::well_placed(e.kind, e.depth as usize, tree) {
+        return Err(Refusal::Misplaced);
     }
-    let word = e.word;
-    if !parts::word_fits(kind, word) {
-        return 7;
+    if !parts::word_fits(e.kind, e.word) {
+        return Err(Refusal::BadWord);
     }
-    let masks = e.masks;
-    if bad_masks(counts, attributes, masks) {
-        return 8;
+    if bad_masks(counts, attributes, e.masks) {
+        return Err(Refusal::BadTarget);
     }
-    0
+    Ok(())
 }
 
 // Tests the element e on its line, and its obligations on the lines behind it.
 fn check_element(
     counts: [usize; 6],
     attributes: usize,
-    all: [Element; 65],
+    all: &[Element],
     tree: Tree,
     e: Element,
-    line: usize,
-) -> Checked
-    requires { FewValues counts attributes × Begun all tree × (line ≤ 7 + 3 * tree.len) }
-    ensures { (attrs : List Attribute) → take attributes counts ≡ value_counts attrs → CheckedAs result (read_element line (behind attrs all tree.len) e) }
+    line: u32,
+) -> Result<(), Refused>
+    requires { FewValues counts attributes × Begun all.now tree × (line ≤ 7 + 3 * tree.len) }
+    ensures shaped { Shaped e }
+    ensures told { (attrs : List Attribute) → take attributes counts ≡ value_counts attrs → CheckedAs result (read_element line (behind attrs all.now tree.len) e) }
 {
-    let refusal = element_refusal(counts, attributes, all, tree, e);
-    if refusal != 0 {
-        return Checked {
-            number: refusal,
-            line,
-        };
-    }
+    parts::on_line(test_element(counts, attributes, all, tree, e), line)?;
     obligations::check_obligations(e, line)
 }
 
-// Tests the elements of a list in order, behind so many attributes of these value counts.
-pub fn check_elements(counts: [usize; 6], attributes: usize, list: Elements) -> Checked
-    requires { FewValues counts attributes × (list.len ≤ 65) }
-    ensures { (attrs : List Attribute) → take attributes counts ≡ value_counts attrs → CheckedAs result (read_elements (suc attributes) (record { attributes = attrs; before = [] }) (elements_of list)) }
+// Tests the elements of a list in order, behind so many attributes of these value counts. What their Rattle type says of good ones, their sizes, is told, too.
+pub fn check_elements(
+    counts: [usize; 6],
+    attributes: usize,
+    list: &[Element],
+) -> Result<(), Refused>
+    requires { FewValues counts attributes }
+    ensures shaped { IsOk result → All Shaped list.now }
+    ensures told { (attrs : List Attribute) → take attributes counts ≡ value_counts attrs → CheckedAs result (read_elements (suc attributes) (record { attributes = attrs; before = [] }) list.now) }
 {
-    let all = list.all;
-    let len = list.len;
     let mut tree = Tree {
         len: 0,
         depth: 0,
         kinds: [None; 8],
     };
-    let mut line = attributes + 1;
-    loop {
-        let i = tree.len;
-        if i == len {
-            return Checked { number: 0, line: 0 };
-        }
-        let e = all[i];
-        let checked = check_element(counts, attributes, all, tree, e, line);
-        if checked.number != 0 {
-            return checked;
-        }
-        let kind = e.kind;
-        let depth = e.depth as usize;
-        tree = layout::with_element(tree, kind, depth);
-        line = line + 1 + e.obligations as usize;
+    let mut line = attributes as u32 + 1;
+    for e in list {
+        check_element(counts, attributes, list, tree, *e, line)?;
+        tree = layout::with_element(tree, e.kind, e.depth as usize);
+        line += 1 + u32::from(e.obligations);
     }
+    Ok(())
 }

@@ -1,24 +1,19 @@
 // What elements and obligations have in common: a stored name and a word.
-ghost use Rattle.std.specs.Prelude.{◌≡◌, not, ◌≤◌, take, drop};
+ghost use Rattle.std.specs.Prelude.{◌≡◌, not, ◌≤◌, take, IsErr};
 ghost use Rattle.meaning.specs.Text.{is_none, same_name};
 ghost use Rattle.meaning.specs.Model.{word_text};
 ghost use Rattle.meaning.specs.Reading.{word_of, non_zero, bad_stored};
+ghost use Rattle.refusals.specs.Numbers.{number_in};
+ghost use Rattle.checking.specs.Tested.{number_told, line_told};
 
 use meaning::{Kind, Word};
+use refusals::{Refusal, Refused};
 
-// Whether a byte from a place on is not zero.
-pub(crate) fn non_zero(bytes: [u8; 16], from: usize) -> bool
-    requires { from ≤ 16 }
-    ensures { result ≡ non_zero (drop from bytes) }
+// Whether a number is not zero.
+pub(crate) fn non_zero(bytes: &[u8]) -> bool
+    ensures { result ≡ non_zero bytes.now }
 {
-    let mut i = from;
-    while i < 16 {
-        if bytes[i] != 0 {
-            return true;
-        }
-        i += 1;
-    }
-    false
+    bytes.iter().any(|b| *b != 0)
 }
 
 // 3: whether the length or the name is bad, or a byte behind the name is not zero.
@@ -32,10 +27,10 @@ pub(crate) fn bad_stored(name: [u8; 16], stored: u8) -> bool
     if 16 < len {
         return true;
     }
-    if !names::is_name(&name[0..len]) {
+    if !names::is_name(&name[..len]) {
         return true;
     }
-    non_zero(name, len)
+    non_zero(&name[len..])
 }
 
 // 4: whether two stored names are equal.
@@ -45,7 +40,7 @@ pub(crate) fn same_stored(first: [u8; 16], m: u8, second: [u8; 16], n: u8) -> bo
 {
     let first_end = m as usize;
     let second_end = n as usize;
-    names::same_name(&first[0..first_end], &second[0..second_end])
+    names::same_name(&first[..first_end], &second[..second_end])
 }
 
 // 7: whether the word is one of those allowed for the kind.
@@ -53,29 +48,19 @@ pub(crate) fn word_fits(kind: Kind, word: Word) -> bool
     ensures { result ≡ not (is_none (word_of kind (word_text word))) }
 {
     match kind {
-        Kind::Rule => match word {
-            Word::Permit => true,
-            Word::Deny => true,
-            Word::DenyOverrides => false,
-            Word::PermitOverrides => false,
-            Word::FirstApplicable => false,
-            Word::OnlyOneApplicable => false,
-        },
-        Kind::Policy => match word {
-            Word::Permit => false,
-            Word::Deny => false,
-            Word::DenyOverrides => true,
-            Word::PermitOverrides => true,
-            Word::FirstApplicable => true,
-            Word::OnlyOneApplicable => false,
-        },
-        Kind::Set => match word {
-            Word::Permit => false,
-            Word::Deny => false,
-            Word::DenyOverrides => true,
-            Word::PermitOverrides => true,
-            Word::FirstApplicable => true,
-            Word::OnlyOneApplicable => true,
-        },
+        Kind::Rule => matches!(word, Word::Permit | Word::Deny),
+        Kind::Policy => matches!(
+            word,
+            Word::DenyOverrides | Word::PermitOverrides | Word::FirstApplicable
+        ),
+        Kind::Set => !matches!(word, Word::Permit | Word::Deny),
     }
+}
+
+// A refusal with its line.
+pub(crate) fn on_line(tested: Result<(), Refusal>, line: u32) -> Result<(), Refused>
+    ensures number { number_told result ≡ number_in tested }
+    ensures line { IsErr result → line_told result ≡ line }
+{
+    tested.map_err(|why| Refused { why, second: line })
 }

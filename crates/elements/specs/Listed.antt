@@ -1,5 +1,5 @@
 -- The elements of a list by value.
-use Rattle.std.specs.Prelude.{◌+◌, min, List, take, set, replicate}
+use Rattle.std.specs.Prelude.{◌+◌, List, take, set, replicate}
 use Rattle.meaning.specs.declared.Kind.TheVariants.{Rule}
 use Rattle.meaning.specs.declared.Word.TheVariants.{Permit}
 use Rattle.meaning.specs.declared.Element.{Element}
@@ -16,10 +16,6 @@ no_elements = record { all = replicate 65 blank; len = 0 }
 -- one element more
 abbrev pub with_element : Elements → Element → Elements
 with_element l e = record { all = set l.all l.len e; len = l.len + 1 }
-
--- no more than its places
-abbrev pub held_in : Elements → Elements
-held_in l = record { all = l.all; len = min l.len 65 }
 
 -- the elements themselves
 abbrev pub elements_of : Elements → List Element

@@ -3,7 +3,7 @@
 
 ghost use Rattle.std.specs.Prelude.{◌≡◌, ◌-◌, ◌^◌, ◌≤◌, ◌<◌};
 ghost use Rattle.meaning.specs.Model.{unused};
-ghost use Rattle.elements.specs.Listed.{no_elements, with_element, held_in};
+ghost use Rattle.elements.specs.Listed.{no_elements, with_element, elements_of};
 
 use meaning::{Element, Kind, Obligation, Word};
 
@@ -25,47 +25,44 @@ pub fn unused() -> Obligation
     }
 }
 
-// No elements.
-pub fn none() -> Elements
-    ensures { result ≡ no_elements }
-{
-    let first = unused();
-    let second = unused();
-    let blank = Element {
-        kind: Kind::Rule,
-        depth: 0,
-        name: [0u8; 16],
-        len: 0,
-        word: Word::Permit,
-        masks: [0u16; 6],
-        obligations: 0,
-        first,
-        second,
-    };
-    let all = [blank; 65];
-    Elements { all, len: 0 }
-}
-
-// The elements with one more behind them.
-pub fn with_element(list: Elements, e: Element) -> Elements
-    requires { list.len < 65 }
-    ensures { result ≡ with_element list e }
-{
-    let mut all = list.all;
-    let at = list.len;
-    all[at] = e;
-    Elements { all, len: at + 1 }
-}
-
-// The list with no more elements than it has places.
-pub fn held(list: Elements) -> Elements
-    ensures { result ≡ held_in list }
-{
-    if 65 < list.len {
-        let all = list.all;
-        return Elements { all, len: 65 };
+impl Elements {
+    // No elements.
+    pub fn none() -> Elements
+        ensures { result ≡ no_elements }
+    {
+        let first = unused();
+        let second = unused();
+        let blank = Element {
+            kind: Kind::Rule,
+            depth: 0,
+            name: [0u8; 16],
+            len: 0,
+            word: Word::Permit,
+            masks: [0u16; 6],
+            obligations: 0,
+            first,
+            second,
+        };
+        let all = [blank; 65];
+        Elements { all, len: 0 }
     }
-    list
+
+    // One element more.
+    pub fn push(&mut self, e: Element)
+        requires { self.old.len < 65 }
+        ensures { self.new ≡ with_element self.old e }
+    {
+        self.all[self.len] = e;
+        self.len += 1;
+    }
+
+    // The elements themselves, no more than there are places.
+    pub fn as_slice(&self) -> &[Element]
+        ensures { result.now ≡ elements_of self.now }
+    {
+        let count = self.len.min(65);
+        &self.all[..count]
+    }
 }
 
 // The mask of so many values, all of them.

@@ -2,7 +2,4 @@
 mod Laying
 mod Parts
 mod Reading
-mod Taking
-mod Shapes
-mod Writing
 mod Demand2

@@ -1,13 +1,12 @@
 -- The elements of a file that was read, listed one by one; and what a file is listed as.
-use mathlib.Core.Path.{◌≡◌, refl, sym, ap, ap₂, ◌∙◌, subst}
+use mathlib.Core.Path.{◌≡◌, refl, sym, ap, ap₂, ◌∙◌}
 use Prim.Native.Nat.{ℕ, ◌+◌, ◌≤◌, ◌<◌}
-use native.Mathlib.Nat.{le_antisymm}
 use native.Mathlib.Numerals.{add-one}
 use native.Mathlib.Omega.{arith}
 use mathlib.Core.Bool.{cond}
 use mathlib.Core.List.{List, [], ◌∷◌, ◌++◌, reverse, reverse-cons}
 use lib.Dec.{ltb}
-use lib.ListN.{length, take, drop, set, length-set, length-replicate, length-reverse}
+use lib.ListN.{length, drop, length-set, length-replicate, length-reverse}
 use borrow.Author.Tests.{lt-ltb, le-ltb, ltb-false}
 use Rattle.meaning.specs.declared.Answer.{Answer}
 use Rattle.meaning.specs.declared.Element.{Element}
@@ -24,34 +23,34 @@ use Rattle.reader.specs.declared.Reading.{Reading}
 use Rattle.reader.specs.Told.{ReadPolicy, ReadAs}
 use Rattle.reader.proofs.FileRead.{file_refused, elements_are, few, good, naming}
 use Rattle.elements.specs.declared.Elements.{Elements}
-use Rattle.elements.specs.Listed.{blank, no_elements, elements_of}
+use Rattle.elements.specs.Listed.{blank, no_elements, with_element, elements_of}
 use Rattle.elements.proofs.Listing.{one_more}
 use Rattle.lists.specs.declared.Listing.{Listing}
 use Rattle.lists.specs.Listed.{Filled, given_or, Listed}
 
--- the first i of them stand at the start of an array
-pub record Upto (f : Bytes) (table places : List ℕ) (all : List Element) (i : ℕ) : Type 0 where
-  pub room : length all ≡ 65
-  pub listed : take i all ≡ reverse (elements_to f table places i)
+-- the first i of them
+pub record Upto (f : Bytes) (table places : List ℕ) (all : Elements) (i : ℕ) : Type 0 where
+  pub room : length all.all ≡ 65
+  pub count : all.len ≡ i
+  pub listed : elements_of all ≡ reverse (elements_to f table places i)
 
 module _ (f : Bytes) (table places : List ℕ) where
-  pub upto_none : (none : Elements) → none ≡ no_elements → Upto f table places none.all 0
+  pub none_yet : (none : Elements) → none ≡ no_elements → Upto f table places none 0
   unfolding elements_to
-  upto_none none is = record { room = ap (λ l. length l.all) is ∙ length-replicate 65 blank; listed = refl }
+  none_yet none is = record { room = ap (λ l. length l.all) is ∙ length-replicate 65 blank; count = ap (λ l. l.len) is; listed = ap elements_of is }
 
-  pub upto_next : (all : List Element) (i : ℕ) → Upto f table places all i → i < 65 → (e : Element) → e ≡ element_in f table places i → Upto f table places (set all i e) (i + 1)
+  pub one_listed : (all : Elements) (i : ℕ) → Upto f table places all i → i < 65 → (e : Element) → e ≡ element_in f table places i → (next : Elements) → next ≡ with_element all e → Upto f table places next (i + 1)
   unfolding elements_to
-  upto_next all i upto few e e-is =
+  one_listed all i upto few e e-is next is =
       record {
-        room = length-set all i e ∙ upto.room;
-        listed = one_more (record { all = all; len = i }) e (omega (arith, upto.room))
+        room = ap (λ l. length l.all) is ∙ length-set all.all all.len e ∙ upto.room;
+        count = ap (λ l. l.len) is ∙ ap (λ n. n + 1) upto.count;
+        listed = ap elements_of is
+            ∙ one_more all e (omega (arith, upto.room, upto.count))
             ∙ ap₂ (λ (es : List Element) (x : Element). es ++ (x ∷ [])) upto.listed e-is
             ∙ sym (reverse-cons (element_in f table places i) (elements_to f table places i))
             ∙ ap (λ n. reverse (elements_to f table places n)) (sym (add-one i));
       }
-
-  pub upto_all : (all : List Element) (i n : ℕ) → Upto f table places all i → i ≤ n → n ≤ i → take n all ≡ reverse (elements_to f table places n)
-  upto_all all i n upto within over = let whole = le_antisymm within over in subst (λ k. take k all ≡ reverse (elements_to f table places k)) whole upto.listed
 
 -- A refusal, with no elements
 none_listed : (f : Bytes) (room n m : ℕ) → list_file room f ≡ refused n m → (a : Answer) → a ≡ record { number = n; second = m } → (es : Elements) → es ≡ no_elements → Listed f room (record { answer = a; elements = es })
@@ -115,8 +114,8 @@ given_lent ys (refused n m) = refl
 given_lent ys (given es) = refl
 
 module _ (f : Bytes) (ys : List Element) (r : Listing) (listed : Listed f (length ys) r) where
-  pub listed_fits : (r.elements.len ≤ length ys) × (r.elements.len ≤ 64)
-  listed_fits = (omega (arith, listed.count, given_fits f (length ys)), listed.few)
+  pub listed_fits : length (elements_of r.elements) ≤ length ys
+  listed_fits = rw listed.elements (given_fits f (length ys))
 
-  pub listed_lent : elements_of r.elements ++ drop r.elements.len ys ≡ read_lent f ys
-  listed_lent = rw (listed.elements, listed.count) (given_lent ys (list_file (length ys) f))
+  pub listed_lent : elements_of r.elements ++ drop (length (elements_of r.elements)) ys ≡ read_lent f ys
+  listed_lent = rw listed.elements (given_lent ys (list_file (length ys) f))

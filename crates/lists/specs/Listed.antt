@@ -1,5 +1,5 @@
 -- A file's elements by value, for a list of so many places.
-use Rattle.std.specs.Prelude.{ℕ, ◌≤◌, ◌<◌, cond, List, [], ◌≡◌, eqb, ltb, length}
+use Rattle.std.specs.Prelude.{ℕ, ◌≤◌, ◌<◌, cond, List, [], ◌≡◌, eqb, length}
 use Rattle.meaning.specs.declared.Obligation.{Obligation}
 use Rattle.meaning.specs.declared.Element.{Element}
 use Rattle.meaning.specs.Text.{Bytes}
@@ -32,7 +32,3 @@ pub record Listed (f : Bytes) (room : ℕ) (r : Listing) : Type 0 where
   pub elements : elements_of r.elements ≡ given_or (list_file room f)
   pub count : r.elements.len ≡ length (given_or (list_file room f))
   pub few : r.elements.len ≤ 64
-
--- how many of n elements a list by value holds
-abbrev pub at_most : ℕ → ℕ
-at_most n = cond (ltb 65 n) 65 n

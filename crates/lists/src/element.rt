@@ -8,16 +8,14 @@ ghost use Rattle.lists.specs.Listed.{place_in};
 use meaning::{Element, Kind, Obligation, Word};
 
 // The kind of a line that starts with the byte.
-fn kind_at(b: u8) -> Kind
+pub fn kind_at(b: u8) -> Kind
     ensures { result ≡ kind_at b }
 {
-    if b == 83 {
-        return Kind::Set;
+    match b {
+        b'S' => Kind::Set,
+        b'P' => Kind::Policy,
+        _ => Kind::Rule,
     }
-    if b == 80 {
-        return Kind::Policy;
-    }
-    Kind::Rule
 }
 
 // A name, and zero bytes behind it.
@@ -26,11 +24,7 @@ fn padded_name(name: &[u8]) -> [u8; 16]
     ensures { result ≡ padded 16 name.now }
 {
     let mut all = [0u8; 16];
-    let mut i = 0;
-    while i < name.len() {
-        all[i] = name[i];
-        i += 1;
-    }
+    all[..name.len()].copy_from_slice(name);
     all
 }
 
@@ -38,10 +32,10 @@ fn padded_name(name: &[u8]) -> [u8; 16]
 fn effect_at(b: u8) -> Word
     ensures { result ≡ effect_at b }
 {
-    if b == 112 {
-        return Word::Permit;
+    match b {
+        b'p' => Word::Permit,
+        _ => Word::Deny,
     }
-    Word::Deny
 }
 
 // What place k for an obligation of element i holds.

@@ -4,12 +4,12 @@ use Prim.Native.Nat.{ℕ, ◌+◌, ◌/◌, ◌≤◌, ◌<◌}
 use native.Mathlib.Omega.{arith}
 use mathlib.Core.List.{List, [], ◌∷◌, ◌++◌}
 use lib.ListN.{length, get_or}
+use lib.Seq.{take_all}
 use Rattle.meaning.specs.Text.{Bytes, gathered, counting, newline, tab, line, decimal}
 use Rattle.meaning.specs.Writing.{element_lines}
 use Rattle.layout.specs.declared.Attributes.{Attributes}
 use Rattle.layout.specs.Places.{attributes_of}
-use Rattle.elements.specs.declared.Elements.{Elements}
-use Rattle.elements.specs.Listed.{blank, elements_of}
+use Rattle.elements.specs.Listed.{blank}
 use Rattle.elements.proofs.Listing.{any_default}
 use Rattle.laws.proofs.Types.{set, Word, Obligation, Element}
 use Rattle.printing.specs.Wrote.{Wrote}
@@ -54,13 +54,13 @@ unread = record { kind = set; depth = 0; name = []; len = 0; word = Word.Permit;
 abbrev pub lines_at : Bytes → Attributes → List Element → ℕ → Bytes
 lines_at header a all i = element_lines (attributes_of header a) (get_or all i unread)
 
-pub small_at : (header : Bytes) (a : Attributes) (list : Elements) (i : ℕ) → Writable header a list → i < list.len → i < length list.all → Small (get_or list.all i unread)
-small_at header a list i w l inside = rw (any_default list.all unread blank i inside) (w.each i l)
+pub small_at : (header : Bytes) (a : Attributes) (list : List Element) (i : ℕ) → Writable header a list → i < length list → Small (get_or list i unread)
+small_at header a list i w l = rw (any_default list unread blank i l) (w.each i l)
 
 -- the attribute lines, and the lines of all elements
-pub file_text : {x u y : List ℕ} {m r : ℕ} (header : Bytes) (a : Attributes) (list : Elements) → list.len ≤ length list.all
+pub file_text : {x u y : List ℕ} {m r : ℕ} (header : Bytes) (a : Attributes) (list : List Element)
     → Wrote x 0 header u m
-    → Wrote u m (gathered (lines_at header a list.all) (counting 0 list.len)) y r
-    → Wrote x 0 (header ++ gathered (element_lines (attributes_of header a)) (elements_of list)) y r
-file_text {u = u} {y = y} {m = m} {r = r} header a list enough head lines =
-    then head (subst (λ t. Wrote u m t y r) (taken unread (element_lines (attributes_of header a)) list.all list.len enough) lines)
+    → Wrote u m (gathered (lines_at header a list) (counting 0 (length list))) y r
+    → Wrote x 0 (header ++ gathered (element_lines (attributes_of header a)) list) y r
+file_text {u = u} {y = y} {m = m} {r = r} header a list head lines =
+    then head (subst (λ t. Wrote u m t y r) (taken unread (element_lines (attributes_of header a)) list (length list) (omega arith) ∙ ap (gathered (element_lines (attributes_of header a))) (take_all (length list) list (omega arith))) lines)

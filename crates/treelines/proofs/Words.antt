@@ -1,10 +1,9 @@
 -- The letters of the kinds, the words, and the mask of all values.
 use mathlib.Core.Path.{◌≡◌}
-use Prim.Native.Nat.{ℕ, ◌+◌, ◌-◌, ◌≤◌}
-use native.Mathlib.Nat.{sub-zero}
+use Prim.Native.Nat.{ℕ, ◌+◌, ◌≤◌}
 use native.Mathlib.Omega.{arith}
 use mathlib.Core.List.{List, [], ◌∷◌, ◌++◌}
-use lib.ListN.{length, take, drop, length-append}
+use lib.ListN.{length, take, length-append}
 use lib.Seq.{length-take-le}
 use Rattle.meaning.specs.Text.{tab}
 use Rattle.meaning.specs.Model.{kind_text, word_text}
@@ -26,16 +25,13 @@ short_word only_one_applicable = omega arith
 
 module _ {x y : List ℕ} {at r : ℕ} where
   -- a kind's letter and its tab
-  pub kind_put : (k e : Kind) → k ≡ e → Wrote x at (kind_text e ++ (tab ∷ [])) y r → Wrote x at (kind_text k ++ (tab ∷ [])) y r × (r ≤ at + 2)
-  kind_put k e i w = (rw i w, omega (arith, w.moved, one_letter e))
+  pub kind_put : {text : List ℕ} (k : Kind) → text ≡ kind_text k → Wrote x at (text ++ (tab ∷ [])) y r → Wrote x at (kind_text k ++ (tab ∷ [])) y r × (r ≤ at + 2)
+  kind_put k is w = let v : Wrote x at (kind_text k ++ (tab ∷ [])) y r = rw is at w in (v, omega (arith, v.moved, one_letter k))
 
   -- a word
-  pub word_put : (v e : Word) → v ≡ e → Wrote x at (word_text e) y r → Wrote x at (word_text v) y r × (r ≤ at + 19)
-  word_put v e i w = (rw i w, omega (arith, w.moved, short_word e))
+  pub word_put : {text : List ℕ} (v : Word) → text ≡ word_text v → Wrote x at text y r → Wrote x at (word_text v) y r × (r ≤ at + 19)
+  word_put v is w = let u : Wrote x at (word_text v) y r = rw is at w in (u, omega (arith, u.moved, short_word v))
 
   -- a name that stands at the start of its place, and its tab
-  pub name_put : (name : List ℕ) (len : ℕ) → len ≤ length name → len ≤ 16 → Wrote x at (take (len - 0) (drop 0 name) ++ (tab ∷ [])) y r → Wrote x at (take len name ++ (tab ∷ [])) y r × (r ≤ at + 17)
-  name_put name len room short w =
-      let from_start : len - 0 ≡ len = sub-zero len in
-      let v : Wrote x at (take len name ++ (tab ∷ [])) y r = rw from_start at w in
-      (v, omega (arith, v.moved, length-append (take len name) (tab ∷ []), length-take-le len name room))
+  pub name_put : (name : List ℕ) (len : ℕ) → len ≤ length name → len ≤ 16 → Wrote x at (take len name ++ (tab ∷ [])) y r → Wrote x at (take len name ++ (tab ∷ [])) y r × (r ≤ at + 17)
+  name_put name len room short w = (w, omega (arith, w.moved, length-append (take len name) (tab ∷ []), length-take-le len name room))

@@ -1,12 +1,11 @@
 -- What the functions ask of the attributes and the elements that they write.
-use Rattle.std.specs.Prelude.{ℕ, ◌≤◌, ◌<◌, length, get_or}
+use Rattle.std.specs.Prelude.{ℕ, ◌≤◌, ◌<◌, List, length, get_or}
 use Rattle.meaning.specs.declared.Element.{Element}
 use Rattle.meaning.specs.Text.{Bytes}
 use Rattle.meaning.specs.Model.{obligations_of}
 use Rattle.meaning.specs.Claims.Texts.{All}
 use Rattle.layout.specs.declared.Attributes.{Attributes}
 use Rattle.layout.specs.Places.{AllStanding, FewValues}
-use Rattle.elements.specs.declared.Elements.{Elements}
 use Rattle.elements.specs.Listed.{blank}
 
 -- attributes of at most 16 values each stand in attribute lines that are no longer than a file
@@ -23,7 +22,7 @@ pub record Small (e : Element) : Type 0 where
   pub obligations : All (λ o. o.len ≤ 16) (obligations_of e)
 
 -- at most 64 such elements
-pub record Writable (header : Bytes) (a : Attributes) (list : Elements) : Type 0 where
+pub record Writable (header : Bytes) (a : Attributes) (list : List Element) : Type 0 where
   pub headed : Headed header a
-  pub few : list.len ≤ 64
-  pub each : (i : ℕ) → i < list.len → Small (get_or list.all i blank)
+  pub few : length list ≤ 64
+  pub each : (i : ℕ) → i < length list → Small (get_or list i blank)

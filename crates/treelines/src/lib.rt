@@ -9,11 +9,9 @@ ghost use Rattle.std.specs.Prelude.{◌++◌, ◌+◌, ◌≤◌, ◌<◌};
 ghost use Rattle.meaning.specs.Text.{gathered, line};
 ghost use Rattle.meaning.specs.Writing.{element_fields, element_lines};
 ghost use Rattle.layout.specs.Places.{attributes_of};
-ghost use Rattle.elements.specs.Listed.{elements_of};
 ghost use Rattle.printing.specs.Wrote.{Wrote};
 ghost use Rattle.treelines.specs.Writable.{Headed, Small, Writable};
 
-use elements::Elements;
 use layout::Attributes;
 use meaning::Element;
 
@@ -22,15 +20,12 @@ fn put_element(header: &[u8], a: Attributes, e: Element, out: &mut [u8], at: usi
     requires { Headed header.now a × Small e × (at ≤ 1000000000) }
     ensures { Wrote out.old at (line (element_fields (attributes_of header.now a) e)) out.new result × (result ≤ at + 100000) }
 {
-    let kind = e.kind;
-    let word = e.word;
-    let depth = fields::put_kind(kind, out, at);
-    let start = printing::put_number(out, depth, e.depth as usize, 9);
-    let name = e.name;
-    let algorithm = fields::put_name(name, e.len, out, start);
-    let first = fields::put_word(word, out, algorithm);
+    let depth = fields::put_kind(e.kind, out, at);
+    let start = printing::put_number(out, depth, e.depth as usize, b'\t');
+    let algorithm = fields::put_name(e.name, e.len, out, start);
+    let first = fields::put_word(e.word, out, algorithm);
     let end = targets::put_targets(header, a, e, out, first);
-    printing::put(out, end, 10)
+    printing::put(out, end, b'\n')
 }
 
 // The lines of an element: its own, and those of its obligations.
@@ -43,18 +38,13 @@ fn put_lines(header: &[u8], a: Attributes, e: Element, out: &mut [u8], at: usize
 }
 
 // The file of attribute lines and a list of elements, stored from the start of `out`.
-pub fn put_file(header: &[u8], a: Attributes, list: Elements, out: &mut [u8]) -> usize
-    requires { Writable header.now a list }
-    ensures { Wrote out.old 0 (header.now ++ gathered (element_lines (attributes_of header.now a)) (elements_of list)) out.new result × (result < 4294967296) }
+pub fn put_file(header: &[u8], a: Attributes, list: &[Element], out: &mut [u8]) -> usize
+    requires { Writable header.now a list.now }
+    ensures { Wrote out.old 0 (header.now ++ gathered (element_lines (attributes_of header.now a)) list.now) out.new result × (result < 4294967296) }
 {
-    let all = list.all;
-    let len = list.len;
     let mut end = printing::put_bytes(out, 0, header);
-    let mut i = 0;
-    while i < len {
-        let e = all[i];
-        end = put_lines(header, a, e, out, end);
-        i += 1;
+    for e in list {
+        end = put_lines(header, a, *e, out, end);
     }
     end
 }

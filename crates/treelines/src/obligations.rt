@@ -14,12 +14,10 @@ fn put_obligation(o: Obligation, out: &mut [u8], at: usize) -> usize
     requires { (o.len ≤ 16) × (at ≤ 2000000000) }
     ensures { Wrote out.old at (line (obligation_fields o)) out.new result × (result ≤ at + 40) }
 {
-    let name = o.name;
-    let word = o.word;
-    let start = printing::put_field(out, at, b"O", 9);
-    let effect = fields::put_name(name, o.len, out, start);
-    let end = fields::put_word(word, out, effect);
-    printing::put(out, end, 10)
+    let start = printing::put_field(out, at, b"O", b'\t');
+    let effect = fields::put_name(o.name, o.len, out, start);
+    let end = fields::put_word(o.word, out, effect);
+    printing::put(out, end, b'\n')
 }
 
 // The lines of all obligations of an element, at most two.
@@ -30,11 +28,9 @@ pub(crate) fn put_obligations(e: Element, out: &mut [u8], at: usize) -> usize
     if e.obligations == 0 {
         return at;
     }
-    let first = e.first;
-    let behind = put_obligation(first, out, at);
+    let behind = put_obligation(e.first, out, at);
     if e.obligations == 1 {
         return behind;
     }
-    let second = e.second;
-    put_obligation(second, out, behind)
+    put_obligation(e.second, out, behind)
 }

@@ -73,13 +73,10 @@ pub(crate) fn put_targets(
     ensures { Wrote out.old at (gathered (λ t. tab ∷ t) (target_texts (attributes_of header.now a) e.masks)) out.new result × (result ≤ at + 98316) }
 {
     let masks = e.masks;
-    let len = a.len;
-    let mut i = 0;
     let mut end = at;
-    while i < len {
+    for i in 0..a.len {
         let target = printing::put(out, end, b'\t');
         end = put_target(a.values(header, i), a.all[i].count, masks[i], out, target);
-        i += 1;
     }
     end
 }

@@ -3,6 +3,7 @@ ghost use Rattle.std.specs.Prelude.{◌≡◌, ◌≤◌, take, replicate};
 ghost use Rattle.meaning.specs.Operations.{read_lent, write_answer, write_lent};
 ghost use Rattle.elements.specs.Listed.{blank};
 
+use elements::Elements;
 use meaning::{Answer, Element};
 
 // The first `len` elements are the list. The writer looks at 65, so there may be one more.
@@ -16,7 +17,7 @@ pub(crate) struct Lent {
 pub(crate) fn blanks() -> [Element; 66]
     ensures { result ≡ replicate 66 blank }
 {
-    let none = elements::none();
+    let none = Elements::none();
     let all = none.all;
     let blank = all[0];
     [blank; 66]

@@ -1,12 +1,10 @@
 -- The answer of the writer, from what was read of the attribute lines and what the test of the elements gave.
 use Rattle.std.specs.Prelude.{Ok, Err}
 use mathlib.Core.Path.{◌≡◌, refl, sym, ap, ◌∙◌, subst}
-use Prim.Native.Nat.{ℕ, zero, suc, ◌≤◌, ◌<◌}
+use Prim.Native.Nat.{ℕ, zero, suc, ◌<◌}
 use native.Mathlib.Omega.{arith}
 use mathlib.Core.List.{List, [], ◌∷◌, ◌++◌, reverse, map}
 use lib.ListN.{length, take, get_or, length-map}
-use lib.Seq.{length-take-le, get_or-take}
-use Rattle.meaning.specs.declared.Answer.{Answer}
 use Rattle.meaning.specs.declared.Element.{Element}
 use Rattle.meaning.specs.Text.{Bytes, gathered}
 use Rattle.meaning.specs.Model.{Result, refused, given, ◌then◌}
@@ -17,17 +15,16 @@ use Rattle.meaning.specs.Operations.{answered, lent, write_answer, write_lent}
 use Rattle.meaning.specs.Claims.Texts.{All}
 use Rattle.laws.proofs.Reading.{short_given}
 use Rattle.laws.proofs.GoodLists.{Small, taken_small, taken_few}
+use Rattle.std.specs.Prelude.{Result as Outcome}
 use Rattle.refusals.specs.declared.Refused.{Refused}
 use Rattle.refusals.specs.Numbers.{number_of, answer_of}
 use Rattle.layout.specs.declared.Attributes.{Attributes}
 use Rattle.layout.specs.Places.{attributes_of, value_counts, counts_at}
 use Rattle.layout.proofs.Laws.{attributes_length}
 use Rattle.layout.proofs.Counts.{counts_are}
-use Rattle.elements.specs.declared.Elements.{Elements}
-use Rattle.elements.specs.Listed.{blank, elements_of}
+use Rattle.elements.specs.Listed.{blank}
 use Rattle.header.specs.Told.{HeaderHolds, HeaderAs}
-use Rattle.checking.specs.declared.Checked.{Checked}
-use Rattle.checking.specs.Tested.{taken as kept, CheckedAs}
+use Rattle.checking.specs.Tested.{taken as kept, number_told, line_told, CheckedAs}
 use Rattle.treelines.specs.Writable.{Writable}
 use Rattle.writing.proofs.Texts.{told, Gives}
 use Rattle.writing.proofs.Kept.{elements_kept, lines_kept}
@@ -52,9 +49,9 @@ small_at [] i a l = absurd (omega arith)
 small_at (e ∷ es) zero a l = a.0
 small_at (e ∷ es) (suc i) a l = small_at es i a.1 (omega arith)
 
--- the answer and the buffer depend on the elements alone
-pub of_held : (header old : Bytes) {new : Bytes} {es fs : List Element} {x : Answer} → es ≡ fs → (x ≡ write_answer header es old) × (new ≡ write_lent header es old) → (x ≡ write_answer header fs old) × (new ≡ write_lent header fs old)
-of_held header old {new} {x = x} e w = subst (λ gs. (x ≡ write_answer header gs old) × (new ≡ write_lent header gs old)) e w
+empty_of : (es : List Element) → length es ≡ 0 → es ≡ []
+empty_of [] e = refl
+empty_of (x ∷ es) e = absurd (omega arith)
 
 -- attribute lines that are refused
 pub header_refused : (header : Bytes) (r : Refused) → HeaderAs header (Err r) (short header then (read_text header_tests)) → (es : List Element) (old : Bytes) → (answer_of r ≡ write_answer header es old) × (old ≡ write_lent header es old)
@@ -87,44 +84,34 @@ module _ (header : Bytes) (a : Attributes) (is : HeaderAs header (Ok a) (short h
       let (s, e, t) = header_read in
       write_is (length old) header es ∙ ap (λ x. x then behind (length old) header es) e ∙ (λ i. behind (length old) header es (record { attributes = t.attributes i; before = t.no_element i }))
 
-  module _ (list : Elements) (room : length list.all ≡ 65) (few : list.len ≤ 65) (c : Checked)
-      {counts : List ℕ} (counted : counts ≡ counts_at a) (checks : (attrs : List _) → take a.len counts ≡ value_counts attrs → CheckedAs c (read_elements (suc a.len) (record { attributes = attrs; before = [] }) (elements_of list))) where
-    abbrev es : List Element
-    es = elements_of list
-
+  module _ (es : List Element) (c : Outcome (Unit {0}) Refused)
+      {counts : List ℕ} (counted : counts ≡ counts_at a) (checks : (attrs : List _) → take a.len counts ≡ value_counts attrs → CheckedAs c (read_elements (suc a.len) (record { attributes = attrs; before = [] }) es)) where
     tested : CheckedAs c (read_elements (suc (length (attributes_of header a))) start es)
     tested = subst (λ n. CheckedAs c (read_elements (suc n) start es)) (sym (attributes_length header a)) (checks (attributes_of header a) (ap (take a.len) counted ∙ counts_are header a holds.spaced.standing))
 
-    pub small_checked : (c.number ≡ 0 → ⊥) → (c.number < 4294967296) × (c.line < 4294967296)
-    small_checked h = go (read_elements (suc (length (attributes_of header a))) start es) tested
-      where
-        go : (x : Result Sofar) → CheckedAs c x → (c.number < 4294967296) × (c.line < 4294967296)
-        go (refused n m) t = (omega (arith, t.number, t.low), omega (arith, t.line, t.small))
-        go (given s) t = absurd (h t.number)
-
     -- an element that is refused
-    pub element_refused : (c.number ≡ 0 → ⊥) → (told c.number c.line ≡ write_answer header es old) × (old ≡ write_lent header es old)
+    pub element_refused : (number_told c ≡ 0 → ⊥) → (told (number_told c) (line_told c) ≡ write_answer header es old) × (old ≡ write_lent header es old)
     element_refused h = (ap (answered length) (sym all), ap (lent old) (sym all))
       where
         rest : Result Sofar → Result Bytes
         rest x = x then finished then λ p. short (header ++ gathered (element_lines p.attributes) p.elements) then fitted (length old)
 
-        go : (x : Result Sofar) → CheckedAs c x → rest x ≡ refused c.number c.line
+        go : (x : Result Sofar) → CheckedAs c x → rest x ≡ refused (number_told c) (line_told c)
         go (refused n m) t = λ i. refused (sym t.number i) (sym t.line i)
         go (given s) t = absurd (h t.number)
 
-        all : write_file (length old) header es ≡ refused c.number c.line
+        all : write_file (length old) header es ≡ refused (number_told c) (line_told c)
         all = written_behind es ∙ go (read_elements (suc (length (attributes_of header a))) start es) tested
 
     -- no element
-    pub none_given : list.len ≡ 0 → (told 9 0 ≡ write_answer header es old) × (old ≡ write_lent header es old)
+    pub none_given : length es ≡ 0 → (told 9 0 ≡ write_answer header es old) × (old ≡ write_lent header es old)
     none_given e =
-        let none : es ≡ [] = ap (λ k. take k list.all) e in
+        let none = empty_of es e in
         let all : write_file (length old) header es ≡ refused 9 0 = ap (write_file (length old) header) none ∙ written_behind [] in
         (ap (answered length) (sym all), ap (lent old) (sym all))
 
     -- elements that are good
-    module _ (fine : c.number ≡ 0) where
+    module _ (fine : number_told c ≡ 0) where
       taken : (z : Sofar) × (read_elements (suc (length (attributes_of header a))) start es ≡ given z)
       taken = go (read_elements (suc (length (attributes_of header a))) start es) refl tested
         where
@@ -132,21 +119,19 @@ module _ (header : Bytes) (a : Attributes) (is : HeaderAs header (Ok a) (short h
           go (refused n m) e t = absurd (omega (arith, t.number, t.from_three))
           go (given z) e t = (z, e)
 
-      size : length es ≡ list.len
-      size = length-take-le list.len list.all (omega arith)
-
-      pub writable : Writable header a list
+      pub writable : Writable header a es
       writable =
           let (y, e) = taken in
-          let most = taken_few (suc (length (attributes_of header a))) start es y e (omega arith) in
+          let first = suc (length (attributes_of header a)) in
+          let most = taken_few first start es y e (omega arith) in
           record {
             headed = record { short = holds.size; standing = holds.spaced.standing; few_values = holds.spaced.few_values };
-            few = omega (arith, size);
-            each = λ i l. let small = subst Small (get_or-take list.len list.all i blank l) (small_at es i (taken_small (suc (length (attributes_of header a))) start es y e) (omega (arith, size))) in
+            few = omega arith;
+            each = λ i l. let small = small_at es i (taken_small first start es y e) l in
                 record { name = small.short; depth = small.shallow; few_obligations = small.few_obligations; obligations = small.short_obligations };
           }
 
-      pub text_written : (list.len ≡ 0 → ⊥) → {new : Bytes} {x : _} → Gives (header ++ gathered (element_lines (attributes_of header a)) es) old new x → (x ≡ write_answer header es old) × (new ≡ write_lent header es old)
+      pub text_written : (length es ≡ 0 → ⊥) → {new : Bytes} {x : _} → Gives (header ++ gathered (element_lines (attributes_of header a)) es) old new x → (x ≡ write_answer header es old) × (new ≡ write_lent header es old)
       text_written some {new} {x} (answer, lends) = (answer ∙ ap (answered length) (sym all), lends ∙ ap (lent old) (sym all))
         where
           rest : Result Sofar → Result Bytes
@@ -157,7 +142,7 @@ module _ (header : Bytes) (a : Attributes) (is : HeaderAs header (Ok a) (short h
           made y attributes elements = go y.before refl
             where
               go : (before : List Element) → y.before ≡ before → rest (given y) ≡ (short (header ++ gathered (element_lines (attributes_of header a)) es) then fitted (length old))
-              go [] e = absurd (some (sym size ∙ sym (length-map es kept) ∙ ap length (sym elements) ∙ ap (λ b. length (reverse b)) e))
+              go [] e = absurd (some (sym (length-map es kept) ∙ ap length (sym elements) ∙ ap (λ b. length (reverse b)) e))
               go (x ∷ xs) e =
                   rw e (λ i. short (header ++ gathered (element_lines (attributes i)) ((ap reverse (sym e) ∙ elements) i)) then fitted (length old))
                   ∙ ap (λ t. short (header ++ t) then fitted (length old)) (lines_kept (attributes_of header a) es)

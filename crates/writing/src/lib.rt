@@ -1,4 +1,4 @@
-// Writes a policy file: attribute lines as bytes, and a list of elements by value.
+// Writes a policy file: attribute lines as bytes, and a list of elements.
 #![tactic(auto)]
 
 ghost use Rattle.std.specs.Prelude.{◌≡◌, ◌++◌, length};
@@ -7,28 +7,30 @@ ghost use Rattle.meaning.specs.Model.{◌then◌};
 ghost use Rattle.meaning.specs.Reading.{short};
 ghost use Rattle.meaning.specs.Report.{fitted};
 ghost use Rattle.meaning.specs.Writing.{element_lines};
+ghost use Rattle.meaning.specs.Claims.Texts.{All};
+ghost use Rattle.meaning.specs.Claims.Writing.{Shaped};
 ghost use Rattle.meaning.specs.Operations.{answered, lent, write_answer, write_lent};
 ghost use Rattle.layout.specs.Places.{attributes_of};
-ghost use Rattle.elements.specs.Listed.{elements_of};
 ghost use Rattle.treelines.specs.Writable.{Writable};
 
-use elements::Elements;
 use layout::Attributes;
-use meaning::Answer;
+use meaning::{Answer, Element};
+use refusals::{Refusal, Refused};
 
 // The text of good lines and elements: counted first, and written if it is no longer than a file and fits.
-fn write_text(header: &[u8], a: Attributes, list: Elements, out: &mut [u8]) -> Answer
-    requires { Writable header.now a list }
-    ensures value { result ≡ answered length (short (header.now ++ gathered (element_lines (attributes_of header.now a)) (elements_of list)) then fitted (length out.old)) }
-    ensures out_after { out.new ≡ lent out.old (short (header.now ++ gathered (element_lines (attributes_of header.now a)) (elements_of list)) then fitted (length out.old)) }
+fn write_text(header: &[u8], a: Attributes, list: &[Element], out: &mut [u8]) -> Answer
+    requires { Writable header.now a list.now }
+    ensures value { result ≡ answered length (short (header.now ++ gathered (element_lines (attributes_of header.now a)) list.now) then fitted (length out.old)) }
+    ensures out_after { out.new ≡ lent out.old (short (header.now ++ gathered (element_lines (attributes_of header.now a)) list.now) then fitted (length out.old)) }
 {
     let mut none = [0u8; 0];
     let needed = treelines::put_file(header, a, list, &mut none);
     if 16384 < needed {
-        return Answer {
-            number: 1,
+        return Refused {
+            why: Refusal::LongFile,
             second: 0,
-        };
+        }
+        .into();
     }
     let room = out.len();
     let part = printing::lend(needed, room);
@@ -36,28 +38,25 @@ fn write_text(header: &[u8], a: Attributes, list: Elements, out: &mut [u8]) -> A
     printing::text_answer(needed, room)
 }
 
-// The file of some attribute lines and a list of elements, in a lent buffer.
-pub fn write(header: &[u8], list: Elements, out: &mut [u8]) -> Answer
-    ensures value { result ≡ write_answer header.now (elements_of list) out.old }
-    ensures out_after { out.new ≡ write_lent header.now (elements_of list) out.old }
+// The file of some attribute lines and a list of elements, in a lent buffer. The last clause is what the elements' type says: 16 name bytes, six masks and 16 name bytes in each place.
+pub fn write(header: &[u8], list: &[Element], out: &mut [u8]) -> Answer
+    ensures value { result ≡ write_answer header.now list.now out.old }
+    ensures out_after { out.new ≡ write_lent header.now list.now out.old }
+    ensures shaped { result.number ≡ 0 → All Shaped list.now }
 {
-    let held = elements::held(list);
     let a = match header::read_header(header) {
         Ok(attributes) => attributes,
-        Err(refused) => return Answer::from(refused),
+        Err(refused) => return refused.into(),
     };
-    let checked = checking::check_elements(a.counts(), a.len, held);
-    if checked.number != 0 {
-        return Answer {
-            number: checked.number as u32,
-            second: checked.line as u32,
-        };
+    if let Err(refused) = checking::check_elements(a.counts(), a.len, list) {
+        return refused.into();
     }
-    if held.len == 0 {
-        return Answer {
-            number: 9,
+    if list.is_empty() {
+        return Refused {
+            why: Refusal::NoElement,
             second: 0,
-        };
+        }
+        .into();
     }
-    write_text(header, a, held, out)
+    write_text(header, a, list, out)
 }

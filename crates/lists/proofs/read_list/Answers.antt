@@ -4,9 +4,9 @@ use Rattle.lists.proofs.Reading.{listed_fits, listed_lent}
 use Rattle.lists.proofs.read_list.Goals as goal
 
 pub fill-requires : goal.fill-requires
-fill-requires c = listed_fits _ _ _ c.read_elements-listing.ensures
+fill-requires c = rw c.as_slice.ensures (listed_fits _ _ _ c.read_elements-listing.ensures)
 
 pub returns : goal.returns
 returns c =
     let listed = c.read_elements-listing.ensures in
-    (listed.answer, c.fill.ensures ∙ listed_lent c.args.file.now c.args.list.now c.read_elements-listing.result listed)
+    (listed.answer, c.fill.ensures ∙ rw c.as_slice.ensures (listed_lent c.args.file.now c.args.list.now c.read_elements-listing.result listed))

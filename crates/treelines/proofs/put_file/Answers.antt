@@ -1,46 +1,30 @@
--- `put_file` meets its contract. The loop keeps the lines of the elements before `i`, behind the attribute lines.
-use mathlib.Core.Path.{◌≡◌}
-use lib.ListN.{length}
+-- `put_file` meets its contract. The loop keeps the lines of the elements before the one at hand, behind the attribute lines.
 use native.Mathlib.Omega.{arith}
-use borrow.Author.Rules.{rules}
-use Rattle.elements.proofs.Listing.{mapped_length}
+use lib.ListN.{length}
 use Rattle.printing.proofs.Walks.{begun, stored, ended_all}
 use Rattle.treelines.proofs.ElementLines.{lines_at, small_at, file_text}
 use Rattle.treelines.proofs.put_file.Goals as goal
 
-pub loop-i-init : goal.loop-i-init
-loop-i-init c =
-    let args = c.args in
-    (omega arith, begun (lines_at args.header.now args.a args.list.all) 100100 0 _ _)
-
-pub offset_bounds-all-i : goal.offset_bounds-all-i
-offset_bounds-all-i c = let few = c.requires.few in search rules
-
-pub bounds-all-i : goal.bounds-all-i
-bounds-all-i c = let few = c.requires.few in search rules
+pub loop-e-init : goal.loop-e-init
+loop-e-init c =
+    let args = c.args in begun (lines_at args.header.now args.a args.list.now) 100100 0 _ _
 
 pub put_lines-end-requires : goal.put_lines-end-requires
 put_lines-end-requires c =
-    let places : length c.args.list.all ≡ 65 = search (rules, mapped_length) in
     let pre = c.requires in
-    let l = c.loop-i in
-    let list = c.args.list in
-    let size = places in
-    (pre.headed, small_at _ _ list l.i pre (omega arith) (omega (arith, pre.few)), omega (arith, pre.few, pre.headed.short, l.invariant.1.within, c.put_bytes-end.ensures.moved))
+    let l = c.loop-e in
+    (pre.headed, small_at _ _ c.args.list.now l.e-index pre (omega arith), omega (arith, pre.few, pre.headed.short, l.invariant.within, c.put_bytes-end.ensures.moved))
 
-pub loop-i-preserved : goal.loop-i-preserved
-loop-i-preserved c =
+pub loop-e-preserved : goal.loop-e-preserved
+loop-e-preserved c =
     let args = c.args in
-    let l = c.loop-i in
-    (omega arith, stored (lines_at args.header.now args.a args.list.all) 100100 0 _ _ l.i l.invariant.1 c.put_lines-end.ensures)
+    let l = c.loop-e in stored (lines_at args.header.now args.a args.list.now) 100100 0 _ _ l.e-index l.invariant c.put_lines-end.ensures
 
 pub returns : goal.returns
 returns c =
-    let places : length c.args.list.all ≡ 65 = search (rules, mapped_length) in
     let args = c.args in
-    let l = c.loop-i in
+    let l = c.loop-e in
     let pre = c.requires in
     let head = c.put_bytes-end.ensures in
-    let size = places in
-    let lines = ended_all (lines_at args.header.now args.a args.list.all) 100100 _ _ l.i l.invariant.1 args.list.len (omega (arith, l.invariant.0)) in
-    (file_text args.header.now args.a args.list (omega (arith, pre.few)) head lines, omega (arith, head.moved, pre.few, pre.headed.short, l.invariant.0, l.invariant.1.within))
+    let lines = ended_all (lines_at args.header.now args.a args.list.now) 100100 _ _ l.e-index l.invariant (length args.list.now) (omega arith) in
+    (file_text args.header.now args.a args.list.now head lines, omega (arith, head.moved, pre.few, pre.headed.short, l.invariant.within))

@@ -1,9 +1,11 @@
 -- `bad_stored` meets its contract, branch by branch.
-use mathlib.Core.Path.{◌≡◌, sym, ◌∙◌}
-use native.Mathlib.Nat.{sub-zero}
+use mathlib.Core.Path.{◌≡◌, sym, ap, ◌∙◌}
+use Prim.Native.Nat.{◌-◌}
 use native.Mathlib.Omega.{arith}
-use lib.ListN.{take}
-use Rattle.meaning.specs.Text.{is_name}
+use lib.ListN.{length, drop, length-drop}
+use lib.Seq.{take_all}
+use borrow.Author.Rules.{rules}
+use Rattle.meaning.specs.Reading.{non_zero}
 use Rattle.checking.proofs.Names.{name_empty, name_long, name_wrong, name_right}
 use Rattle.checking.proofs.parts.bad_stored.Goals as goal
 
@@ -14,12 +16,10 @@ pub returns-then-len-gt16 : goal.returns-then-len-gt16
 returns-then-len-gt16 c = sym (name_long c.args.stored c.args.name c.if-len-gt16.true)
 
 pub returns-then-not-is_name : goal.returns-then-not-is_name
-returns-then-not-is_name c =
-    let found : is_name (take c.args.stored c.args.name) ≡ c.is_name.result = sym (simp sub-zero at c.is_name.ensures) in
-    sym (name_wrong c.args.stored c.args.name (found ∙ c.if-not-is_name.true))
+returns-then-not-is_name c = sym (name_wrong c.args.stored c.args.name (sym c.is_name.ensures ∙ c.if-not-is_name.true))
 
 pub returns : goal.returns
 returns c =
-    let found : is_name (take c.args.stored c.args.name) ≡ c.is_name.result = sym (simp sub-zero at c.is_name.ensures) in
     let a = c.args in
-    c.non_zero.ensures ∙ sym (name_right a.stored a.name (omega arith) (omega arith) (found ∙ c.if-not-is_name.false))
+    let size : length a.name ≡ 16 = search rules in
+    c.non_zero.ensures ∙ ap non_zero (take_all (16 - a.stored) (drop a.stored a.name) (omega (arith, length-drop a.stored a.name, size))) ∙ sym (name_right a.stored a.name (omega arith) (omega arith) (sym c.is_name.ensures ∙ c.if-not-is_name.false))

@@ -13,16 +13,10 @@ use Rattle.treelines.proofs.targets.put_targets.Goals as goal
 pub loop-i-init : goal.loop-i-init
 loop-i-init c =
     let args = c.args in
-    (omega arith, begun (tab_target args.header.now args.a args.e.masks) 16386 0 args.out.now args.at)
+    begun (tab_target args.header.now args.a args.e.masks) 16386 0 args.out.now args.at
 
 pub put-target-requires : goal.put-target-requires
-put-target-requires c = omega (arith, c.loop-i.invariant.1.within, c.requires.0.standing.few)
-
-pub offset_bounds-masks-i : goal.offset_bounds-masks-i
-offset_bounds-masks-i c = let small : c.loop-i.i < 6 = omega (arith, c.requires.0.standing.few) in search rules
-
-pub bounds-masks-i : goal.bounds-masks-i
-bounds-masks-i c = let small : c.loop-i.i < 6 = omega (arith, c.requires.0.standing.few) in search rules
+put-target-requires c = omega (arith, c.loop-i.invariant.within, c.requires.0.standing.few)
 
 pub values-requires : goal.values-requires
 values-requires c = (omega (arith, c.requires.0.standing.few), c.requires.0.standing.each c.loop-i.i (omega arith))
@@ -32,16 +26,13 @@ put_target-end-requires c =
     let pre = c.requires in
     let l = c.loop-i in
     let here : Standing c.args.header.now c.args.a l.i = pre.0.standing.each l.i (omega arith) in
-    (here.count ∙ ap (λ vs. length (cut tab vs)) (sym c.values.ensures), pre.0.few_values l.i (omega arith), omega (arith, ap length c.values.ensures, values_short here pre.0.short), omega (arith, l.invariant.1.within, pre.0.standing.few, c.put-target.ensures.moved))
-
-pub overflow_add-i : goal.overflow_add-i
-overflow_add-i c = let small : c.loop-i.i < 6 = omega (arith, c.requires.0.standing.few) in search rules
+    (here.count ∙ ap (λ vs. length (cut tab vs)) (sym c.values.ensures), pre.0.few_values l.i (omega arith), omega (arith, ap length c.values.ensures, values_short here pre.0.short), omega (arith, l.invariant.within, pre.0.standing.few, c.put-target.ensures.moved))
 
 pub loop-i-preserved : goal.loop-i-preserved
 loop-i-preserved c =
     let args = c.args in
     let l = c.loop-i in
-    (omega arith, stored (tab_target args.header.now args.a args.e.masks) 16386 0 args.out.now args.at l.i l.invariant.1 (tab_put args.header.now args.a args.e.masks l.i c.values.ensures c.put-target.ensures c.put_target-end.ensures))
+    stored (tab_target args.header.now args.a args.e.masks) 16386 0 args.out.now args.at l.i l.invariant (tab_put args.header.now args.a args.e.masks l.i c.values.ensures c.put-target.ensures c.put_target-end.ensures)
 
 pub returns : goal.returns
 returns c =
@@ -49,4 +40,4 @@ returns c =
     let l = c.loop-i in
     let few = c.requires.0.standing.few in
     let six : length args.e.masks ≡ 6 = search rules in
-    (all_targets args.header.now args.a args.e.masks (omega arith) (ended_all (tab_target args.header.now args.a args.e.masks) 16386 args.out.now args.at l.i l.invariant.1 args.a.len (omega (arith, l.invariant.0))), omega (arith, l.invariant.0, l.invariant.1.within, few))
+    (all_targets args.header.now args.a args.e.masks (omega arith) (ended_all (tab_target args.header.now args.a args.e.masks) 16386 args.out.now args.at l.i l.invariant args.a.len (omega arith)), omega (arith, l.invariant.within, few))

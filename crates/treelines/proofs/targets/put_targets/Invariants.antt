@@ -1,11 +1,7 @@
 -- `put_targets` meets its contract. The loop keeps the targets of the attributes before `i`, each with its tab.
-use Prim.Native.Nat.{◌-◌, ◌≤◌}
 use Rattle.printing.proofs.Walks.{Sofar}
 use Rattle.treelines.proofs.TargetTexts.{tab_target}
 use Rattle.treelines.proofs.targets.put_targets.Given as goal
 
 abbrev pub invariant-loop-i : goal.invariant-loop-i
-invariant-loop-i l = (l.i ≤ l.len) × Sofar (tab_target l.header l.a l.masks) 16386 0 l.initial.out l.at l.i l.out l.end
-
-abbrev pub decreases-loop-i : goal.decreases-loop-i
-decreases-loop-i l = l.len - l.i
+invariant-loop-i l = Sofar (tab_target l.header l.a l.masks) 16386 0 l.initial.out l.at l.i l.out l.end

@@ -1,5 +1,5 @@
 -- `none` meets its contract: both places of the blank element are unused.
-use Rattle.elements.proofs.none.Goals as goal
+use Rattle.elements.proofs.Elements.none.Goals as goal
 
 pub returns : goal.returns
 returns c = rw (c.unused-first.ensures, c.unused-second.ensures)
