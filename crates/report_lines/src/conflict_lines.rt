@@ -5,7 +5,7 @@ ghost use Rattle.printing.specs.Wrote.{Wrote};
 ghost use Rattle.report_lines.specs.Lines.{conflict_row, later_lines, pair_lines};
 
 use crate::fields;
-use table::Shape;
+use differences::PolicyFile;
 
 // A conflict of two children of a parent, and the request that shows it.
 #[derive(Clone, Copy)]
@@ -16,31 +16,30 @@ struct Conflict {
     request: usize,
 }
 
-fn put_conflict(file: &[u8], places: &[usize], c: Conflict, out: &mut [u8], at: usize) -> usize
-    requires { NameAt file.now places.now c.parent × NameAt file.now places.now c.earlier × NameAt file.now places.now c.later × (c.request < 4096) × (at ≤ 2000000000) }
-    ensures { Wrote out.old at (conflict_row file.now places.now c) out.new result × (result ≤ at + 500) }
+fn put_conflict(policy: &PolicyFile, c: Conflict, out: &mut [u8], at: usize) -> usize
+    requires { NameAt policy.now.file.now policy.now.places.now c.parent × NameAt policy.now.file.now policy.now.places.now c.earlier × NameAt policy.now.file.now policy.now.places.now c.later × (c.request < 4096) × (at ≤ 2000000000) }
+    ensures { Wrote out.old at (conflict_row policy.now.file.now policy.now.places.now c) out.new result × (result ≤ at + 500) }
 {
     let parent = printing::put_field(out, at, b"C", 9);
-    let earlier = fields::put_named(file, places, c.parent, 9, out, parent);
-    let later = fields::put_named(file, places, c.earlier, 9, out, earlier);
-    let request = fields::put_named(file, places, c.later, 9, out, later);
+    let earlier = fields::put_named(policy, c.parent, 9, out, parent);
+    let later = fields::put_named(policy, c.earlier, 9, out, earlier);
+    let request = fields::put_named(policy, c.later, 9, out, later);
     printing::put_number(out, request, c.request, 10)
 }
 
 // The lines of the conflicts of j with the later children of its parent.
 fn put_later(
-    file: &[u8],
-    places: &[usize],
-    shape: Shape,
+    policy: &PolicyFile,
     parents: &[usize; 64],
     pairs: &[u16; 4096],
     j: usize,
     out: &mut [u8],
     at: usize,
 ) -> usize
-    requires { Naming file.now places.now shape.n × (shape.space ≤ 4096) × (j < shape.n) × (get_or parents.now j 0 < shape.n) × (at ≤ 1500000000) }
-    ensures { Wrote out.old at (later_lines file.now places.now shape.n parents.now pairs.now shape.space (get_or parents.now j 0) j) out.new result × (result ≤ at + 32000) }
+    requires { Naming policy.now.file.now policy.now.places.now policy.now.shape.n × (policy.now.shape.space ≤ 4096) × (j < policy.now.shape.n) × (get_or parents.now j 0 < policy.now.shape.n) × (at ≤ 1500000000) }
+    ensures { Wrote out.old at (later_lines policy.now.file.now policy.now.places.now policy.now.shape.n parents.now pairs.now policy.now.shape.space (get_or parents.now j 0) j) out.new result × (result ≤ at + 32000) }
 {
+    let shape = policy.shape;
     let n = shape.n;
     let parent = parents[j];
     let mut end = at;
@@ -58,32 +57,30 @@ fn put_later(
             later: k,
             request,
         };
-        end = put_conflict(file, places, conflict, out, end);
+        end = put_conflict(policy, conflict, out, end);
     }
     end
 }
 
 // The lines of the conflicts of the children of i.
 pub(crate) fn put_pairs(
-    file: &[u8],
-    places: &[usize],
-    shape: Shape,
+    policy: &PolicyFile,
     parents: &[usize; 64],
     pairs: &[u16; 4096],
     i: usize,
     out: &mut [u8],
     at: usize,
 ) -> usize
-    requires { Naming file.now places.now shape.n × (shape.space ≤ 4096) × (i < shape.n) × (at ≤ 1400000000) }
-    ensures { Wrote out.old at (pair_lines file.now places.now shape.n parents.now pairs.now shape.space i) out.new result × (result ≤ at + 2048000) }
+    requires { Naming policy.now.file.now policy.now.places.now policy.now.shape.n × (policy.now.shape.space ≤ 4096) × (i < policy.now.shape.n) × (at ≤ 1400000000) }
+    ensures { Wrote out.old at (pair_lines policy.now.file.now policy.now.places.now policy.now.shape.n parents.now pairs.now policy.now.shape.space i) out.new result × (result ≤ at + 2048000) }
 {
-    let n = shape.n;
+    let n = policy.shape.n;
     let mut end = at;
     for j in 0..n {
         if parents[j] != i {
             continue;
         }
-        end = put_later(file, places, shape, parents, pairs, j, out, end);
+        end = put_later(policy, parents, pairs, j, out, end);
     }
     end
 }

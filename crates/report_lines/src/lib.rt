@@ -12,25 +12,23 @@ ghost use Rattle.printing.specs.Wrote.{Wrote};
 ghost use Rattle.report_lines.specs.Lines.{segment_text, conflict_text, struck_text, kept_text};
 ghost use Rattle.report_lines.specs.Ready.{Ordered};
 
+use differences::PolicyFile;
 use meaning::Decision;
 use segment_lines::Segment;
-use table::Shape;
 
 // The lines of all segments, `G`: a request with a size is the first of its segment.
 pub fn put_segments(
-    file: &[u8],
-    places: &[usize],
-    shape: Shape,
+    policy: &PolicyFile,
     words: &[u64; 4096],
     sizes: &[u16; 4096],
     decided: &[Decision; 4096],
     out: &mut [u8],
     at: usize,
 ) -> usize
-    requires { Naming file.now places.now shape.n × (shape.space ≤ 4096) × (at ≤ 1000000000) }
-    ensures { Wrote out.old at (segment_text file.now places.now shape.n words.now sizes.now decided.now shape.space) out.new result × (result ≤ at + 40960000) }
+    requires { Naming policy.now.file.now policy.now.places.now policy.now.shape.n × (policy.now.shape.space ≤ 4096) × (at ≤ 1000000000) }
+    ensures { Wrote out.old at (segment_text policy.now.file.now policy.now.places.now policy.now.shape.n words.now sizes.now decided.now policy.now.shape.space) out.new result × (result ≤ at + 40960000) }
 {
-    let space = shape.space;
+    let space = policy.shape.space;
     let mut end = at;
     for m in 0..space {
         let size = sizes[m];
@@ -43,67 +41,57 @@ pub fn put_segments(
             decision: decided[m],
             word: words[m],
         };
-        end = segment_lines::put_segment(file, places, shape.n, segment, out, end);
+        end = segment_lines::put_segment(policy, segment, out, end);
     }
     end
 }
 
 // The lines of all conflicts, `C`.
 pub fn put_conflicts(
-    file: &[u8],
-    places: &[usize],
-    shape: Shape,
+    policy: &PolicyFile,
     parents: &[usize; 64],
     pairs: &[u16; 4096],
     out: &mut [u8],
     at: usize,
 ) -> usize
-    requires { Naming file.now places.now shape.n × (shape.space ≤ 4096) × (at ≤ 1200000000) }
-    ensures { Wrote out.old at (conflict_text file.now places.now shape.n parents.now pairs.now shape.space) out.new result × (result ≤ at + 131072000) }
+    requires { Naming policy.now.file.now policy.now.places.now policy.now.shape.n × (policy.now.shape.space ≤ 4096) × (at ≤ 1200000000) }
+    ensures { Wrote out.old at (conflict_text policy.now.file.now policy.now.places.now policy.now.shape.n parents.now pairs.now policy.now.shape.space) out.new result × (result ≤ at + 131072000) }
 {
-    let n = shape.n;
+    let n = policy.shape.n;
     let mut end = at;
     for i in 0..n {
-        end = conflict_lines::put_pairs(file, places, shape, parents, pairs, i, out, end);
+        end = conflict_lines::put_pairs(policy, parents, pairs, i, out, end);
     }
     end
 }
 
 // The lines of the rules struck, `X`, in the order of their places.
 pub fn put_struck(
-    file: &[u8],
-    places: &[usize],
+    policy: &PolicyFile,
     order: &[u8; 64],
     count: usize,
     out: &mut [u8],
     at: usize,
 ) -> usize
-    requires { Ordered file.now places.now order.now count × (at ≤ 2000000000) }
-    ensures { Wrote out.old at (struck_text file.now places.now order.now count) out.new result × (result ≤ at + 32000) }
+    requires { Ordered policy.now.file.now policy.now.places.now order.now count × (at ≤ 2000000000) }
+    ensures { Wrote out.old at (struck_text policy.now.file.now policy.now.places.now order.now count) out.new result × (result ≤ at + 32000) }
 {
     let mut end = at;
     for k in 0..count {
-        end = rule_lines::put_struck_rule(file, places, order[k], out, end);
+        end = rule_lines::put_struck_rule(policy, order[k], out, end);
     }
     end
 }
 
 // The lines of the rules kept, `K`.
-pub fn put_kept(
-    file: &[u8],
-    places: &[usize],
-    shape: Shape,
-    shown: &[usize; 64],
-    out: &mut [u8],
-    at: usize,
-) -> usize
-    requires { Naming file.now places.now shape.n × (shape.space ≤ 4096) × (at ≤ 2100000000) }
-    ensures { Wrote out.old at (kept_text file.now places.now shape.n shown.now shape.space) out.new result × (result ≤ at + 32000) }
+pub fn put_kept(policy: &PolicyFile, shown: &[usize; 64], out: &mut [u8], at: usize) -> usize
+    requires { Naming policy.now.file.now policy.now.places.now policy.now.shape.n × (policy.now.shape.space ≤ 4096) × (at ≤ 2100000000) }
+    ensures { Wrote out.old at (kept_text policy.now.file.now policy.now.places.now policy.now.shape.n shown.now policy.now.shape.space) out.new result × (result ≤ at + 32000) }
 {
-    let n = shape.n;
+    let n = policy.shape.n;
     let mut end = at;
     for i in 0..n {
-        end = rule_lines::put_kept_rule(file, places, shown, shape.space, i, out, end);
+        end = rule_lines::put_kept_rule(policy, shown, i, out, end);
     }
     end
 }

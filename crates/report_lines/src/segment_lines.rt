@@ -5,6 +5,7 @@ ghost use Rattle.printing.specs.Wrote.{Wrote};
 ghost use Rattle.report_lines.specs.Lines.{segment_row};
 
 use crate::fields;
+use differences::PolicyFile;
 use meaning::Decision;
 
 // A segment: its first request, how many it has, their decision, and the word of the elements that apply to them.
@@ -16,20 +17,13 @@ pub(crate) struct Segment {
     pub word: u64,
 }
 
-pub(crate) fn put_segment(
-    file: &[u8],
-    places: &[usize],
-    n: usize,
-    segment: Segment,
-    out: &mut [u8],
-    at: usize,
-) -> usize
-    requires { Naming file.now places.now n × (segment.first < 4096) × (at ≤ 2000000000) }
-    ensures { Wrote out.old at (segment_row file.now places.now n segment) out.new result × (result ≤ at + 10000) }
+pub(crate) fn put_segment(policy: &PolicyFile, segment: Segment, out: &mut [u8], at: usize) -> usize
+    requires { Naming policy.now.file.now policy.now.places.now policy.now.shape.n × (segment.first < 4096) × (at ≤ 2000000000) }
+    ensures { Wrote out.old at (segment_row policy.now.file.now policy.now.places.now policy.now.shape.n segment) out.new result × (result ≤ at + 10000) }
 {
     let first = printing::put_field(out, at, b"G", 9);
     let many = printing::put_number(out, first, segment.first, 9);
     let decision = printing::put_number(out, many, segment.size as usize, 9);
     let names = printing::put_decision(out, decision, segment.decision, 9);
-    fields::put_names(file, places, n, segment.word, out, names)
+    fields::put_names(policy, segment.word, out, names)
 }

@@ -113,29 +113,30 @@ fn write_lines(
     let mut order = [0u8; 64];
     let mut shown = [0usize; 64];
     let obliged = obligations::any_obligations(places, shape.n);
+    let policy = PolicyFile {
+        file,
+        places,
+        table,
+        shape,
+    };
     let o = PolicyOutcomes {
-        policy: PolicyFile {
-            file,
-            places,
-            table,
-            shape,
-        },
+        policy,
         hits,
         outcomes,
         obliged,
     };
     let count = find_rules(&o, &mut order, &mut shown);
     let mut none = [0u8; 0];
-    let conflicts = put_segments(file, places, shape, &words, &sizes, &decided, &mut none, 0);
-    let struck = put_conflicts(file, places, shape, &parents, &pairs, &mut none, conflicts);
-    let kept = put_struck(file, places, &order, count, &mut none, struck);
-    let needed = put_kept(file, places, shape, &shown, &mut none, kept);
+    let conflicts = put_segments(&policy, &words, &sizes, &decided, &mut none, 0);
+    let struck = put_conflicts(&policy, &parents, &pairs, &mut none, conflicts);
+    let kept = put_struck(&policy, &order, count, &mut none, struck);
+    let needed = put_kept(&policy, &shown, &mut none, kept);
     let room = out.len();
     let lent = &mut out[..printing::lend(needed, room)];
-    put_segments(file, places, shape, &words, &sizes, &decided, lent, 0);
-    put_conflicts(file, places, shape, &parents, &pairs, lent, conflicts);
-    put_struck(file, places, &order, count, lent, struck);
-    put_kept(file, places, shape, &shown, lent, kept);
+    put_segments(&policy, &words, &sizes, &decided, lent, 0);
+    put_conflicts(&policy, &parents, &pairs, lent, conflicts);
+    put_struck(&policy, &order, count, lent, struck);
+    put_kept(&policy, &shown, lent, kept);
     printing::text_answer(needed, room)
 }
 

@@ -6,7 +6,7 @@ use Rattle.report_lines.proofs.put_conflicts.Goals as goal
 pub loop-i-init : goal.loop-i-init
 loop-i-init c =
     let args = c.args in
-    begun (pair_lines args.file.now args.places.now args.shape.n args.parents.now args.pairs.now args.shape.space) 2048000 0 args.out.now args.at
+    begun (pair_lines args.policy.now.file.now args.policy.now.places.now args.policy.now.shape.n args.parents.now args.pairs.now args.policy.now.shape.space) 2048000 0 args.out.now args.at
 
 pub put_pairs-end-requires : goal.put_pairs-end-requires
 put_pairs-end-requires c =
@@ -18,11 +18,11 @@ pub loop-i-preserved : goal.loop-i-preserved
 loop-i-preserved c =
     let args = c.args in
     let l = c.loop-i in
-    stored (pair_lines args.file.now args.places.now args.shape.n args.parents.now args.pairs.now args.shape.space) 2048000 0 args.out.now args.at l.i l.invariant c.put_pairs-end.ensures
+    stored (pair_lines args.policy.now.file.now args.policy.now.places.now args.policy.now.shape.n args.parents.now args.pairs.now args.policy.now.shape.space) 2048000 0 args.out.now args.at l.i l.invariant c.put_pairs-end.ensures
 
 pub returns : goal.returns
 unfolding conflict_text
 returns c =
     let args = c.args in
     let l = c.loop-i in
-    (ended_all (pair_lines args.file.now args.places.now args.shape.n args.parents.now args.pairs.now args.shape.space) 2048000 args.out.now args.at l.i l.invariant args.shape.n (omega arith), omega (arith, l.invariant, c.requires.0.few))
+    (ended_all (pair_lines args.policy.now.file.now args.policy.now.places.now args.policy.now.shape.n args.parents.now args.pairs.now args.policy.now.shape.space) 2048000 args.out.now args.at l.i l.invariant args.policy.now.shape.n (omega arith), omega (arith, l.invariant, c.requires.0.few))

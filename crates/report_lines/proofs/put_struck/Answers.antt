@@ -7,7 +7,7 @@ use Rattle.report_lines.proofs.put_struck.Goals as goal
 pub loop-k-init : goal.loop-k-init
 loop-k-init c =
     let args = c.args in
-    begun (λ k. struck_line args.file.now args.places.now (get_or args.order.now k 0)) 500 0 args.out.now args.at
+    begun (λ k. struck_line args.policy.now.file.now args.policy.now.places.now (get_or args.order.now k 0)) 500 0 args.out.now args.at
 
 pub put_struck_rule-end-requires : goal.put_struck_rule-end-requires
 put_struck_rule-end-requires c =
@@ -19,11 +19,11 @@ pub loop-k-preserved : goal.loop-k-preserved
 loop-k-preserved c =
     let args = c.args in
     let l = c.loop-k in
-    stored (λ k. struck_line args.file.now args.places.now (get_or args.order.now k 0)) 500 0 args.out.now args.at l.k l.invariant c.put_struck_rule-end.ensures
+    stored (λ k. struck_line args.policy.now.file.now args.policy.now.places.now (get_or args.order.now k 0)) 500 0 args.out.now args.at l.k l.invariant c.put_struck_rule-end.ensures
 
 pub returns : goal.returns
 unfolding struck_text
 returns c =
     let args = c.args in
     let l = c.loop-k in
-    (ended_all (λ k. struck_line args.file.now args.places.now (get_or args.order.now k 0)) 500 args.out.now args.at l.k l.invariant args.count (omega arith), omega (arith, l.invariant, c.requires.0.few))
+    (ended_all (λ k. struck_line args.policy.now.file.now args.policy.now.places.now (get_or args.order.now k 0)) 500 args.out.now args.at l.k l.invariant args.count (omega arith), omega (arith, l.invariant, c.requires.0.few))

@@ -10,19 +10,19 @@ use Rattle.report_lines.proofs.conflict_lines.put_later.Goals as goal
 pub loop-k-init : goal.loop-k-init
 loop-k-init c =
     let args = c.args in
-    begun (later_line args.file.now args.places.now args.shape.n args.parents.now args.pairs.now args.shape.space (get_or args.parents.now args.j 0) args.j) 500 (args.j + 1) args.out.now args.at
+    begun (later_line args.policy.now.file.now args.policy.now.places.now args.policy.now.shape.n args.parents.now args.pairs.now args.policy.now.shape.space (get_or args.parents.now args.j 0) args.j) 500 (args.j + 1) args.out.now args.at
 
 pub loop-k-preserved-then-parents-k : goal.loop-k-preserved-then-parents-k
 loop-k-preserved-then-parents-k c =
     let args = c.args in
     let l = c.loop-k in
-    passed_over (later_line args.file.now args.places.now args.shape.n args.parents.now args.pairs.now args.shape.space (get_or args.parents.now args.j 0) args.j) 500 (args.j + 1) args.out.now args.at l.k l.invariant (not_child args.file.now args.places.now args.shape.n args.parents.now args.pairs.now args.shape.space (get_or args.parents.now args.j 0) args.j l.k c.if-parents-k.true)
+    passed_over (later_line args.policy.now.file.now args.policy.now.places.now args.policy.now.shape.n args.parents.now args.pairs.now args.policy.now.shape.space (get_or args.parents.now args.j 0) args.j) 500 (args.j + 1) args.out.now args.at l.k l.invariant (not_child args.policy.now.file.now args.policy.now.places.now args.policy.now.shape.n args.parents.now args.pairs.now args.policy.now.shape.space (get_or args.parents.now args.j 0) args.j l.k c.if-parents-k.true)
 
 pub loop-k-preserved-then-shape-request : goal.loop-k-preserved-then-shape-request
 loop-k-preserved-then-shape-request c =
     let args = c.args in
     let l = c.loop-k in
-    passed_over (later_line args.file.now args.places.now args.shape.n args.parents.now args.pairs.now args.shape.space (get_or args.parents.now args.j 0) args.j) 500 (args.j + 1) args.out.now args.at l.k l.invariant (no_conflict args.file.now args.places.now args.shape.n args.parents.now args.pairs.now args.shape.space (get_or args.parents.now args.j 0) args.j l.k _ c.if-parents-k.false refl c.if-shape-request.true)
+    passed_over (later_line args.policy.now.file.now args.policy.now.places.now args.policy.now.shape.n args.parents.now args.pairs.now args.policy.now.shape.space (get_or args.parents.now args.j 0) args.j) 500 (args.j + 1) args.out.now args.at l.k l.invariant (no_conflict args.policy.now.file.now args.policy.now.places.now args.policy.now.shape.n args.parents.now args.pairs.now args.policy.now.shape.space (get_or args.parents.now args.j 0) args.j l.k _ c.if-parents-k.false refl c.if-shape-request.true)
 
 pub put_conflict-end-requires : goal.put_conflict-end-requires
 put_conflict-end-requires c =
@@ -34,11 +34,11 @@ pub loop-k-preserved : goal.loop-k-preserved
 loop-k-preserved c =
     let args = c.args in
     let l = c.loop-k in
-    let line = is_conflict args.file.now args.places.now args.shape.n args.parents.now args.pairs.now args.shape.space (get_or args.parents.now args.j 0) args.j l.k _ c.if-parents-k.false refl c.if-shape-request.false c.put_conflict-end.ensures in
-    stored (later_line args.file.now args.places.now args.shape.n args.parents.now args.pairs.now args.shape.space (get_or args.parents.now args.j 0) args.j) 500 (args.j + 1) args.out.now args.at l.k l.invariant line
+    let line = is_conflict args.policy.now.file.now args.policy.now.places.now args.policy.now.shape.n args.parents.now args.pairs.now args.policy.now.shape.space (get_or args.parents.now args.j 0) args.j l.k _ c.if-parents-k.false refl c.if-shape-request.false c.put_conflict-end.ensures in
+    stored (later_line args.policy.now.file.now args.policy.now.places.now args.policy.now.shape.n args.parents.now args.pairs.now args.policy.now.shape.space (get_or args.parents.now args.j 0) args.j) 500 (args.j + 1) args.out.now args.at l.k l.invariant line
 
 pub returns : goal.returns
 returns c =
     let args = c.args in
     let l = c.loop-k in
-    (all_pairs args.file.now args.places.now args.shape.n args.parents.now args.pairs.now args.shape.space (get_or args.parents.now args.j 0) args.j refl (ended (later_line args.file.now args.places.now args.shape.n args.parents.now args.pairs.now args.shape.space (get_or args.parents.now args.j 0) args.j) 500 (args.j + 1) args.out.now args.at l.k l.invariant args.shape.n (omega arith)), omega (arith, l.invariant, c.requires.0.few))
+    (all_pairs args.policy.now.file.now args.policy.now.places.now args.policy.now.shape.n args.parents.now args.pairs.now args.policy.now.shape.space (get_or args.parents.now args.j 0) args.j refl (ended (later_line args.policy.now.file.now args.policy.now.places.now args.policy.now.shape.n args.parents.now args.pairs.now args.policy.now.shape.space (get_or args.parents.now args.j 0) args.j) 500 (args.j + 1) args.out.now args.at l.k l.invariant args.policy.now.shape.n (omega arith)), omega (arith, l.invariant, c.requires.0.few))

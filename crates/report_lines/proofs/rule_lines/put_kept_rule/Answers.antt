@@ -5,12 +5,12 @@ use Rattle.report_lines.proofs.rule_lines.put_kept_rule.Goals as goal
 pub returns-then-space-m : goal.returns-then-space-m
 returns-then-space-m c =
     let args = c.args in
-    not_kept args.file.now args.places.now args.shown.now args.space args.i _ refl c.if-space-m.true
+    not_kept args.policy.now.file.now args.policy.now.places.now args.shown.now args.policy.now.shape.space args.i _ refl c.if-space-m.true
 
 pub returns : goal.returns
 returns c =
     let args = c.args in
-    kept args.file.now args.places.now args.shown.now args.space args.i _ refl
+    kept args.policy.now.file.now args.policy.now.places.now args.shown.now args.policy.now.shape.space args.i _ refl
     c.if-space-m.false
     c.requires.2
     c.put_field-name.ensures

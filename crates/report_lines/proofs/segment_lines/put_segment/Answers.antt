@@ -6,7 +6,7 @@ use Rattle.report_lines.proofs.segment_lines.put_segment.Goals as goal
 pub returns : goal.returns
 returns c =
     let args = c.args in
-    segment args.file.now args.places.now args.n args.segment _ refl c.requires.1 (search rules)
+    segment args.policy.now.file.now args.policy.now.places.now args.policy.now.shape.n args.segment _ refl c.requires.1 (search rules)
     c.put_field-first.ensures
     c.put_number-many.ensures
     c.put_number-decision.ensures
