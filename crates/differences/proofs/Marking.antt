@@ -4,10 +4,12 @@ use mathlib.Core.Path.{◌≡◌, refl, sym, ap, ap₂, ◌∙◌}
 use mathlib.Core.Bool.{Bool, true, false, not, cond, ◌&&◌}
 use mathlib.Core.List.{List, []}
 use native.Mathlib.Omega.{arith}
-use lib.Dec.{eqb, ltb}
+use lib.Dec.{eqb}
 use lib.Bits.{bit_and}
 use lib.ListN.{get_or}
-use borrow.Author.Tests.{eqb-true, eqb-false, ltb-true, ltb-false, not-false}
+use borrow.Author.Tests.{eqb-true, eqb-false, not-false}
+use Rattle.std.specs.Prelude.{Option, Some, None, unwrap_or}
+use Rattle.std.specs.Option.{option_or}
 use Rattle.meaning.specs.Text.{Bytes, counting, same}
 use Rattle.meaning.specs.Deciding.{bit, is}
 use Rattle.laws.proofs.Types.{Decision, Element}
@@ -24,13 +26,13 @@ use Rattle.chains.specs.Chain.{alike, chained, ChainLaid}
 use Rattle.chains.proofs.Chained.{chain_none}
 use Rattle.outcomes.specs.Decided.{decided_at, differs_at}
 use Rattle.outcomes.specs.PolicyTable.{PolicyTable}
-use Rattle.outcomes.specs.Changes.{InBlock}
+use Rattle.outcomes.specs.Changes.{InBlock, FirstInBlock}
 use Rattle.layout.specs.Places.{obligation_end, obligations_in}
 use Rattle.layout.proofs.Slots.{none_in}
 use Rattle.obligations.specs.Given.{spelling, own_text, given_text, effect, marks_in, any_obliged}
 use Rattle.obligations.proofs.Texts.{either_none, text_alike, text_chained, text_undecided, none_given}
 use Rattle.differences.specs.Apart.{apart, Compared, Suspects}
-use Rattle.differences.specs.Marks.{Marked, others_given, Among}
+use Rattle.differences.specs.Marks.{Marked, others_given, Among, FirstAmong}
 use Rattle.differences.proofs.Apart.{first_is, decided_apart}
 
 same_text : (x y : Bytes) → x ≡ y → not (same x y) ≡ false
@@ -143,43 +145,57 @@ module _ (f : Bytes) (places t before struck hits outcomes : List ℕ) (s : Shap
             same_text (text d before m) (text d struck m) (empty before ∙ sym (empty struck)) ∙ sym (same_text (text (effect p) before m) (text (effect p) struck m) agree)
 
     -- the first that gets another decision, or one before it that gets other obligations
-    pub first_of_both : (on word first r : ℕ) → Suspects f places t before struck s block on → Marked places s.n new newer word → InBlock differs s.space block first → Among others (bit_and on word) (64 * block) first r → InBlock parted s.space block r
-    first_of_both on word first r suspects marked decisions among =
-        record { within = omega (arith, among.within, decisions.within); found = λ l. found l (test (ltb r first)); none_earlier = none_earlier }
-      where
-        found : r < s.space → Test (ltb r first) → (parted r ≡ true) × (r < 64 * block + 64) × (64 * block ≤ r)
-        found l (passed x) =
-            let (v, small, is, passes) = among.found (ltb-true r first x) in
-            let place : r % 64 ≡ v = omega arith in
-            let unmoved = decisions.none_earlier r (omega arith) (omega arith) (ltb-true r first x) in
-            (by_words r l (omega arith) unmoved ∙ rw place passes, omega arith, omega arith)
-        found l (failed x) =
-            let same : first ≡ r = omega (arith, ltb-false r first x, among.within) in
-            let (other, high, low) = decisions.found (omega arith) in
-            (differs_apart r l (rw same at other), omega arith, omega arith)
+    module _ (on word : ℕ) (suspects : Suspects f places t before struck s block on) (marked : Marked places s.n new newer word) where
+      -- a request before all that get another decision or, of those asked for, other obligations
+      passed_both : (m : ℕ) → m < s.space → m / 64 ≡ block → differs m ≡ false → (bit (bit_and on word) (m % 64) ≡ true → others (m % 64) ≡ false) → parted m ≡ false
+      passed_both m below here unmoved among = go (test (bit on (m % 64))) (test (bit word (m % 64)))
+        where
+          tells : parted m ≡ others (m % 64)
+          tells = by_words m below here unmoved
 
-        none_earlier : (m : ℕ) → 64 * block ≤ m → m < 64 * block + 64 → m < r → parted m ≡ false
-        none_earlier m low high l = go (test (bit on (m % 64))) (test (bit word (m % 64)))
-          where
-            below : m < s.space
-            below = omega (arith, among.within, decisions.within)
+          go : Test (bit on (m % 64)) → Test (bit word (m % 64)) → parted m ≡ false
+          go (failed x) _ = suspects m below here x
+          go (passed x) (failed y) = tells ∙ none_other f places s.n new newer word (get_or outcomes block 0) (m % 64) marked y
+          go (passed x) (passed y) = tells ∙ among (bit_and_lem on word (m % 64) ∙ ap₂ ◌&&◌ x y)
 
-            here : m / 64 ≡ block
-            here = omega arith
+      -- one that gets other obligations
+      by_given : (bound r : ℕ) → bound ≤ s.space → ((m : ℕ) → 64 * block ≤ m → m < 64 * block + 64 → m < bound → differs m ≡ false) → FirstAmong others (bit_and on word) (64 * block) bound r → FirstInBlock parted s.space block r
+      by_given bound r within unmoved among =
+          let (v, small, at, passes) = among.found in
+          let place : r % 64 ≡ v = omega arith in
+          record {
+            within = omega (arith, among.within);
+            high = omega arith;
+            low = omega arith;
+            holds = by_words r (omega (arith, among.within)) (omega arith) (unmoved r (omega arith) (omega arith) among.within) ∙ rw place passes;
+            none_earlier = λ m low l.
+                passed_both m (omega (arith, among.within)) (omega arith) (unmoved m low (omega arith) (omega (arith, among.within))) (among.none_earlier (m % 64) (omega arith) (omega arith));
+          }
 
-            tells : parted m ≡ others (m % 64)
-            tells = by_words m below here (decisions.none_earlier m low high (omega (arith, among.within)))
-
-            go : Test (bit on (m % 64)) → Test (bit word (m % 64)) → parted m ≡ false
-            go (failed x) _ = suspects m below here x
-            go (passed x) (failed y) = tells ∙ none_other f places s.n new newer word (get_or outcomes block 0) (m % 64) marked y
-            go (passed x) (passed y) = tells ∙ among.none_earlier (m % 64) (omega arith) (omega arith) (bit_and_lem on word (m % 64) ∙ ap₂ ◌&&◌ x y)
+      pub first_of_both : (first r : Option ℕ) → InBlock differs s.space block first → Among others (bit_and on word) (64 * block) (unwrap_or first s.space) r → InBlock parted s.space block (option_or r first)
+      first_of_both None None decisions among =
+          λ m low high l. passed_both m l (omega arith) (decisions m low high l) (among (m % 64) (omega arith) (omega arith))
+      first_of_both None (Some r) decisions among = by_given s.space r (omega arith) decisions among
+      first_of_both (Some first) (Some r) decisions among =
+          by_given first r (omega (arith, decisions.within)) (λ m low high l. decisions.none_earlier m low l) among
+      first_of_both (Some first) None decisions among =
+          record {
+            within = decisions.within;
+            high = decisions.high;
+            low = decisions.low;
+            holds = differs_apart first decisions.within decisions.holds;
+            none_earlier = λ m low l.
+                passed_both m (omega (arith, decisions.within)) (omega (arith, decisions.high)) (decisions.none_earlier m low l) (among (m % 64) (omega arith) (omega arith));
+          }
 
   -- where no element has obligations, the first that gets another decision
-  pub first_decided : any_obliged places s.n ≡ false → (block first : ℕ) → InBlock differs s.space block first → InBlock parted s.space block first
-  first_decided none block first decisions =
+  pub first_decided : any_obliged places s.n ≡ false → (block : ℕ) (first : Option ℕ) → InBlock differs s.space block first → InBlock parted s.space block first
+  first_decided none block None decisions = λ m low high l. none_obliged none m l (decisions m low high l)
+  first_decided none block (Some first) decisions =
       record {
         within = decisions.within;
-        found = λ l. let (other, high, low) = decisions.found l in (differs_apart first l other, high, low);
-        none_earlier = λ m low high l. none_obliged none m (omega (arith, decisions.within)) (decisions.none_earlier m low high l);
+        high = decisions.high;
+        low = decisions.low;
+        holds = differs_apart first decisions.within decisions.holds;
+        none_earlier = λ m low l. none_obliged none m (omega (arith, decisions.within)) (decisions.none_earlier m low l);
       }

@@ -1,5 +1,5 @@
 -- Which requests have the same marks by two words for each element, and which get other obligations.
-use Rattle.std.specs.Prelude.{ℕ, ◌+◌, ◌≤◌, ◌<◌, ◌≡◌, Bool, true, false, not, List}
+use Rattle.std.specs.Prelude.{ℕ, ◌+◌, ◌<◌, ◌≡◌, Bool, true, false, not, List, Option, Some, None}
 use Rattle.meaning.specs.Text.{Bytes, same}
 use Rattle.meaning.specs.Deciding.{bit}
 use Rattle.layout.specs.Places.{obligation_end}
@@ -21,8 +21,13 @@ others_given f places n one other permits v =
     let d = effect (bit permits v) in
     not (same (given_text d (marks_in one v) f places n) (given_text d (marks_in other v) f places n))
 
--- r is the first of 64 places from `from` on, below `first`, that is among those asked for and passes the test; it is `first` if there is none
-pub record Among (test : ℕ → Bool) (on from first r : ℕ) : Type 0 where
-  pub within : r ≤ first
-  pub found : r < first → (v : ℕ) × (v < 64) × (r ≡ from + v) × (test v ≡ true)
+-- r is the first of 64 places from `from` on, below `bound`, that is among those asked for and passes the test
+pub record FirstAmong (test : ℕ → Bool) (on from bound r : ℕ) : Type 0 where
+  pub within : r < bound
+  pub found : (v : ℕ) × (v < 64) × (r ≡ from + v) × (test v ≡ true)
   pub none_earlier : (v : ℕ) → v < 64 → from + v < r → bit on v ≡ true → test v ≡ false
+
+-- the first such place, or none
+abbrev pub Among : (test : ℕ → Bool) (on from bound : ℕ) → Option ℕ → Type 0
+Among test on from bound None = (v : ℕ) → v < 64 → from + v < bound → bit on v ≡ true → test v ≡ false
+Among test on from bound (Some r) = FirstAmong test on from bound r

@@ -4,7 +4,7 @@
 ghost use Rattle.std.specs.Prelude.{◌≡◌, true, ℕ, ◌+◌, ◌*◌, ◌≤◌, ◌<◌, length};
 ghost use Rattle.meaning.specs.Text.{first_from};
 ghost use Rattle.meaning.specs.Deciding.{bit};
-ghost use Rattle.table.specs.Tree.{place_or};
+ghost use Rattle.laws.specs.Found.{found};
 ghost use Rattle.table.specs.Shape.{hit_of};
 ghost use Rattle.outcomes.specs.Decided.{differs_at};
 ghost use Rattle.outcomes.specs.Changes.{InBlock};
@@ -87,7 +87,7 @@ fn touched(struck: &[u8], hits: &[u64], n: usize, block: usize) -> u64
 }
 
 impl<'a> PolicyFile<'a> {
-    // The first request from `from` on, of 64 at most and below `first`, that is among those of `on` and gets other obligations by the one marks than by the other; `first` if there is none. The requests of `permits` are permitted, the others denied. Requests with the marks and the decision of one that was compared need no comparison.
+    // The first request from `from` on, of 64 at most and below `bound`, that is among those of `on` and gets other obligations by the one marks than by the other. The requests of `permits` are permitted, the others denied. Requests with the marks and the decision of one that was compared need no comparison.
     fn first_given(
         &self,
         one: &[u64],
@@ -95,10 +95,10 @@ impl<'a> PolicyFile<'a> {
         permits: u64,
         on: u64,
         from: usize,
-        first: usize,
-    ) -> usize
+        bound: usize,
+    ) -> Option<usize>
         requires { let p = self.now in Giving p.file.now p.places.now one.now p.shape.n 0 × (p.shape.n ≤ length other.now) × (from < 4096) }
-        ensures { let p = self.now in Among (others_given p.file.now p.places.now p.shape.n one.now other.now permits) on from first result }
+        ensures { let p = self.now in Among (others_given p.file.now p.places.now p.shape.n one.now other.now permits) on from bound result }
     {
         let n = self.shape.n;
         let ones = Marks {
@@ -115,34 +115,34 @@ impl<'a> PolicyFile<'a> {
         };
         let mut left = on;
         for v in 0..64 {
-            if first <= from + v {
-                return first;
+            if bound <= from + v {
+                return None;
             }
             if (left >> v) % 2 != 1 {
                 continue;
             }
             let permit = (permits >> v) % 2 == 1;
             if !ones.same(&others, v, permit) {
-                return from + v;
+                return Some(from + v);
             }
             let decided = like_bit(permits, v, left);
             let like = like_marks(other, n, v, like_marks(one, n, v, decided));
             left = blocks::without(left, like);
         }
-        first
+        None
     }
 }
 
 impl<'a> PolicyOutcomes<'a> {
-    // The first request of the block that gets another decision under `struck` than under `before`, or other obligations; the number of requests if there is none. `first` is the first that gets another decision, and outside `on` no request gets anything else.
+    // The first request of the block that gets another decision under `struck` than under `before`, or other obligations. `first` is the first that gets another decision, and outside `on` no request gets anything else.
     fn obligation_difference(
         &self,
         before: &[u8],
         struck: &[u8],
         block: usize,
         on: u64,
-        first: usize,
-    ) -> usize
+        first: Option<usize>,
+    ) -> Option<usize>
         requires { let p = self.now.policy in Compared p.file.now p.places.now p.table.now before.now struck.now self.now.hits.now self.now.outcomes.now p.shape × (64 * block < p.shape.space) × Suspects p.file.now p.places.now p.table.now before.now struck.now p.shape block on × InBlock (differs_at p.table.now p.shape.n (hit_of p.shape) self.now.outcomes.now struck.now) p.shape.space block first }
         ensures { let p = self.now.policy in InBlock (apart p.file.now p.places.now p.table.now p.shape.n (hit_of p.shape) before.now struck.now) p.shape.space block result }
     {
@@ -167,18 +167,26 @@ impl<'a> PolicyOutcomes<'a> {
         chains::ask_all(&with, &mut one);
         chains::ask_all(&without, &mut other);
         let suspect = on & unlike(policy.places, n, &one, &other);
-        policy.first_given(
+        let bound = first.unwrap_or(policy.shape.space);
+        let given = policy.first_given(
             &one,
             &other,
             self.outcomes[block],
             suspect,
             64 * block,
-            first,
-        )
+            bound,
+        );
+        given.or(first)
     }
 
     // The same, where the first that gets another decision is to be found; the outcomes are those under `before`.
-    pub fn difference_in(&self, before: &[u8], struck: &[u8], block: usize, on: u64) -> usize
+    pub fn difference_in(
+        &self,
+        before: &[u8],
+        struck: &[u8],
+        block: usize,
+        on: u64,
+    ) -> Option<usize>
         requires { let p = self.now.policy in Compared p.file.now p.places.now p.table.now before.now struck.now self.now.hits.now self.now.outcomes.now p.shape × (64 * block < p.shape.space) × Suspects p.file.now p.places.now p.table.now before.now struck.now p.shape block on }
         ensures { let p = self.now.policy in InBlock (apart p.file.now p.places.now p.table.now p.shape.n (hit_of p.shape) before.now struck.now) p.shape.space block result }
     {
@@ -197,10 +205,10 @@ impl<'a> PolicyOutcomes<'a> {
         self.obligation_difference(before, struck, block, on, first)
     }
 
-    // The first request of all that gets another decision under `struck` than under `before`, or other obligations, or the number of requests; the outcomes are those under `before`. Only requests that match an element struck can.
-    pub fn first_difference(&self, before: &[u8], struck: &[u8]) -> usize
+    // The first request of all that gets another decision under `struck` than under `before`, or other obligations; the outcomes are those under `before`. Only requests that match an element struck can.
+    pub fn first_difference(&self, before: &[u8], struck: &[u8]) -> Option<usize>
         requires { let p = self.now.policy in Compared p.file.now p.places.now p.table.now before.now struck.now self.now.hits.now self.now.outcomes.now p.shape × Untouched p.file.now p.places.now p.table.now before.now struck.now p.shape }
-        ensures { let p = self.now.policy in result ≡ place_or p.shape.space (first_from (apart p.file.now p.places.now p.table.now p.shape.n (hit_of p.shape) before.now struck.now) 0 p.shape.space) }
+        ensures { let p = self.now.policy in result ≡ found (first_from (apart p.file.now p.places.now p.table.now p.shape.n (hit_of p.shape) before.now struck.now) 0 p.shape.space) }
     {
         let shape = self.policy.shape;
         for block in 0..(shape.space + 63) / 64 {
@@ -208,11 +216,10 @@ impl<'a> PolicyOutcomes<'a> {
             if on == 0 {
                 continue;
             }
-            let first = self.difference_in(before, struck, block, on);
-            if first < shape.space {
-                return first;
+            if let Some(first) = self.difference_in(before, struck, block, on) {
+                return Some(first);
             }
         }
-        shape.space
+        None
     }
 }

@@ -3,6 +3,7 @@ use Prim.Native.Nat.{ℕ, ◌+◌, ◌*◌, ◌/◌, ◌%◌, ◌≤◌, ◌<◌
 use mathlib.Core.Path.{◌≡◌, sym, ap, ◌∙◌}
 use mathlib.Core.Bool.{Bool, true, false, not, cond}
 use mathlib.Core.List.{List}
+use Rattle.std.specs.Prelude.{Option, Some, None}
 use native.Mathlib.Nat.{sub-zero}
 use native.Mathlib.Omega.{arith}
 use lib.Dec.{leb}
@@ -85,23 +86,23 @@ module _ (t struck hits : List ℕ) (s : Shape) (ready : PolicyTable t struck s)
           go (passed same) = absurd (other (given_at m l e ∙ sym (same_decision _ _ same) ∙ outcome_there m e))
           go (failed differ) = ap not differ
 
-      pub block_alike : r.given.permits ≡ get_or outcomes block 0 → r.given.denies ≡ get_or outcomes (64 + block) 0 → InBlock (differs_at t s.n (hit_of s) outcomes struck) s.space block s.space
-      block_alike permits denies =
-          record {
-            within = omega arith;
-            found = λ l. absurd (omega arith);
-            none_earlier = λ m low high l. same_bits m l (omega arith) (rw (permits, denies));
-          }
+      pub block_alike : r.given.permits ≡ get_or outcomes block 0 → r.given.denies ≡ get_or outcomes (64 + block) 0 → InBlock (differs_at t s.n (hit_of s) outcomes struck) s.space block None
+      block_alike permits denies = λ m low high l. same_bits m l (omega arith) (rw (permits, denies))
 
-      pub block_other : (first : ℕ) → Other r.given (block_outcomes outcomes block) (64 * block) s.space first → InBlock (differs_at t s.n (hit_of s) outcomes struck) s.space block first
-      block_other first other =
+      pub block_other : (first : Option ℕ) → Other r.given (block_outcomes outcomes block) (64 * block) s.space first → InBlock (differs_at t s.n (hit_of s) outcomes struck) s.space block first
+      block_other None same =
+          λ m low high l.
+          let here : 64 * block + m % 64 ≡ m = omega arith in
+          same_bits m l (omega arith) (same (m % 64) (omega arith) (omega arith))
+      block_other (Some first) other =
+          let (v, below, at, differ) = other.found in
+          let place : first % 64 ≡ v = omega arith in
           record {
             within = other.within;
-            found = λ l.
-                let (v, below, at, differ) = other.found l in
-                let place : first % 64 ≡ v = omega arith in
-                (other_bits first l (omega arith) (rw place differ), omega arith, omega arith);
-            none_earlier = λ m low high l.
+            high = omega arith;
+            low = omega arith;
+            holds = other_bits first other.within (omega arith) (rw place differ);
+            none_earlier = λ m low l.
                 let here : 64 * block + m % 64 ≡ m = omega arith in
                 same_bits m (omega (arith, other.within)) (omega arith) (other.none_earlier (m % 64) (omega arith) (omega arith));
           }

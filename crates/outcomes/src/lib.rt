@@ -73,23 +73,23 @@ pub fn decide_requests(table: &[u16], shape: Shape, decided: &mut [Decision])
     tell_all(&outcomes, shape.space, decided);
 }
 
-// The first request from `from` on, of 64 at most, whose bits in the two tell another decision, or the number of requests.
-fn first_other(given: Effects, before: Effects, from: usize, space: usize) -> usize
+// The first request from `from` on, of 64 at most, whose bits in the two tell another decision.
+fn first_other(given: Effects, before: Effects, from: usize, space: usize) -> Option<usize>
     requires { from < space × (space ≤ 4096) }
     ensures { Other given before from space result }
 {
     for v in 0..64 {
         if space <= from + v {
-            return space;
+            return None;
         }
         if blocks::decision_of(given, v) != blocks::decision_of(before, v) {
-            return from + v;
+            return Some(from + v);
         }
     }
-    space
+    None
 }
 
-// The first request of the block that gets another decision than the one laid down, or the number of requests.
+// The first request of the block that gets another decision than the one laid down.
 pub fn change_in(
     table: &[u16],
     struck: &[u8],
@@ -97,11 +97,10 @@ pub fn change_in(
     shape: Shape,
     outcomes: &[u64],
     block: usize,
-) -> usize
+) -> Option<usize>
     requires { PolicyTable table.now struck.now shape × HitsLaid table.now hits.now shape × (128 ≤ length outcomes.now) × (64 * block < shape.space) }
     ensures { InBlock (differs_at table.now shape.n (hit_of shape) outcomes.now struck.now) shape.space block result }
 {
-    let space = shape.space;
     let b = Block {
         table,
         struck,
@@ -116,8 +115,8 @@ pub fn change_in(
     };
     if given.permits == before.permits {
         if given.denies == before.denies {
-            return space;
+            return None;
         }
     }
-    first_other(given, before, 64 * block, space)
+    first_other(given, before, 64 * block, shape.space)
 }

@@ -5,6 +5,7 @@ use mathlib.Core.Bool.{not}
 use mathlib.Core.List.{List}
 use native.Mathlib.Omega.{arith}
 use lib.ListN.{length, length-set}
+use Rattle.std.specs.Prelude.{Option}
 use Rattle.meaning.specs.Text.{Bytes}
 use Rattle.meaning.specs.Deciding.{Outcome, same_outcome}
 use Rattle.table.specs.declared.Shape.{Shape}
@@ -68,5 +69,5 @@ module _ (f : Bytes) (places t struck hits outcomes : List ℕ) (s : Shape) (rul
   pub suspects_copied : (block on : ℕ) → Suspects f places t (kept struck rule) struck s block on → Suspects f places t before struck s block on
   suspects_copied block on suspects m l e off = ap (λ test. test m) apart_alike ∙ suspects m l e off
 
-  pub found_copied : (block r : ℕ) → InBlock (apart f places t s.n (hit_of s) before struck) s.space block r → InBlock (apart_at f places t s.n (hit_of s) struck rule) s.space block r
+  pub found_copied : (block : ℕ) (r : Option ℕ) → InBlock (apart f places t s.n (hit_of s) before struck) s.space block r → InBlock (apart_at f places t s.n (hit_of s) struck rule) s.space block r
   found_copied block r = subst (λ test. InBlock test s.space block r) apart_alike

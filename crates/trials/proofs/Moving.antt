@@ -7,6 +7,7 @@ use native.Mathlib.Omega.{arith}
 use lib.Dec.{ltb}
 use lib.ListN.{get_or}
 use borrow.Author.Tests.{ltb-true, ltb-false}
+use Rattle.std.specs.Prelude.{None}
 use Rattle.meaning.specs.Text.{Bytes}
 use Rattle.meaning.specs.Deciding.{bit, is, same_outcome}
 use Rattle.laws.proofs.Bits.{bit_zero}
@@ -18,7 +19,7 @@ use Rattle.table.specs.Shape.{hit_of}
 use Rattle.decisions.specs.Replies.{reply_at}
 use Rattle.blocks.specs.Bits.{Fits, Lowest}
 use Rattle.moves.specs.Moved.{kept, moved_at, Under, Child}
-use Rattle.outcomes.specs.Changes.{InBlock}
+use Rattle.outcomes.specs.Changes.{InBlock, FirstInBlock}
 use Rattle.obligations.specs.Given.{outcome_left}
 use Rattle.differences.specs.Apart.{apart, Suspects}
 use Rattle.differences.proofs.Apart.{first_is, decided_apart}
@@ -72,13 +73,8 @@ module _ (f : Bytes) (places t struck hits outcomes : List ℕ) (s : Shape) (rul
             trial.steady.unmoved struck rule up trial.aside (grouped.under inside) m l (sym (moved_bit inside m l e) ∙ off)
         go (failed x) = trial.steady.unmatched struck rule trial.aside m l (sym (matched_bit (ltb-false up s.n x) m l e) ∙ off)
 
-    pub none_moved : w ≡ 0 → InBlock parted s.space block s.space
-    none_moved none =
-        record {
-          within = omega arith;
-          found = λ l. absurd (omega arith);
-          none_earlier = λ m low high l. suspects m l (omega arith) (ap (λ x. bit x (m % 64)) none ∙ bit_zero (m % 64));
-        }
+    pub none_moved : w ≡ 0 → InBlock parted s.space block None
+    none_moved none = λ m low high l. suspects m l (omega arith) (ap (λ x. bit x (m % 64)) none ∙ bit_zero (m % 64))
 
     -- the first element decides otherwise where the rule moves it
     moved_apart : up ≡ 0 → (m : ℕ) → m < s.space → moved_at (hit_of s m) t struck s.n up rule ≡ true → parted m ≡ true
@@ -92,12 +88,14 @@ module _ (f : Bytes) (places t struck hits outcomes : List ℕ) (s : Shape) (rul
     unfolding moved_at reply_at
     bit_none inside m past e = reached.moves inside (m % 64) (λ x. false) (λ i below. rw e at (trial.matched.clear i m below past (omega arith)))
 
-    pub first_moved : up ≡ 0 → (v : ℕ) → Lowest w v → InBlock parted s.space block (64 * block + v)
+    pub first_moved : up ≡ 0 → (v : ℕ) → Lowest w v → FirstInBlock parted s.space block (64 * block + v)
     first_moved first v lowest =
         record {
-          within = omega (arith, below);
-          found = λ l. (moved_apart first (64 * block + v) l (sym (moved_bit inside (64 * block + v) l (omega (arith, lowest.small))) ∙ rw place lowest.set), omega (arith, lowest.small), omega arith);
-          none_earlier = λ m low high l. suspects m (omega (arith, below)) (omega arith) (lowest.none_below (m % 64) (omega arith));
+          within = below;
+          high = omega (arith, lowest.small);
+          low = omega arith;
+          holds = moved_apart first (64 * block + v) below (sym (moved_bit inside (64 * block + v) below (omega (arith, lowest.small))) ∙ rw place lowest.set);
+          none_earlier = λ m low l. suspects m (omega (arith, below)) (omega (arith, lowest.small)) (lowest.none_below (m % 64) (omega (arith, lowest.small)));
         }
       where
         inside : up < s.n

@@ -9,9 +9,12 @@ use lib.Dec.{eqb, ltb}
 use lib.ListN.{length, get_or, set, length-set}
 use lib.Seq.{get_or-set_same, get_or-set_other, set-set, set-get_or}
 use borrow.Author.Tests.{eqb-true, ltb-true}
+use Rattle.std.specs.Prelude.{Option as Found, Some, None, unwrap_or}
 use Rattle.meaning.specs.Text.{Bytes, is_none, first_from}
 use Rattle.meaning.specs.Deciding.{same_outcome}
 use Rattle.laws.proofs.Bools.{contradiction, and_true}
+use Rattle.laws.specs.Found.{found}
+use Rattle.laws.proofs.Found.{found_some, found_none}
 use Rattle.laws.proofs.Search.{first_some, first_none}
 use Rattle.table.specs.Rows.{word_number}
 use Rattle.table.specs.Tree.{place_or, rule_left}
@@ -25,27 +28,17 @@ use Rattle.differences.specs.Apart.{apart}
 use Rattle.differences.proofs.Apart as differences
 use Rattle.trials.specs.Decided.{changes_at, apart_at, first_change_at, shown_at, needless_at}
 use Rattle.trials.specs.Steady.{Aside, Steady}
-use Rattle.trials.specs.Trial.{Laid, Trial}
+use Rattle.trials.specs.declared.Tried.TheVariants.{Needed}
+use Rattle.trials.specs.Trial.{Laid, Trial, Tries, Tells}
 
--- Whether a search finds nothing, by the place that it gives
-module _ (p : ℕ → Bool) (size r : ℕ) where
-  pub none_found : r ≡ place_or size (first_from p 0 size) → r ≡ size → is_none (first_from p 0 size) ≡ true
-  none_found found end = go (first_from p 0 size) refl
-    where
-      go : (o : Option ℕ) → first_from p 0 size ≡ o → is_none (first_from p 0 size) ≡ true
-      go none e = ap is_none e
-      go (some m) e = let at : r ≡ m = found ∙ ap (place_or size) e in let no : ⊥ = omega (arith, (first_some p 0 size m e).high) in absurd no
+-- Whether a search finds nothing, by the number that it gives, or by any that passes
+module _ (p : ℕ → Bool) (size : ℕ) where
+  pub tries_first : (o : Found ℕ) → o ≡ found (first_from p 0 size) → Tries p size o
+  tries_first None e = found_none (first_from p 0 size) (sym e)
+  tries_first (Some m) e = let first = first_some p 0 size m (found_some (first_from p 0 size) (sym e)) in (omega (arith, first.high), first.holds)
 
-  pub one_found : r ≡ place_or size (first_from p 0 size) → (r ≡ size → ⊥) → (is_none (first_from p 0 size) ≡ false) × (r < size) × (p r ≡ true)
-  one_found found inside = go (first_from p 0 size) refl
-    where
-      go : (o : Option ℕ) → first_from p 0 size ≡ o → (is_none (first_from p 0 size) ≡ false) × (r < size) × (p r ≡ true)
-      go none e = absurd (inside (found ∙ ap (place_or size) e))
-      go (some m) e = let at : r ≡ m = found ∙ ap (place_or size) e in let first = first_some p 0 size m e in (ap is_none e, omega (arith, first.high), ap p at ∙ first.holds)
-
-  -- and by a number that passes
-  pub one_shown : r < size → p r ≡ true → is_none (first_from p 0 size) ≡ false
-  one_shown l passes = go (first_from p 0 size) refl
+  pub one_shown : (r : ℕ) → r < size → p r ≡ true → is_none (first_from p 0 size) ≡ false
+  one_shown r l passes = go (first_from p 0 size) refl
     where
       go : (o : Option ℕ) → first_from p 0 size ≡ o → is_none (first_from p 0 size) ≡ false
       go none e = contradiction passes (first_none p 0 size e r zero-le (omega arith))
@@ -90,12 +83,17 @@ module _ (f : Bytes) (places t struck : List ℕ) (s : Shape) (i : ℕ) (live : 
   unfolding first_change_at
   first_changes = first_alike _ _ 0 s.space (λ m low high. apart_changes m)
 
-  pub first_change_is : (r : ℕ) → r ≡ place_or s.space (first_from parted 0 s.space) → r ≡ place_or s.space (first_change_at f places t s.n (hit_of s) s.space struck i)
-  first_change_is r e = e ∙ ap (place_or s.space) first_changes
+  pub first_change_is : (o : Found ℕ) → o ≡ found (first_from parted 0 s.space) → o ≡ found (first_change_at f places t s.n (hit_of s) s.space struck i)
+  first_change_is o e = e ∙ ap found first_changes
 
-  pub needless_rule : (b : Bool) → rule_left t struck i ≡ true → b ≡ is_none (first_from parted 0 s.space) → b ≡ needless_at f places t s.n (hit_of s) s.space struck i
+  -- what a request that changes, or none, tells of a rule
+  pub rule_needless : rule_left t struck i ≡ true → first_from parted 0 s.space ≡ none → needless_at f places t s.n (hit_of s) s.space struck i ≡ true
   unfolding needless_at
-  needless_rule b rule e = rw rule (e ∙ ap is_none first_changes)
+  rule_needless rule e = rw rule (ap is_none (sym first_changes ∙ e))
+
+  pub rule_needed : rule_left t struck i ≡ true → (m : ℕ) → m < s.space → parted m ≡ true → Tells f places t struck s i (Needed m)
+  unfolding needless_at
+  rule_needed rule m l e = (rw rule (sym (ap is_none first_changes) ∙ one_shown parted s.space m l e), l, sym (apart_changes m) ∙ e)
 
 -- A rule that is left has the flag 0, and the word of an effect
 module _ (t struck : List ℕ) (i : ℕ) (rule : rule_left t struck i ≡ true) where
@@ -128,13 +126,17 @@ module _ (t struck : List ℕ) (i : ℕ) (rule : rule_left t struck i ≡ true) 
 
 -- An element that is no rule left, and the request shown for each
 module _ (f : Bytes) (places t struck : List ℕ) (s : Shape) (i : ℕ) where
-  pub needless_other : rule_left t struck i ≡ false → false ≡ needless_at f places t s.n (hit_of s) s.space struck i
+  pub needless_other : rule_left t struck i ≡ false → needless_at f places t s.n (hit_of s) s.space struck i ≡ false
   unfolding needless_at
   needless_other other = rw other
 
-  pub shown_rule : (r : ℕ) → rule_left t struck i ≡ true → r ≡ place_or s.space (first_change_at f places t s.n (hit_of s) s.space struck i) → r ≡ shown_at f places t s.n (hit_of s) s.space struck i
+  pub shown_rule : (o : Found ℕ) → rule_left t struck i ≡ true → o ≡ found (first_change_at f places t s.n (hit_of s) s.space struck i) → unwrap_or o s.space ≡ shown_at f places t s.n (hit_of s) s.space struck i
   unfolding shown_at
-  shown_rule r rule e = rw rule e
+  shown_rule o rule e = rw (rule, e) (go (first_change_at f places t s.n (hit_of s) s.space struck i))
+    where
+      go : (x : Option ℕ) → unwrap_or (found x) s.space ≡ place_or s.space x
+      go none = refl
+      go (some m) = refl
 
   pub shown_other : rule_left t struck i ≡ false → s.space ≡ shown_at f places t s.n (hit_of s) s.space struck i
   unfolding shown_at
@@ -143,9 +145,6 @@ module _ (f : Bytes) (places t struck : List ℕ) (s : Shape) (i : ℕ) where
 -- Flags that are those of the start
 pub asks : {f : Bytes} {places t first struck hits outcomes : List ℕ} {s : Shape} → struck ≡ first → Laid f places t first hits outcomes s → Laid f places t struck hits outcomes s
 asks same laid = rw same laid
-
-pub tested : (f : Bytes) (places t : List ℕ) (s : Shape) {first struck : List ℕ} (i : ℕ) {b answer : Bool} → struck ≡ first → b ≡ needless_at f places t s.n (hit_of s) s.space struck i → b ≡ answer → needless_at f places t s.n (hit_of s) s.space first i ≡ answer
-tested f places t s i same is answered = ap (λ flags. needless_at f places t s.n (hit_of s) s.space flags i) (sym same) ∙ sym is ∙ answered
 
 -- The places have room for the obligations of all elements
 pub obligation_room : {f : Bytes} {places t struck : List ℕ} {s : Shape} → Steady f places t s → PolicyTable t struck s → 128 + 4 * s.n ≤ length places

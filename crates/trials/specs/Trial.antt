@@ -1,14 +1,19 @@
 -- What is asked where a rule is tried.
-use Rattle.std.specs.Prelude.{ℕ, ◌+◌, ◌*◌, ◌≤◌, ◌<◌, ◌≡◌, Bool, true, false, List, get_or}
-use Rattle.meaning.specs.Text.{Bytes, is_none, first_from}
+use Rattle.std.specs.Prelude.{ℕ, ◌+◌, ◌*◌, ◌≤◌, ◌<◌, ◌≡◌, Bool, true, false, List, get_or, Option, Some, None}
+use Rattle.std.proofs.Math.Option.{none}
+use Rattle.meaning.specs.Text.{Bytes, first_from}
 use Rattle.meaning.specs.declared.Element.{Element}
 use Rattle.meaning.specs.Deciding.{bit}
 use Rattle.table.specs.declared.Shape.{Shape}
+use Rattle.table.specs.Shape.{hit_of}
+use Rattle.table.specs.Tree.{rule_left}
 use Rattle.matching.specs.Hits.{HitsLaid}
 use Rattle.blocks.specs.Bits.{Answers}
 use Rattle.moves.specs.Moved.{kept, moved_at, Under}
 use Rattle.outcomes.specs.PolicyTable.{PolicyTable, OutcomesLaid}
 use Rattle.trials.specs.declared.Tried.{Tried}
+use Rattle.trials.specs.declared.Tried.TheVariants.{Other, Needless, Needed}
+use Rattle.trials.specs.Decided.{changes_at, needless_at}
 use Rattle.trials.specs.Steady.{Aside, Steady}
 
 -- element `up`, unless it is n, has the rule as a child and looks at its children's decisions alone
@@ -35,11 +40,17 @@ pub record Reached (t struck hits : List ℕ) (n block up rule word : ℕ) : Typ
   pub moves : up < n → (v : ℕ) (hit : Element → Bool) → Answers t hits n block v hit → bit word v ≡ moved_at hit t struck n up rule
   pub matches : n ≤ up → word ≡ get_or hits (64 * rule + block) 0
 
--- no request passes the test, or the one shown does
-pub record Tries (test : ℕ → Bool) (space : ℕ) (r : Tried) : Type 0 where
-  pub needless_is : r.needless ≡ is_none (first_from test 0 space)
-  pub within : r.shown < space
-  pub shows : r.needless ≡ false → test r.shown ≡ true
+-- a request that passes the test, if one does
+abbrev pub Tries : (test : ℕ → Bool) → ℕ → Option ℕ → Type 0
+Tries test space None = first_from test 0 space ≡ none
+Tries test space (Some m) = (m < space) × (test m ≡ true)
+
+-- what trying element i tells: no rule that is left, a needless one, or one that request m shows needed
+abbrev pub Tells : Bytes → (places t struck : List ℕ) → Shape → (i : ℕ) → Tried → Type 0
+Tells f places t struck s i Other = rule_left t struck i ≡ false
+Tells f places t struck s i Needless = needless_at f places t s.n (hit_of s) s.space struck i ≡ true
+Tells f places t struck s i (Needed m) =
+    (needless_at f places t s.n (hit_of s) s.space struck i ≡ false) × (m < s.space) × (changes_at f places t s.n (hit_of s) struck i m ≡ true)
 
 -- the same n flags
 abbrev pub Copied : List ℕ → ℕ → List ℕ → Type 0

@@ -6,21 +6,23 @@ mod trial;
 ghost use Rattle.std.specs.Prelude.{◌≡◌, true, false, ◌++◌, map, ◌≤◌, ◌<◌, length, drop};
 ghost use Rattle.meaning.specs.Text.{counting, first_from};
 ghost use Rattle.table.specs.Rows.{Rows};
-ghost use Rattle.table.specs.Tree.{place_or, rule_left};
+ghost use Rattle.laws.specs.Found.{found};
+ghost use Rattle.table.specs.Tree.{rule_left};
 ghost use Rattle.table.specs.Shape.{hit_of};
 ghost use Rattle.outcomes.specs.PolicyTable.{PolicyTable};
-ghost use Rattle.trials.specs.Decided.{changes_at, apart_at, first_change_at, shown_at, needless_at};
+ghost use Rattle.trials.specs.Decided.{apart_at, first_change_at, shown_at, needless_at};
 ghost use Rattle.trials.specs.Steady.{Steady};
-ghost use Rattle.trials.specs.Trial.{Grouped, Laid, Trial, Tries};
+ghost use Rattle.trials.specs.Trial.{Grouped, Laid, Trial, Tries, Tells};
 
 use differences::{PolicyFile, PolicyOutcomes};
 use meaning::Word;
 
-// Whether a rule is needless, and a request to try first the next time.
+// What trying an element tells: it is no rule that is left, a needless rule, or one that a request needs.
 #[derive(Clone, Copy)]
-pub struct Tried {
-    pub needless: bool,
-    pub shown: usize,
+pub enum Tried {
+    Other,
+    Needless,
+    Needed(usize),
 }
 
 // The element whose child a rule is, if it looks at its children's decisions alone; n for any other rule.
@@ -38,70 +40,52 @@ fn group_over(table: &[u16], n: usize, rule: usize) -> usize
     }
 }
 
-// The first request that gets another decision than the one laid down, or other obligations, or the number of requests. Only requests that match the rule can.
-fn first_change(o: &PolicyOutcomes, struck: &[u8], up: usize, rule: usize) -> usize
+// The first request that gets another decision than the one laid down, or other obligations. Only requests that match the rule can.
+fn first_change(o: &PolicyOutcomes, struck: &[u8], up: usize, rule: usize) -> Option<usize>
     requires { let p = o.now.policy in Trial p.file.now p.places.now p.table.now struck.now o.now.hits.now o.now.outcomes.now p.shape rule × Grouped p.table.now p.shape.n rule up }
-    ensures { let p = o.now.policy in result ≡ place_or p.shape.space (first_from (apart_at p.file.now p.places.now p.table.now p.shape.n (hit_of p.shape) struck.now rule) 0 p.shape.space) }
+    ensures { let p = o.now.policy in result ≡ found (first_from (apart_at p.file.now p.places.now p.table.now p.shape.n (hit_of p.shape) struck.now rule) 0 p.shape.space) }
 {
-    let space = o.policy.shape.space;
-    for block in 0..(space + 63) / 64 {
+    for block in 0..(o.policy.shape.space + 63) / 64 {
         if o.hits[64 * rule + block] == 0 {
             continue;
         }
-        let first = trial::change_at(o, struck, up, rule, block);
-        if first < space {
-            return first;
+        if let Some(first) = trial::change_at(o, struck, up, rule, block) {
+            return Some(first);
         }
     }
-    space
+    None
 }
 
-// Whether every request gets the decision laid down and the same obligations without the rule, the hint's block tried first.
-fn alike(o: &PolicyOutcomes, struck: &[u8], rule: usize, hint: usize) -> Tried
+// A request that gets another decision than the one laid down, or other obligations, without the rule: one of the hint's block, else the first of all.
+fn some_change(o: &PolicyOutcomes, struck: &[u8], rule: usize, hint: usize) -> Option<usize>
     requires { let p = o.now.policy in Trial p.file.now p.places.now p.table.now struck.now o.now.hits.now o.now.outcomes.now p.shape rule }
     ensures { let p = o.now.policy in Tries (apart_at p.file.now p.places.now p.table.now p.shape.n (hit_of p.shape) struck.now rule) p.shape.space result }
 {
     let shape = o.policy.shape;
-    let space = shape.space;
     let up = group_over(o.policy.table, shape.n, rule);
-    if hint < space {
-        let near = trial::change_at(o, struck, up, rule, hint / 64);
-        if near < space {
-            return Tried {
-                needless: false,
-                shown: near,
-            };
+    if hint < shape.space {
+        if let Some(near) = trial::change_at(o, struck, up, rule, hint / 64) {
+            return Some(near);
         }
     }
-    let first = first_change(o, struck, up, rule);
-    if first == space {
-        Tried {
-            needless: true,
-            shown: 0,
-        }
-    } else {
-        Tried {
-            needless: false,
-            shown: first,
-        }
-    }
+    first_change(o, struck, up, rule)
 }
 
-// Whether element i is a rule without which every request gets the same decision and the same obligations; the decisions with it are laid down.
-pub fn needless(o: &PolicyOutcomes, struck: &mut [u8], i: usize, hint: usize) -> Tried
+// Tries element i: whether it is a rule without which every request gets the same decision and the same obligations; the decisions with it are laid down.
+pub fn try_rule(o: &PolicyOutcomes, struck: &mut [u8], i: usize, hint: usize) -> Tried
     requires { let p = o.now.policy in Laid p.file.now p.places.now p.table.now struck.old o.now.hits.now o.now.outcomes.now p.shape × (i < p.shape.n) }
-    ensures { let p = o.now.policy in (result.needless ≡ needless_at p.file.now p.places.now p.table.now p.shape.n (hit_of p.shape) p.shape.space struck.old i) × (result.shown < p.shape.space) × (result.needless ≡ false → rule_left p.table.now struck.old i ≡ true → changes_at p.file.now p.places.now p.table.now p.shape.n (hit_of p.shape) struck.old i result.shown ≡ true) × (struck.new ≡ struck.old) }
+    ensures { let p = o.now.policy in Tells p.file.now p.places.now p.table.now struck.old p.shape i result × (struck.new ≡ struck.old) }
 {
     if !table::is_left(o.policy.table, struck, i) {
-        return Tried {
-            needless: false,
-            shown: 0,
-        };
+        return Tried::Other;
     }
     struck[i] = 1;
-    let tried = alike(o, struck, i, hint);
+    let change = some_change(o, struck, i, hint);
     struck[i] = 0;
-    tried
+    match change {
+        Some(m) => Tried::Needed(m),
+        None => Tried::Needless,
+    }
 }
 
 // The same from the policy file alone: the decisions with the rule are found first, and no hint is given.
@@ -120,13 +104,17 @@ pub fn is_needless(policy: PolicyFile, struck: &mut [u8], i: usize) -> bool
         outcomes: &outcomes,
         obliged,
     };
-    needless(&o, struck, i, shape.space).needless
+    match try_rule(&o, struck, i, shape.space) {
+        Tried::Needless => true,
+        Tried::Needed(_) => false,
+        Tried::Other => false,
+    }
 }
 
-// The first request that gets another decision, or other obligations, without the rule, or the number of requests.
-fn needed_by(o: &PolicyOutcomes, struck: &mut [u8], rule: usize) -> usize
+// The first request that gets another decision, or other obligations, without the rule.
+fn needed_by(o: &PolicyOutcomes, struck: &mut [u8], rule: usize) -> Option<usize>
     requires { let p = o.now.policy in Laid p.file.now p.places.now p.table.now struck.old o.now.hits.now o.now.outcomes.now p.shape × (rule < p.shape.n) × (rule_left p.table.now struck.old rule ≡ true) }
-    ensures { let p = o.now.policy in (result ≡ place_or p.shape.space (first_change_at p.file.now p.places.now p.table.now p.shape.n (hit_of p.shape) p.shape.space struck.old rule)) × (struck.new ≡ struck.old) }
+    ensures { let p = o.now.policy in (result ≡ found (first_change_at p.file.now p.places.now p.table.now p.shape.n (hit_of p.shape) p.shape.space struck.old rule)) × (struck.new ≡ struck.old) }
 {
     let up = group_over(o.policy.table, o.policy.shape.n, rule);
     struck[rule] = 1;
@@ -135,15 +123,16 @@ fn needed_by(o: &PolicyOutcomes, struck: &mut [u8], rule: usize) -> usize
     shown
 }
 
-// The same for every element, the number of requests for one that is no rule left.
+// The same for every element, the number of requests where there is none and for one that is no rule left.
 fn shown_by(o: &PolicyOutcomes, struck: &mut [u8], i: usize) -> usize
     requires { let p = o.now.policy in Laid p.file.now p.places.now p.table.now struck.old o.now.hits.now o.now.outcomes.now p.shape × (i < p.shape.n) }
     ensures { let p = o.now.policy in (result ≡ shown_at p.file.now p.places.now p.table.now p.shape.n (hit_of p.shape) p.shape.space struck.old i) × (struck.new ≡ struck.old) }
 {
+    let space = o.policy.shape.space;
     if !table::is_left(o.policy.table, struck, i) {
-        return o.policy.shape.space;
+        return space;
     }
-    needed_by(o, struck, i)
+    needed_by(o, struck, i).unwrap_or(space)
 }
 
 // Lays down for each rule left the first request that gets another decision, or other obligations, without it, the number of requests where there is none and for every other element. What lies behind them stays.

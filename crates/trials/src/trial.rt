@@ -18,8 +18,14 @@ fn copy_flags(struck: &[u8], n: usize, copy: &mut [u8])
     copy[..n].copy_from_slice(&struck[..n]);
 }
 
-// The first request of the block that gets another decision than the one laid down, or other obligations; the number of requests if there is none. Outside `on` no request gets anything else; only where the file has obligations are flags copied.
-fn change_among(o: &PolicyOutcomes, struck: &[u8], rule: usize, block: usize, on: u64) -> usize
+// The first request of the block that gets another decision than the one laid down, or other obligations. Outside `on` no request gets anything else; only where the file has obligations are flags copied.
+fn change_among(
+    o: &PolicyOutcomes,
+    struck: &[u8],
+    rule: usize,
+    block: usize,
+    on: u64,
+) -> Option<usize>
     requires { let p = o.now.policy in Trial p.file.now p.places.now p.table.now struck.now o.now.hits.now o.now.outcomes.now p.shape rule × (64 * block < p.shape.space) × Suspects p.file.now p.places.now p.table.now (kept struck.now rule) struck.now p.shape block on }
     ensures { let p = o.now.policy in InBlock (apart_at p.file.now p.places.now p.table.now p.shape.n (hit_of p.shape) struck.now rule) p.shape.space block result }
 {
@@ -44,14 +50,14 @@ fn reached(b: &Block, up: usize, rule: usize) -> u64
     b.matched(rule)
 }
 
-// The first request of the block that gets another decision than the one laid down, or other obligations, or the number of requests. The first element is asked only where the rule moves what the element over it decides.
+// The first request of the block that gets another decision than the one laid down, or other obligations. The first element is asked only where the rule moves what the element over it decides.
 pub(crate) fn change_at(
     o: &PolicyOutcomes,
     struck: &[u8],
     up: usize,
     rule: usize,
     block: usize,
-) -> usize
+) -> Option<usize>
     requires { let p = o.now.policy in Trial p.file.now p.places.now p.table.now struck.now o.now.hits.now o.now.outcomes.now p.shape rule × Grouped p.table.now p.shape.n rule up × (64 * block < p.shape.space) }
     ensures { let p = o.now.policy in InBlock (apart_at p.file.now p.places.now p.table.now p.shape.n (hit_of p.shape) struck.now rule) p.shape.space block result }
 {
@@ -65,10 +71,10 @@ pub(crate) fn change_at(
     };
     let moved = reached(&b, up, rule);
     if moved == 0 {
-        return shape.space;
+        return None;
     }
     if up == 0 {
-        return 64 * block + blocks::lowest(moved) as usize;
+        return Some(64 * block + blocks::lowest(moved) as usize);
     }
     change_among(o, struck, rule, block, moved)
 }

@@ -10,12 +10,15 @@ use native.Mathlib.Omega.{arith}
 use lib.ListN.{length, drop, set}
 use lib.Seq.{sets, sets-eq}
 use borrow.Author.Tests.{not-false}
+use Rattle.std.specs.Prelude.{Some}
 use Rattle.meaning.specs.Text.{Bytes, is_none}
 use Rattle.meaning.specs.declared.Element.{Element}
+use Rattle.laws.specs.Found.{found}
+use Rattle.laws.proofs.Found.{found_some}
 use Rattle.laws.proofs.Bools.{and_true, contradiction}
 use Rattle.laws.proofs.Search.{first_none, last_some}
 use Rattle.laws.proofs.Outcomes.{same_outcome_lem}
-use Rattle.table.specs.Tree.{place_or, rule_left}
+use Rattle.table.specs.Tree.{rule_left}
 use Rattle.table.specs.declared.Shape.{Shape}
 use Rattle.table.specs.Shape.{hit_of}
 use Rattle.outcomes.specs.Decided.{decided_at}
@@ -29,34 +32,19 @@ none_of : (o : Option ℕ) → is_none o ≡ true → o ≡ none
 none_of none e = refl
 none_of (some m) e = contradiction e refl
 
--- The next rule to strike, by the place that `next_rule` gives
+-- The next rule to strike
 module _ (f : Bytes) (places t : List ℕ) (n : ℕ) (hit : ℕ → Element → Bool) (space : ℕ) (struck : List ℕ) where
   pub record Next (i : ℕ) : Type 0 where
     pub found : next_at f places t n hit space struck ≡ some i
     pub below : i < n
     pub needless : needless_at f places t n hit space struck i ≡ true
 
-  pub next_found : (i : ℕ) → i ≡ place_or n (next_at f places t n hit space struck) → (i ≡ n → ⊥) → Next i
+  pub next_found : (i : ℕ) → Some i ≡ found (next_at f places t n hit space struck) → Next i
   unfolding next_at
-  next_found i is inside = go (next_at f places t n hit space struck) refl
-    where
-      go : (o : Option ℕ) → next_at f places t n hit space struck ≡ o → Next i
-      go none e = absurd (inside (is ∙ ap (place_or n) e))
-      go (some j) e =
-          let at : i ≡ j = is ∙ ap (place_or n) e in
-          let last = last_some (needless_at f places t n hit space struck) n j e in
-          rw at record { found = e; below = last.below; needless = last.holds }
-
-  pub next_none : (i : ℕ) → i ≡ place_or n (next_at f places t n hit space struck) → i ≡ n → next_at f places t n hit space struck ≡ none
-  unfolding next_at
-  next_none i is end = go (next_at f places t n hit space struck) refl
-    where
-      go : (o : Option ℕ) → next_at f places t n hit space struck ≡ o → next_at f places t n hit space struck ≡ none
-      go none e = e
-      go (some j) e =
-          let at : i ≡ j = is ∙ ap (place_or n) e in
-          let no : ⊥ = omega (arith, (last_some (needless_at f places t n hit space struck) n j e).below) in
-          absurd no
+  next_found i told =
+      let is : next_at f places t n hit space struck ≡ some i = found_some _ (sym told) in
+      let last = last_some (needless_at f places t n hit space struck) n i is in
+      record { found = is; below = last.below; needless = last.holds }
 
   -- nothing is struck where no rule is needless
   pub trimming_stops : (fuel : ℕ) → next_at f places t n hit space struck ≡ none → trimming_at f places t n hit space fuel struck ≡ record { flags = struck; order = [] }

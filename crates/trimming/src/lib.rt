@@ -2,7 +2,7 @@
 #![tactic(auto)]
 
 ghost use Rattle.std.specs.Prelude.{◌≡◌, ◌+◌, ◌*◌, ◌≤◌, ◌<◌, length};
-ghost use Rattle.table.specs.Tree.{place_or};
+ghost use Rattle.laws.specs.Found.{found};
 ghost use Rattle.table.specs.Shape.{hit_of};
 ghost use Rattle.matching.specs.Hits.{bit_of};
 ghost use Rattle.outcomes.specs.PolicyTable.{PolicyTable};
@@ -13,32 +13,39 @@ ghost use Rattle.trimming.specs.Known.{HintsFit, Known, Forgets};
 ghost use Rattle.trimming.specs.Trims.{Trims};
 
 use differences::{PolicyFile, PolicyOutcomes};
+use trials::Tried;
 
-// The last needless rule, or n. A rule's hint is a request that got something else without it when it was tried last; known rules need no other try.
-fn next_rule(o: &PolicyOutcomes, struck: &mut [u8], hints: &mut [u16], known: &mut [u8]) -> usize
+// The last needless rule. A rule's hint is a request that got something else without it when it was tried last; known rules need no other try.
+fn next_rule(
+    o: &PolicyOutcomes,
+    struck: &mut [u8],
+    hints: &mut [u16],
+    known: &mut [u8],
+) -> Option<usize>
     requires { let p = o.now.policy in Laid p.file.now p.places.now p.table.now struck.old o.now.hits.now o.now.outcomes.now p.shape × (p.shape.n ≤ length hints.old) × (p.shape.n ≤ length known.old) × Known p.file.now p.places.now p.table.now p.shape struck.old hints.old known.old }
-    ensures { let p = o.now.policy in (result ≡ place_or p.shape.n (next_at p.file.now p.places.now p.table.now p.shape.n (hit_of p.shape) p.shape.space struck.old)) × (struck.new ≡ struck.old) × Known p.file.now p.places.now p.table.now p.shape struck.old hints.new known.new }
+    ensures { let p = o.now.policy in (result ≡ found (next_at p.file.now p.places.now p.table.now p.shape.n (hit_of p.shape) p.shape.space struck.old)) × (struck.new ≡ struck.old) × Known p.file.now p.places.now p.table.now p.shape struck.old hints.new known.new }
 {
-    let n = o.policy.shape.n;
-    for i in (0..n).rev() {
+    for i in (0..o.policy.shape.n).rev() {
         if known[i] != 0 {
             continue;
         }
         let hint = hints[i] as usize;
-        let tried = trials::needless(o, struck, i, hint);
-        if tried.needless {
-            return i;
+        match trials::try_rule(o, struck, i, hint) {
+            Tried::Needless => return Some(i),
+            Tried::Needed(m) => {
+                hints[i] = m as u16;
+                known[i] = 1;
+            }
+            Tried::Other => continue,
         }
-        hints[i] = tried.shown as u16;
-        known[i] = 1;
     }
-    n
+    None
 }
 
-// The last needless rule, or n, from the policy file alone: the decisions are found first, and no rule is known to be needed.
-pub fn next_struck(policy: PolicyFile, struck: &mut [u8]) -> usize
+// The last needless rule, from the policy file alone: the decisions are found first, and no rule is known to be needed.
+pub fn next_struck(policy: PolicyFile, struck: &mut [u8]) -> Option<usize>
     requires { Steady policy.file.now policy.places.now policy.table.now policy.shape × PolicyTable policy.table.now struck.old policy.shape }
-    ensures { let p = policy.entry in (result ≡ place_or p.shape.n (next_at p.file.now p.places.now p.table.now p.shape.n (hit_of p.shape) p.shape.space struck.old)) × (struck.new ≡ struck.old) }
+    ensures { let p = policy.entry in (result ≡ found (next_at p.file.now p.places.now p.table.now p.shape.n (hit_of p.shape) p.shape.space struck.old)) × (struck.new ≡ struck.old) }
 {
     let shape = policy.shape;
     let mut hits = [0u64; 4096];
@@ -93,10 +100,9 @@ fn strike_rules(
 {
     let n = o.policy.shape.n;
     for count in 0..n {
-        let next = next_rule(o, struck, hints, known);
-        if next == n {
+        let Some(next) = next_rule(o, struck, hints, known) else {
             return count;
-        }
+        };
         struck[next] = 1;
         order[count] = next as u8;
         forget(o.hits, n, next, hints, known);

@@ -13,13 +13,13 @@ loop-v-init c = λ u l. absurd (omega arith)
 pub returns-then-space-from : goal.returns-then-space-from
 returns-then-space-from c =
     let turn = c.loop-v in
-    record { within = omega arith; found = λ l. absurd (omega arith); none_earlier = λ u l before. turn.invariant u (omega arith) }
+    λ u small l. turn.invariant u (omega arith)
 
 pub returns-then-ne : goal.returns-then-ne
 returns-then-ne c =
     let turn = c.loop-v in
     let differ : decision_bit c.args.given turn.v ≡ decision_bit c.args.before turn.v → ⊥ = λ e. apart _ _ (not-true _ (sym c.ne.ensures ∙ c.if-ne.true)) (c.decision_of.ensures ∙ e ∙ sym c.decision_of-in-loop-v.ensures) in
-    record { within = omega arith; found = λ l. (turn.v, omega arith, refl, differ); none_earlier = λ u l before. turn.invariant u (omega arith) }
+    record { within = omega arith; found = (turn.v, omega arith, refl, differ); none_earlier = λ u l before. turn.invariant u (omega arith) }
 
 pub loop-v-preserved : goal.loop-v-preserved
 loop-v-preserved c =
@@ -31,4 +31,4 @@ loop-v-preserved c =
 pub returns : goal.returns
 returns c =
     let turn = c.loop-v in
-    record { within = omega arith; found = λ l. absurd (omega arith); none_earlier = λ u l before. turn.invariant u (omega arith) }
+    λ u small l. turn.invariant u (omega arith)

@@ -28,18 +28,18 @@ loop-block-preserved-then-o-rule-eq0 c =
     let off = block_off _ _ _ _ _ _ c.args.o.now.policy.shape c.args.rule c.requires.0 turn.block c.if-o-rule-eq0.true in
     block_passed _ c.args.o.now.policy.shape.space turn.block turn.invariant off
 
-pub change_at-first-requires : goal.change_at-first-requires
-change_at-first-requires c = let pre = c.requires in (pre.0, pre.1, omega arith)
+pub change_at-requires : goal.change_at-requires
+change_at-requires c = let pre = c.requires in (pre.0, pre.1, omega arith)
 
-pub returns-then-first-space : goal.returns-then-first-space
-returns-then-first-space c =
+pub returns-in-Some : goal.returns-in-Some
+returns-in-Some c =
     let turn = c.loop-block in
-    block_found _ c.args.o.now.policy.shape.space turn.block turn.invariant _ c.change_at-first.ensures c.if-first-space.true
+    block_found _ c.args.o.now.policy.shape.space turn.block turn.invariant _ _ c.change_at.ensures c.in-Some.is
 
 pub loop-block-preserved : goal.loop-block-preserved
 loop-block-preserved c =
     let turn = c.loop-block in
-    block_searched _ c.args.o.now.policy.shape.space turn.block turn.invariant _ c.change_at-first.ensures (omega arith)
+    block_searched _ c.args.o.now.policy.shape.space turn.block turn.invariant _ c.change_at.ensures c.in_default.is
 
 pub returns : goal.returns
 returns c =

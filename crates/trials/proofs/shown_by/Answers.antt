@@ -14,6 +14,7 @@ needed_by-requires c =
 
 pub returns : goal.returns
 returns c =
+    let p = c.args.o.now.policy in
     let rule = sym c.is_left.ensures ∙ c.if-not-is_left.false in
     let needed = c.needed_by.ensures in
-    (shown_rule c.args.o.now.policy.file.now c.args.o.now.policy.places.now c.args.o.now.policy.table.now c.args.struck.now c.args.o.now.policy.shape _ _ rule needed.0, needed.1)
+    (c.unwrap_or.ensures ∙ shown_rule p.file.now p.places.now p.table.now c.args.struck.now p.shape _ _ rule needed.0, needed.1)

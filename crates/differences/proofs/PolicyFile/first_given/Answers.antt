@@ -13,10 +13,10 @@ use Rattle.differences.proofs.PolicyFile.first_given.Goals as goal
 pub loop-v-init : goal.loop-v-init
 loop-v-init c = (λ u l. absurd (omega arith), λ u among off. contradiction among off)
 
-pub returns-then-first-from : goal.returns-then-first-from
-returns-then-first-from c =
+pub returns-then-bound-from : goal.returns-then-bound-from
+returns-then-bound-from c =
     let turn = c.loop-v in
-    record { within = omega arith; found = λ l. absurd (omega arith); none_earlier = λ u small l. turn.invariant.0 u (omega (arith, c.if-first-from.true)) }
+    λ u small l. turn.invariant.0 u (omega (arith, c.if-bound-from.true))
 
 pub loop-v-preserved-then-left-v-ne1 : goal.loop-v-preserved-then-left-v-ne1
 loop-v-preserved-then-left-v-ne1 c =
@@ -34,8 +34,8 @@ pub returns-then-not-same : goal.returns-then-not-same
 returns-then-not-same c =
     let turn = c.loop-v in
     record {
-      within = omega (arith, c.if-first-from.false);
-      found = λ l. (turn.v, omega arith, refl, ap not (sym c.same.ensures ∙ c.if-not-same.true));
+      within = omega (arith, c.if-bound-from.false);
+      found = (turn.v, omega arith, refl, ap not (sym c.same.ensures ∙ c.if-not-same.true));
       none_earlier = λ u small l. turn.invariant.0 u (omega arith);
     }
 
@@ -58,7 +58,7 @@ loop-v-preserved c =
 pub returns : goal.returns
 returns c =
     let turn = c.loop-v in
-    record { within = omega arith; found = λ l. absurd (omega arith); none_earlier = λ u small l. turn.invariant.0 u (omega arith) }
+    λ u small l. turn.invariant.0 u (omega arith)
 
 pub like_bit-decided-requires : goal.like_bit-decided-requires
 like_bit-decided-requires c = omega arith

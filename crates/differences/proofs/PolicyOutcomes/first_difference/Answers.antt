@@ -26,21 +26,21 @@ loop-block-preserved-then-on-eq0 c =
     let suspects = touched_suspects p.file.now p.places.now p.table.now args.before.now args.struck.now args.self.now.hits.now p.shape c.requires.0.matched c.requires.1 c.loop-block.block _ c.touched-on.ensures in
     block_passed _ p.shape.space turn.block turn.invariant (λ m l e. suspects m l e (ap (λ w. bit w (m % 64)) c.if-on-eq0.true ∙ bit_zero (m % 64)))
 
-pub difference_in-first-requires : goal.difference_in-first-requires
-difference_in-first-requires c =
+pub difference_in-requires : goal.difference_in-requires
+difference_in-requires c =
     let args = c.args in
     let p = args.self.now.policy in
     (c.requires.0, omega arith, touched_suspects p.file.now p.places.now p.table.now args.before.now args.struck.now args.self.now.hits.now p.shape c.requires.0.matched c.requires.1 c.loop-block.block _ c.touched-on.ensures)
 
-pub returns-then-first-shape : goal.returns-then-first-shape
-returns-then-first-shape c =
+pub returns-in-Some : goal.returns-in-Some
+returns-in-Some c =
     let turn = c.loop-block in
-    block_found _ c.args.self.now.policy.shape.space turn.block turn.invariant _ c.difference_in-first.ensures c.if-first-shape.true
+    block_found _ c.args.self.now.policy.shape.space turn.block turn.invariant _ _ c.difference_in.ensures c.in-Some.is
 
 pub loop-block-preserved : goal.loop-block-preserved
 loop-block-preserved c =
     let turn = c.loop-block in
-    block_searched _ c.args.self.now.policy.shape.space turn.block turn.invariant _ c.difference_in-first.ensures (omega arith)
+    block_searched _ c.args.self.now.policy.shape.space turn.block turn.invariant _ c.difference_in.ensures c.in_default.is
 
 pub returns : goal.returns
 returns c =
