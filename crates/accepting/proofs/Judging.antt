@@ -20,7 +20,6 @@ use Rattle.laws.proofs.Outcomes.{same_outcome_lem}
 use Rattle.laws.proofs.OtherLines.{none_other}
 use Rattle.table.specs.declared.Shape.{Shape}
 use Rattle.table.specs.Shape.{hit_of}
-use Rattle.table.specs.Tree.{place_or}
 use Rattle.outcomes.specs.Decided.{none_struck, decided_at}
 use Rattle.outcomes.specs.PolicyTable.{PolicyTable, OutcomesLaid}
 use Rattle.outcomes.proofs.Searching.{first_alike}
@@ -51,19 +50,6 @@ module _ (test : ℕ → Bool) (n i : ℕ) where
   pub first_nowhere : n ≤ i → first_from test i (n - i) ≡ none
   first_nowhere l = let none_left : n - i ≡ 0 = omega arith in rw none_left
 
--- what a search tells, by the place or the number of all
-pub none_there : (o : Option ℕ) (n r : ℕ) → r ≡ place_or n o → ((i : ℕ) → o ≡ some i → i < n) → n ≤ r → o ≡ none
-none_there none n r is below l = refl
-none_there (some i) n r is below l = absurd (omega (arith, is, below i refl))
-
-pub one_there : (o : Option ℕ) (n r : ℕ) → r ≡ place_or n o → r < n → o ≡ some r
-one_there none n r is l = absurd (omega (arith, is))
-one_there (some i) n r is l = ap some (sym is)
-
-pub inside : (o : Option ℕ) (n r : ℕ) → r ≡ place_or n o → ((i : ℕ) → o ≡ some i → i < n) → (r ≡ n → ⊥) → r < n
-inside none n r is below other = absurd (other is)
-inside (some i) n r is below other = omega (arith, is, below i refl)
-
 -- Flags, by which requests and rules are looked at
 module _ (f : Bytes) (places table : List ℕ) (s : Shape) (struck : List ℕ) where
   abbrev differs : ℕ → Bool
@@ -93,9 +79,9 @@ module _ (f : Bytes) (places table : List ℕ) (s : Shape) (struck : List ℕ) w
       }
 
   -- and what is told by them
-  pub told_request : (r : ℕ) → r ≡ place_or s.space requests → r < s.space → record { number = 17; second = r } ≡ judged_at f places table s struck
+  pub told_request : (r : ℕ) → requests ≡ some r → record { number = 17; second = r } ≡ judged_at f places table s struck
   unfolding judged_at
-  told_request r is l = rw (one_there requests s.space r is l)
+  told_request r is = rw is
 
   pub told_none : requests ≡ none → rules ≡ none → record { number = 0; second = 0 } ≡ judged_at f places table s struck
   unfolding judged_at

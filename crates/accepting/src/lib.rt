@@ -4,7 +4,7 @@
 ghost use Rattle.std.specs.Prelude.{◌≡◌, suc, ◌+◌, ◌*◌, ◌≤◌, ◌<◌, length};
 ghost use Rattle.meaning.specs.Text.{first_from};
 ghost use Rattle.meaning.specs.Operations.{accept_answer};
-ghost use Rattle.table.specs.Tree.{place_or};
+ghost use Rattle.laws.specs.Found.{found};
 ghost use Rattle.table.specs.Shape.{hit_of};
 ghost use Rattle.outcomes.specs.Decided.{none_struck};
 ghost use Rattle.outcomes.specs.PolicyTable.{PolicyTable};
@@ -18,6 +18,7 @@ ghost use Rattle.accepting.specs.Judged.{lines_from, judged_at, LeavesOthersOut}
 use differences::{PolicyFile, PolicyOutcomes};
 use meaning::Answer;
 use table::Shape;
+use trials::Tried;
 
 // The line of element i, from 1, in what the flags leave behind so many attribute lines.
 fn line_of(places: &[usize], struck: &[u8], attributes: usize, i: usize) -> usize
@@ -37,22 +38,20 @@ fn line_of(places: &[usize], struck: &[u8], attributes: usize, i: usize) -> usiz
     line
 }
 
-// The topmost needless rule, or n; the decisions are laid down.
-fn first_needless(o: &PolicyOutcomes, struck: &mut [u8]) -> usize
+// The topmost needless rule; the decisions are laid down.
+fn first_needless(o: &PolicyOutcomes, struck: &mut [u8]) -> Option<usize>
     requires { let p = o.now.policy in Laid p.file.now p.places.now p.table.now struck.old o.now.hits.now o.now.outcomes.now p.shape }
-    ensures { let p = o.now.policy in (result ≡ place_or p.shape.n (first_from (needless_at p.file.now p.places.now p.table.now p.shape.n (hit_of p.shape) p.shape.space struck.old) 0 p.shape.n)) × (struck.new ≡ struck.old) }
+    ensures { let p = o.now.policy in (result ≡ found (first_from (needless_at p.file.now p.places.now p.table.now p.shape.n (hit_of p.shape) p.shape.space struck.old) 0 p.shape.n)) × (struck.new ≡ struck.old) }
 {
-    let n = o.policy.shape.n;
     let space = o.policy.shape.space;
-    let mut i = 0;
-    while i < n {
-        let tried = trials::needless(o, struck, i, space);
-        if tried.needless {
-            return i;
+    for i in 0..o.policy.shape.n {
+        match trials::try_rule(o, struck, i, space) {
+            Tried::Needless => return Some(i),
+            Tried::Needed(_) => continue,
+            Tried::Other => continue,
         }
-        i += 1;
     }
-    n
+    None
 }
 
 // What a proposal gets that is the file's lines without those of the rules struck. The decisions of the file are laid down once; where the proposal gives the same, they are its own.
@@ -60,12 +59,11 @@ fn judge(file: &[u8], table: &[u16], places: &[usize], shape: Shape, struck: &mu
     requires { Steady file.now places.now table.now shape × PolicyTable table.now none_struck shape × PolicyTable table.now struck.old shape × Untouched file.now places.now table.now none_struck struck.old shape }
     ensures { (result ≡ judged_at file.now places.now table.now shape struck.old) × (struck.new ≡ struck.old) }
 {
-    let n = shape.n;
     let none = [0u8; 64];
     let mut hits = [0u64; 4096];
     let mut outcomes = [0u64; 128];
     outcomes::find_outcomes(table, &none, shape, &mut hits, &mut outcomes);
-    let obliged = obligations::any_obligations(places, n);
+    let obliged = obligations::any_obligations(places, shape.n);
     let o = PolicyOutcomes {
         policy: PolicyFile {
             file,
@@ -77,20 +75,18 @@ fn judge(file: &[u8], table: &[u16], places: &[usize], shape: Shape, struck: &mu
         outcomes: &outcomes,
         obliged,
     };
-    let request = o.first_difference(&none, struck);
-    if request < shape.space {
+    if let Some(request) = o.first_difference(&none, struck) {
         return Answer {
             number: 17,
             second: request as u32,
         };
     }
-    let rule = first_needless(&o, struck);
-    if rule == n {
+    let Some(rule) = first_needless(&o, struck) else {
         return Answer {
             number: 0,
             second: 0,
         };
-    }
+    };
     Answer {
         number: 18,
         second: line_of(places, struck, shape.len, rule) as u32,

@@ -10,7 +10,10 @@ use lib.Dec.{eqb}
 use lib.ListN.{length, take, drop, get_or, set, length-append, length-drop}
 use lib.Seq.{drop-length, length-take-le, get_or-set_same, get_or-set_other}
 use borrow.Author.Tests.{eq-eqb}
+use Rattle.std.specs.Prelude.{Some, None}
 use Rattle.meaning.specs.Text.{Bytes}
+use Rattle.laws.specs.Found.{found as as_found}
+use Rattle.laws.proofs.Found.{found_some, found_none}
 use Rattle.meaning.specs.Model.{given}
 use Rattle.meaning.specs.Trimming.{strike, next_struck}
 use Rattle.meaning.specs.HeldState.{Step, step_on, step_file}
@@ -18,7 +21,6 @@ use Rattle.meaning.specs.Operations.{lent, step_answer, step_lent}
 use Rattle.laws.proofs.HeldState.{step_none, step_some}
 use Rattle.table.specs.declared.Shape.{Shape}
 use Rattle.table.specs.Shape.{hit_of}
-use Rattle.table.specs.Tree.{place_or}
 use Rattle.outcomes.specs.Decided.{none_struck}
 use Rattle.layout.specs.Places.{start_of}
 use Rattle.trimmed_text.specs.Flags.{is_left, needless_at}
@@ -36,34 +38,23 @@ use Rattle.held_state.proofs.Gap.{one_struck}
 others_left : (i j : ℕ) → j ≢ i → is_left (set none_struck i 1) j ≡ true
 others_left i j other = eq-eqb (get_or (set none_struck i 1) j 0) 0 (get_or-set_other none_struck i j 1 0 other ∙ none_clear j)
 
-module _ (f table places : List ℕ) (s : Shape) (held : PolicyHeld f table places s) (next : ℕ) (is : next ≡ place_or s.n (found f table places s held)) where
+module _ (f table places : List ℕ) (s : Shape) (held : PolicyHeld f table places s) where
   step_read : (x : Step) → step_on f ≡ x → step_file f ≡ given x
   unfolding step_file
   step_read x e = rw (held.is_read, e)
 
   -- no rule is found
-  nothing_found : next ≡ s.n → found f table places s held ≡ none
-  nothing_found end = go (found f table places s held) refl
-    where
-      go : (o : Option ℕ) → found f table places s held ≡ o → found f table places s held ≡ none
-      go none e = e
-      go (some i) e = absurd (omega (arith, end, is ∙ ap (place_or s.n) e, (found_needless f table places s held i e).0))
-
-  pub none_left : next ≡ s.n → (record { number = 0; second = length f; struck = 0 } ≡ step_answer f) × (f ≡ step_lent f)
-  none_left end =
-      let none-next : next_struck f ≡ none = line_found f table places s held ∙ ap (map (line_of f held.policy held.is_read)) (nothing_found end) in
+  pub none_left : None ≡ as_found (found f table places s held) → (record { number = 0; second = length f; struck = 0 } ≡ step_answer f) × (f ≡ step_lent f)
+  none_left is =
+      let none-next : next_struck f ≡ none = line_found f table places s held ∙ ap (map (line_of f held.policy held.is_read)) (found_none _ (sym is)) in
       let e = step_read _ (step_none f none-next) in
       let whole : lent f (given f) ≡ f = ap (λ x. f ++ x) (drop-length f) ∙ append-nil f in
       (rw e, rw e (sym whole))
 
   -- a rule is found
-  module _ (other : next ≡ s.n → ⊥) where
+  module _ (next : ℕ) (is : Some next ≡ as_found (found f table places s held)) where
     rule_found : found f table places s held ≡ some next
-    rule_found = go (found f table places s held) refl
-      where
-        go : (o : Option ℕ) → found f table places s held ≡ o → found f table places s held ≡ some next
-        go none e = absurd (other (is ∙ ap (place_or s.n) e))
-        go (some i) e = e ∙ ap some (sym (is ∙ ap (place_or s.n) e))
+    rule_found = found_some _ (sym is)
 
     pub here : next < s.n
     here = (found_needless f table places s held next rule_found).0

@@ -37,15 +37,15 @@ pub fn step(text: &mut [u8], table: &[u16], places: &[usize], shape: Shape) -> S
         table,
         shape,
     };
-    let next = trimming::next_struck(policy, &mut struck);
+    let found = trimming::next_struck(policy, &mut struck);
     let size = text.len();
-    if next == n {
+    let Some(next) = found else {
         return Stepped {
             number: 0,
             second: size as u32,
             struck: 0,
         };
-    }
+    };
     let start = places[2 * next];
     let end = trimmed_text::lines_end(text, places, n, next);
     close_gap(text, start, end);

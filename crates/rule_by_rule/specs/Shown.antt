@@ -1,8 +1,9 @@
 -- What is shown of the next rule.
-use Rattle.std.specs.Prelude.{ℕ, cond, List, [], ltb}
+use Rattle.std.specs.Prelude.{ℕ, List, [], Option, Some, None}
 use Rattle.meaning.specs.Text.{Bytes}
 use Rattle.layout.specs.Places.{name_in}
 
--- the name of element i of n, or no byte where there is no such element
-abbrev pub name_or_none : Bytes → List ℕ → (n i : ℕ) → Bytes
-name_or_none f places n i = cond (ltb i n) (name_in f places i) []
+-- the name of the next element, or no byte where there is none
+abbrev pub name_or_none : Bytes → List ℕ → Option ℕ → Bytes
+name_or_none f places None = []
+name_or_none f places (Some i) = name_in f places i

@@ -2,8 +2,9 @@
 #![tactic(auto)]
 
 ghost use Rattle.std.specs.Prelude.{◌≡◌, ◌≤◌};
+ghost use Rattle.std.specs.Option.{ForSome};
 ghost use Rattle.meaning.specs.Operations.{next_rule_answer, next_rule_lent, strike_answer, strike_lent};
-ghost use Rattle.layout.specs.Places.{Naming};
+ghost use Rattle.layout.specs.Places.{NameAt};
 ghost use Rattle.printing.specs.Wrote.{Wrote};
 ghost use Rattle.trimmed_text.specs.Held.{PolicyHeld};
 ghost use Rattle.rule_by_rule.specs.Shown.{name_or_none};
@@ -12,15 +13,15 @@ use differences::PolicyFile;
 use meaning::Answer;
 use table::Shape;
 
-// Lays down the name of element i, or nothing if i is n.
-fn put_name(file: &[u8], places: &[usize], n: usize, i: usize, out: &mut [u8]) -> usize
-    requires { Naming file.now places.now n × (i ≤ n) }
-    ensures { Wrote out.old 0 (name_or_none file.now places.now n i) out.new result × (result ≤ 16) }
+// Lays down the name of the next element, or nothing if there is none.
+fn put_name(file: &[u8], places: &[usize], next: Option<usize>, out: &mut [u8]) -> usize
+    requires { ForSome next (λ i. NameAt file.now places.now i) }
+    ensures { Wrote out.old 0 (name_or_none file.now places.now next) out.new result × (result ≤ 16) }
 {
-    if i == n {
-        return 0;
+    match next {
+        Some(i) => printing::put_bytes(out, 0, layout::element_name(file, places, i)),
+        None => 0,
     }
-    printing::put_bytes(out, 0, layout::element_name(file, places, i))
 }
 
 // The name of the rule that trimming would strike next, in a lent buffer; no byte where no rule is needless.
@@ -29,7 +30,6 @@ pub fn show(file: &[u8], table: &[u16], places: &[usize], shape: Shape, out: &mu
     ensures value { result ≡ next_rule_answer file.now out.old }
     ensures out_after { out.new ≡ next_rule_lent file.now out.old }
 {
-    let n = shape.n;
     let mut struck = [0u8; 64];
     let policy = PolicyFile {
         file,
@@ -39,10 +39,10 @@ pub fn show(file: &[u8], table: &[u16], places: &[usize], shape: Shape, out: &mu
     };
     let next = trimming::next_struck(policy, &mut struck);
     let mut none = [0u8; 0];
-    let needed = put_name(file, places, n, next, &mut none);
+    let needed = put_name(file, places, next, &mut none);
     let room = out.len();
     let part = printing::lend(needed, room);
-    put_name(file, places, n, next, &mut out[..part]);
+    put_name(file, places, next, &mut out[..part]);
     printing::text_answer(needed, room)
 }
 

@@ -12,7 +12,6 @@ use Rattle.laws.proofs.Search.{last_some}
 use Rattle.laws.proofs.Reading.{accepted}
 use Rattle.table.specs.declared.Shape.{Shape}
 use Rattle.table.specs.Shape.{hit_of}
-use Rattle.table.specs.Tree.{place_or}
 use Rattle.outcomes.specs.Decided.{none_struck}
 use Rattle.layout.specs.Places.{Naming, Named}
 use Rattle.trials.specs.Steady.{Steady}
@@ -64,13 +63,6 @@ module _ (f table places : List ℕ) (s : Shape) (held : PolicyHeld f table plac
   pub found_needless : (i : ℕ) → found ≡ some i → (i < s.n) × (table-level.needless_at f places table s.n (hit_of s) s.space none_struck i ≡ true)
   unfolding table-level.next_at
   found_needless i e = let x = last_some (table-level.needless_at f places table s.n (hit_of s) s.space none_struck) s.n i e in (x.below, x.holds)
-
-  pub next_within : (next : ℕ) → next ≡ place_or s.n found → next ≤ s.n
-  next_within next is = go found refl
-    where
-      go : (o : Option ℕ) → found ≡ o → next ≤ s.n
-      go none e = omega (arith, is ∙ ap (place_or s.n) e)
-      go (some i) e = omega (arith, is ∙ ap (place_or s.n) e, (found_needless i e).0)
 
   -- and by its line
   pub line_found : next_struck f ≡ map (line_of f held.policy held.is_read) found

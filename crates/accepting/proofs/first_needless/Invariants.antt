@@ -1,6 +1,6 @@
 -- `first_needless`: the topmost needless rule from the place looked at on is the topmost of all. Assumes nothing.
 use mathlib.Core.Path.{◌≡◌}
-use Prim.Native.Nat.{◌-◌, ◌≤◌}
+use Prim.Native.Nat.{◌-◌}
 use Rattle.meaning.specs.Text.{first_from}
 use Rattle.table.specs.Shape.{hit_of}
 use Rattle.trials.specs.Decided.{needless_at}
@@ -10,7 +10,4 @@ abbrev pub invariant-loop-i : goal.invariant-loop-i
 invariant-loop-i l =
     let p = l.o.policy in
     let test = needless_at p.file.now p.places.now p.table.now p.shape.n (hit_of p.shape) p.shape.space l.initial.struck in
-    (l.i ≤ l.n) × (l.struck ≡ l.initial.struck) × (first_from test 0 l.n ≡ first_from test l.i (l.n - l.i))
-
-abbrev pub decreases-loop-i : goal.decreases-loop-i
-decreases-loop-i l = l.n - l.i
+    (l.struck ≡ l.initial.struck) × (first_from test 0 p.shape.n ≡ first_from test l.i (p.shape.n - l.i))
