@@ -3,17 +3,17 @@ use Prim.Native.Nat.{ℕ, suc}
 use mathlib.Core.Path.{◌≡◌, refl, sym, ap, ◌∙◌}
 use mathlib.Core.Bool.{Bool, not, ◌||◌, or-false}
 use mathlib.Core.List.{List, [], ◌∷◌}
+use mathlib.Core.Option.{Option}
 use native.Mathlib.Omega.{arith}
 use lib.Dec.{eqb, leb}
 use lib.ListN.{length, drop, get_or}
 use borrow.Author.Tests.{ne_eqb}
-use Rattle.meaning.specs.Text.{Bytes, empty, among_names, is_name}
+use Rattle.meaning.specs.declared.Word.{Word}
+use Rattle.meaning.specs.Text.{Bytes, empty, is_none, among_names, is_name}
 use Rattle.meaning.specs.Model.{Attribute}
 use Rattle.meaning.specs.Reading.{depth_of, word_of, element_of, Sofar, well_placed, lowest, bad_name, bad_unused}
 use Rattle.laws.proofs.Types.{Kind}
 use Rattle.laws.proofs.Bounds.{padded_name}
-use Rattle.syntax.specs.Fields.{number_of_word}
-use Rattle.syntax.proofs.Fields.{no_word}
 use Rattle.layout.specs.declared.Attributes.{Attributes}
 use Rattle.layout.specs.declared.Tree.{Tree}
 use Rattle.layout.specs.Places.{names_to}
@@ -31,14 +31,14 @@ empty_count [] = refl
 empty_count (a ∷ attrs) = sym (ne_eqb (suc (length attrs)) 0 (λ e. omega arith))
 
 -- the number that the tests give, by what was found of the name, the count, the place and the word
-abbrev pub first_found : (named known : Bool) (count attributes : ℕ) (placed : Bool) (word : ℕ) → ℕ
+abbrev pub first_found : (named known : Bool) (count attributes : ℕ) (placed : Bool) → Option Word → ℕ
 first_found named known count attributes placed word =
-    lowest ((3, not named) ∷ (4, known) ∷ (5, leb 64 count) ∷ (6, eqb attributes 0 || not placed) ∷ (7, eqb word 6) ∷ [])
+    lowest ((3, not named) ∷ (4, known) ∷ (5, leb 64 count) ∷ (6, eqb attributes 0 || not placed) ∷ (7, is_none word) ∷ [])
 
 module _ (f : Bytes) (a : Attributes) (places : List ℕ) (tree : Tree) (k : Kind) (fs : List Bytes) (s : Sofar) where
   pub tests_found : Behind f a places tree s
       → lowest (earlier_tests s (get_or fs 3 []) (element_from s.attributes k fs))
-      ≡ first_found (is_name (get_or fs 2 [])) (among_names (get_or fs 2 []) (names_to f places tree.len)) tree.len a.len (well_placed k (depth_of (get_or fs 1 [])) s.before) (number_of_word (word_of k (get_or fs 3 [])))
+      ≡ first_found (is_name (get_or fs 2 [])) (among_names (get_or fs 2 []) (names_to f places tree.len)) tree.len a.len (well_placed k (depth_of (get_or fs 1 [])) s.before) (word_of k (get_or fs 3 []))
   tests_found behind =
       let some_attribute : empty s.attributes ≡ eqb a.len 0 = empty_count s.attributes ∙ ap (λ l. eqb (length l) 0) behind.attributes ∙ ap (λ n. eqb n 0) (attributes_length f a) in
       rw (
@@ -47,5 +47,4 @@ module _ (f : Bytes) (a : Attributes) (places : List ℕ) (tree : Tree) (k : Kin
         behind.names,
         ← behind.stands.count,
         some_attribute,
-        no_word (word_of k (get_or fs 3 [])),
       )

@@ -5,9 +5,11 @@ use Prim.Native.Nat.{ℕ, ◌+◌, ◌*◌, ◌≤◌, ◌<◌}
 use native.Mathlib.Omega.{arith}
 use mathlib.Core.Bool.{true, false, not}
 use mathlib.Core.List.{List, [], ◌∷◌}
+use mathlib.Core.Option.{some}
 use lib.ListN.{length, drop, get_or}
 use lib.Seq.{sets}
 use Rattle.meaning.specs.declared.Kind.{Kind}
+use Rattle.meaning.specs.declared.Word.{Word}
 use Rattle.meaning.specs.Text.{Bytes, empty, cut, tab}
 use Rattle.meaning.specs.Model.{Attribute, padded}
 use Rattle.meaning.specs.Reading.{depth_of, word_of, masks_of, Sofar, well_placed, lowest, bad_masks}
@@ -81,14 +83,15 @@ module _ (f table places : List ℕ) (st : State) (end : ℕ) (k : Kind) (n : �
       targets_told none = stopped BadTarget (sym (earlier_passed s fs k n line count passed_earlier ∙ rw (masks_bad s.attributes (drop 4 fs) none)))
 
       -- the line is read
-      pub tree_told : (r : State) (masks t' p' : List ℕ) → masks_in s.attributes (drop 4 fs) ≡ Some masks → r ≡ behind_tree st end k fs
-          → t' ≡ with_row table st.tree.len (number_of_word (word_of k (get_or fs 3 []))) (depth_of (get_or fs 1 [])) masks
+      pub tree_told : (r : State) (word : Word) (masks t' p' : List ℕ) → word_of k (get_or fs 3 []) ≡ some word → masks_in s.attributes (drop 4 fs) ≡ Some masks → r ≡ behind_tree st end k fs
+          → t' ≡ with_row table st.tree.len (number_of_word (some word)) (depth_of (get_or fs 1 [])) masks
           → p' ≡ sets places (2 * st.tree.len) (st.at ∷ (st.at + 4 + length (get_or fs 2 [])) ∷ [])
           → StepIs f table places t' p' st end (Ok r)
-      tree_told r masks t' p' some is_state is-table is-places =
-          let (fine, masks-are) = masks_good s.attributes (drop 4 fs) some in
+      tree_told r word masks t' p' named good is_state is-table is-places =
+          let (fine, masks-are) = masks_good s.attributes (drop 4 fs) good in
+          let numbered : number_of_word (some word) ≡ number_of_word (word_of k (get_or fs 3 [])) = ap number_of_word (sym named) in
           record {
             refusal = sym (earlier_passed s fs k n line count passed_earlier ∙ rw fine);
-            next = rw (is_state, is-table, is-places, masks-are) (tree_next f table places st end k n ready at line count passed_earlier);
+            next = rw (is_state, is-table, is-places, masks-are, numbered) (tree_next f table places st end k n ready at line count passed_earlier);
             stays = tt;
           }

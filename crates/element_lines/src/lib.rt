@@ -1,14 +1,15 @@
 // A tree line: its tests, its masks, and its element laid down behind the others.
 #![tactic(auto)]
 
-ghost use Rattle.std.specs.Prelude.{◌≡◌, [], ◌∷◌, ◌+◌, ◌*◌, ◌≤◌, length, get_or};
+ghost use Rattle.std.specs.Prelude.{◌≡◌, [], ◌∷◌, ◌+◌, ◌*◌, ◌≤◌, length, get_or, IfOk};
+ghost use Rattle.std.proofs.Math.Option.{some};
 ghost use Rattle.std.proofs.lemmas.List.Edits.{sets};
 ghost use Rattle.meaning.specs.Text.{cut, tab};
 ghost use Rattle.meaning.specs.Reading.{depth_of, word_of, Sofar, lowest};
 ghost use Rattle.refusals.specs.Numbers.{number_in};
 ghost use Rattle.table.specs.Rows.{with_row};
-ghost use Rattle.layout.specs.Places.{part, Named};
 ghost use Rattle.syntax.specs.Fields.{number_of_word};
+ghost use Rattle.layout.specs.Places.{part, Named};
 ghost use Rattle.tree_fields.specs.Headed.{Headed};
 ghost use Rattle.element_lines.specs.Elements.{element_from, Behind, earlier_tests, Fits, behind_tree};
 ghost use Rattle.attribute_lines.specs.Sofar.{TreeLine};
@@ -16,13 +17,13 @@ ghost use Rattle.attribute_lines.specs.Steps.{BeforeLine, EndedLine, StepIs};
 
 use attribute_lines::State;
 use layout::{Attributes, Tree};
-use meaning::Kind;
+use meaning::{Kind, Word};
 use refusals::Refusal;
 use table::Row;
 use tree_fields::FieldEnds;
 
-// The lowest of 3 to 7 that refuses a tree line of this kind.
-fn element_refusal(
+// The word of a tree line of this kind, or the lowest of 3 to 7 that refuses the line.
+fn element_word(
     file: &[u8],
     a: Attributes,
     places: &[usize],
@@ -30,10 +31,11 @@ fn element_refusal(
     kind: Kind,
     line: &[u8],
     e: FieldEnds,
-) -> Result<(), Refusal>
+) -> Result<Word, Refusal>
     requires { Named file.now places.now tree.len × (tree.depth ≤ 7) × Headed line.now e × ((s : Sofar) × Behind file.now a places.now tree s) }
-    ensures { (s : Sofar) → Behind file.now a places.now tree s
+    ensures refusal { (s : Sofar) → Behind file.now a places.now tree s
         → number_in result ≡ lowest (earlier_tests s (get_or (cut tab line.now) 3 []) (element_from s.attributes kind (cut tab line.now))) }
+    ensures word { IfOk result (λ word. word_of kind (get_or (cut tab line.now) 3 []) ≡ some word) }
 {
     let name = tree_fields::name_field(line, e);
     if !names::is_name(name) {
@@ -52,10 +54,21 @@ fn element_refusal(
     if !layout::well_placed(kind, depth, tree) {
         return Err(Refusal::Misplaced);
     }
-    if syntax::word_number(kind, tree_fields::word_field(line, e)) == 6 {
-        return Err(Refusal::BadWord);
+    syntax::word_of(kind, tree_fields::word_field(line, e)).ok_or(Refusal::BadWord)
+}
+
+// The number of a word in the table.
+fn number_of(word: Word) -> u16
+    ensures { result ≡ number_of_word (some word) }
+{
+    match word {
+        Word::Permit => 0,
+        Word::Deny => 1,
+        Word::DenyOverrides => 2,
+        Word::PermitOverrides => 3,
+        Word::FirstApplicable => 4,
+        Word::OnlyOneApplicable => 5,
     }
-    Ok(())
 }
 
 // Lays the element of a tree line down behind the others.
@@ -63,6 +76,7 @@ fn lay_line(
     st: State,
     end: usize,
     kind: Kind,
+    word: Word,
     line: &[u8],
     e: FieldEnds,
     masks: [u16; 6],
@@ -71,17 +85,16 @@ fn lay_line(
 ) -> State
     requires { Fits table.old places.old st end (cut tab line.now) × Headed line.now e }
     ensures value { result ≡ behind_tree st end kind (cut tab line.now) }
-    ensures table_after { table.new ≡ with_row table.old st.tree.len (number_of_word (word_of kind (get_or (cut tab line.now) 3 []))) (depth_of (get_or (cut tab line.now) 1 [])) masks }
+    ensures table_after { table.new ≡ with_row table.old st.tree.len (number_of_word (some word)) (depth_of (get_or (cut tab line.now) 1 [])) masks }
     ensures places_after { places.new ≡ sets places.old (2 * st.tree.len) (st.at ∷ (st.at + 4 + length (get_or (cut tab line.now) 2 [])) ∷ []) }
 {
     let at = st.at;
     let tree = st.tree;
     let attributes = st.attributes;
     let depth = syntax::depth_of(tree_fields::depth_field(line, e));
-    let word = syntax::word_number(kind, tree_fields::word_field(line, e));
     let name = tree_fields::name_field(line, e);
     let row = Row {
-        word: word as u16,
+        word: number_of(word),
         depth: depth as u16,
         masks,
     };
@@ -117,9 +130,9 @@ pub fn tree_line(
         return Err(Refusal::BadLine);
     }
     let e = tree_fields::field_ends(line);
-    element_refusal(file, attributes, places, tree, kind, line, e)?;
+    let word = element_word(file, attributes, places, tree, kind, line, e)?;
     let Some(masks) = tree_fields::line_masks(file, attributes, line, e) else {
         return Err(Refusal::BadTarget);
     };
-    Ok(lay_line(st, end, kind, line, e, masks, table, places))
+    Ok(lay_line(st, end, kind, word, line, e, masks, table, places))
 }

@@ -6,20 +6,20 @@ use mathlib.Core.Option.{Option, none, some}
 use Prim.Native.Nat.{ℕ, suc, ◌+◌, ◌≤◌, ◌<◌}
 use native.Mathlib.Nat.{zero-add}
 use native.Mathlib.Omega.{arith}
+use mathlib.Core.Bool.{Bool, true, false, false≢true, true≢false}
 use lib.ListN.{length, take, drop, length-map}
 use lib.Seq.{length-sets, length-take-le, take-append_seam}
 use borrow.Author.Tests.{lt-ltb}
 use Rattle.meaning.specs.declared.Answer.{Answer}
 use Rattle.meaning.specs.declared.Word.{Word}
 use Rattle.meaning.specs.declared.Kind.{Kind}
-use Rattle.meaning.specs.Text.{Bytes, any}
+use Rattle.meaning.specs.Text.{Bytes, is_none, any}
 use Rattle.meaning.specs.Model.{Attribute, Policy, Result, refused, given, ◌then◌, fitted, word_text, words}
 use Rattle.meaning.specs.Reading.{word_of, read}
 use Rattle.meaning.specs.Joining.{both, place_in, differs, first_differing, joined_text, joined, join_file}
 use Rattle.meaning.specs.Operations.{answered, lent, join_answer, join_lent}
 use Rattle.laws.proofs.Bools.{Test, passed, failed, test}
 use Rattle.laws.proofs.Lines.{spelled_some}
-use Rattle.syntax.specs.Fields.{number_of_word}
 use Rattle.table.specs.Tree.{place_or}
 use Rattle.layout.specs.declared.Attributes.{Attributes}
 use Rattle.layout.specs.Places.{attributes_of}
@@ -77,23 +77,26 @@ word_short Word.PermitOverrides = omega arith
 word_short Word.FirstApplicable = omega arith
 word_short Word.OnlyOneApplicable = omega arith
 
-word_there : (o : Option Word) → number_of_word o ≢ 6 → (v : Word) × (o ≡ some v)
-word_there none h = absurd (h refl)
-word_there (some v) h = (v, refl)
+-- that there is none, or one
+module _ (o : Option Word) {none_there : Bool} (is : is_none o ≡ none_there) where
+  word_there : none_there ≡ false → (v : Word) × (o ≡ some v)
+  word_there h = go o (is ∙ h)
+    where
+      go : (o : Option Word) → is_none o ≡ false → (v : Word) × (o ≡ some v)
+      go none e = absurd (true≢false e)
+      go (some v) e = (v, refl)
 
-no_word : (o : Option Word) → number_of_word o ≡ 6 → o ≡ none
-no_word none h = refl
-no_word (some Word.Permit) h = absurd (omega arith)
-no_word (some Word.Deny) h = absurd (omega arith)
-no_word (some Word.DenyOverrides) h = absurd (omega arith)
-no_word (some Word.PermitOverrides) h = absurd (omega arith)
-no_word (some Word.FirstApplicable) h = absurd (omega arith)
-no_word (some Word.OnlyOneApplicable) h = absurd (omega arith)
+  no_word : none_there ≡ true → o ≡ none
+  no_word h = go o (is ∙ h)
+    where
+      go : (o : Option Word) → is_none o ≡ true → o ≡ none
+      go none e = refl
+      go (some v) e = absurd (false≢true e)
 
-pub short_word : (w : Bytes) (n : ℕ) → n ≡ number_of_word (word_of Kind.Set w) → n ≢ 6 → length w ≤ 32
-short_word w n e h =
-    let (v, is) = word_there (word_of Kind.Set w) (λ x. h (e ∙ x)) in
-    subst (λ t. length t ≤ 32) (spelled_some word_text w (words Kind.Set) v is) (word_short v)
+pub short_word : (w : Bytes) {none_there : Bool} → is_none (word_of Kind.Set w) ≡ none_there → none_there ≡ false → length w ≤ 32
+short_word w is h =
+    let (v, is_word) = word_there (word_of Kind.Set w) is h in
+    subst (λ t. length t ≤ 32) (spelled_some word_text w (words Kind.Set) v is_word) (word_short v)
 
 -- What the two files give, by their attributes
 module _ (w f g : Bytes) (a b : Attributes) (from other : ℕ) (first-held : FileHeld f a from) (second-held : FileHeld g b other) where
@@ -119,18 +122,18 @@ module _ (w f g : Bytes) (a b : Attributes) (from other : ℕ) (first-held : Fil
     unfolding joined
     line_told h room = both_read room ∙ rw (some_found (first_differing first 1 second) line line-is h)
 
-    module _ (alike : line ≡ 0) (n : ℕ) (number_is : n ≡ number_of_word (word_of Kind.Set w)) where
+    module _ (alike : line ≡ 0) {none_there : Bool} (word-is : is_none (word_of Kind.Set w) ≡ none_there) where
       none_differ : first_differing first 1 second ≡ none
       none_differ = none_found first 0 second (sym line-is ∙ alike)
 
-      word_told : n ≡ 6 → (room : ℕ) → join_file room f g w ≡ refused 7 (suc (length (both first second)))
+      word_told : none_there ≡ true → (room : ℕ) → join_file room f g w ≡ refused 7 (suc (length (both first second)))
       unfolding joined
-      word_told h room = both_read room ∙ rw (none_differ, no_word (word_of Kind.Set w) (sym number_is ∙ h))
+      word_told h room = both_read room ∙ rw (none_differ, no_word (word_of Kind.Set w) word-is h)
 
-      text_told_lem : n ≢ 6 → (room : ℕ) → join_file room f g w ≡ if_accepted room text
+      text_told_lem : none_there ≡ false → (room : ℕ) → join_file room f g w ≡ if_accepted room text
       unfolding joined
       text_told_lem h room =
-          let (v, is) = word_there (word_of Kind.Set w) (λ x. h (number_is ∙ x)) in
+          let (v, is) = word_there (word_of Kind.Set w) word-is h in
           both_read room ∙ rw (none_differ, is) (given_then (read text) room)
 
   -- A text that is too long, and one that is laid down in a buffer that is long enough
@@ -149,19 +152,19 @@ module _ (w f g : Bytes) (a b : Attributes) (from other : ℕ) (first-held : Fil
     pub differs_told : line ≢ 0 → Joins old old (record { number = 19; second = line })
     differs_told h = told old 19 line (line_told line line-is h (length old)) refl
 
-    module _ (alike : line ≡ 0) (n : ℕ) (number_is : n ≡ number_of_word (word_of Kind.Set w)) where
-      pub no_word_told : n ≡ 6 → (p : Placing) → p ≡ listed (places_in first (both first second)) → Joins old old (record { number = 7; second = p.len + 1 })
+    module _ (alike : line ≡ 0) {none_there : Bool} (word-is : is_none (word_of Kind.Set w) ≡ none_there) where
+      pub no_word_told : none_there ≡ true → (p : Placing) → p ≡ listed (places_in first (both first second)) → Joins old old (record { number = 7; second = p.len + 1 })
       no_word_told h p is =
           let size : p.len + 1 ≡ suc (length (both first second)) = omega (arith, ap (λ x. x.len) is, length-map (both first second) (λ c. place_in first c.name)) in
-          told old 7 (suc (length (both first second))) (word_told line line-is alike n number_is h (length old)) (ap (λ k. record { number = 7; second = k }) size)
+          told old 7 (suc (length (both first second))) (word_told line line-is alike word-is h (length old)) (ap (λ k. record { number = 7; second = k }) size)
 
-      module _ (h : n ≢ 6) {x y : List ℕ} {needed : ℕ} (laid : Wrote x 0 text y needed) where
+      module _ (h : none_there ≡ false) {x y : List ℕ} {needed : ℕ} (laid : Wrote x 0 text y needed) where
         counted : needed ≡ length text
         counted = laid.moved ∙ zero-add (length text)
 
         pub too_long_told : 16384 < needed → Joins old old (record { number = 1; second = 0 })
         too_long_told l =
-            told old 1 0 (text_told_lem line line-is alike n number_is h (length old) ∙ ap (λ x. x then λ j. fitted (length old) text) (too_long (omega (arith, counted)))) refl
+            told old 1 0 (text_told_lem line line-is alike word-is h (length old) ∙ ap (λ x. x then λ j. fitted (length old) text) (too_long (omega (arith, counted)))) refl
 
         -- the text stands at the start of what it was laid into
         stands : needed ≤ length x → take needed y ≡ text
@@ -169,6 +172,6 @@ module _ (w f g : Bytes) (a b : Attributes) (from other : ℕ) (first-held : Fil
 
         pub text_joined : {new : Bytes} {r : Answer} → needed ≤ length x → Accepted (take needed y) old new r → Joins old new r
         text_joined {new} {r} l accepted =
-            let e = text_told_lem line line-is alike n number_is h (length old) in
+            let e = text_told_lem line line-is alike word-is h (length old) in
             let a = subst (λ t. Accepted t old new r) (stands l) accepted in
             (a.answers ∙ sym (ap (answered length) e), a.lends ∙ sym (ap (lent old) e))

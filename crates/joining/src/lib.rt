@@ -49,7 +49,7 @@ fn join_both(
             second: line as u32,
         };
     }
-    if syntax::word_number(Kind::Set, word) == 6 {
+    if syntax::word_of(Kind::Set, word).is_none() {
         let joined = joined_attributes::places_in(first, a, second, b, first, a);
         return Answer {
             number: 7,

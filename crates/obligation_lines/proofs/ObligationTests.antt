@@ -4,19 +4,20 @@ use mathlib.Core.Path.{◌≡◌, refl, sym, ap, ◌∙◌}
 use mathlib.Core.Logic.{◌≢◌}
 use mathlib.Core.Bool.{Bool, true, false, not, ◌&&◌}
 use mathlib.Core.List.{List, [], ◌∷◌, map}
+use mathlib.Core.Option.{Option}
 use native.Mathlib.Omega.{arith}
 use lib.Dec.{eqb, ltb}
 use lib.ListN.{length, get_or, replicate}
 use lib.Seq.{take-append_seam}
 use borrow.Author.Tests.{eq-eqb, ne_eqb, le-ltb, lt-ltb}
-use Rattle.meaning.specs.Text.{Bytes, among_names, is_name}
+use Rattle.meaning.specs.declared.Word.{Word}
+use Rattle.meaning.specs.Text.{Bytes, is_none, among_names, is_name}
 use Rattle.meaning.specs.Model.{obligation_name}
 use Rattle.meaning.specs.Reading.{word_of, Sofar, lowest, nearest_obligations, may_have_obligations, well_followed, obligation_of, obligation_tests}
 use Rattle.laws.proofs.Types.{Kind, set, policy, rule, Element}
 use Rattle.laws.proofs.Bools.{eqb_same}
-use Rattle.syntax.specs.Fields.{number_of_word}
-use Rattle.syntax.proofs.Fields.{no_word}
-use Rattle.std.specs.Prelude.{Option, Some, None}
+use Rattle.std.specs.Prelude.{Some, None}
+use Rattle.std.specs.Prelude.{Option as Found}
 use Rattle.std.specs.Option.{option_eq}
 use Rattle.layout.specs.declared.Tree.{Tree}
 use Rattle.layout.specs.Nearest.{nearest, Stands}
@@ -26,17 +27,17 @@ use Rattle.attribute_lines.proofs.ObligationShape.{stored_test}
 use Rattle.obligation_lines.specs.Obligations.{last_obligations, Follows, ObligationRefusal}
 
 -- the number that they give, by what was found of the name, of what stands before, and of the word
-abbrev pub first_found : (named known followed : Bool) (word : ℕ) → ℕ
-first_found named known followed word = lowest ((3, not named) ∷ (4, known) ∷ (14, not followed) ∷ (7, eqb word 6) ∷ [])
+abbrev pub first_found : (named known followed : Bool) → Option Word → ℕ
+first_found named known followed word = lowest ((3, not named) ∷ (4, known) ∷ (14, not followed) ∷ (7, is_none word) ∷ [])
 
 -- a rule may have none
-abbrev pub rule_found : Option Kind → Bool
+abbrev pub rule_found : Found Kind → Bool
 rule_found None = false
 rule_found (Some set) = false
 rule_found (Some policy) = false
 rule_found (Some rule) = true
 
-pub rule_told : (same : Kind → Kind → Bool) → same set rule ≡ false → same policy rule ≡ false → same rule rule ≡ true → (o : Option Kind) {r : Bool} → r ≡ option_eq same o (Some rule) → rule_found o ≡ r
+pub rule_told : (same : Kind → Kind → Bool) → same set rule ≡ false → same policy rule ≡ false → same rule rule ≡ true → (o : Found Kind) {r : Bool} → r ≡ option_eq same o (Some rule) → rule_found o ≡ r
 rule_told same a b c None e = sym e
 rule_told same a b c (Some set) e = sym (e ∙ a)
 rule_told same a b c (Some policy) e = sym (e ∙ b)
@@ -52,11 +53,11 @@ module _ (f : Bytes) (places : List ℕ) (tree : Tree) (fs : List Bytes) where
   last_names = map obligation_name (last_obligations f places tree.len)
 
   abbrev pub found : Bool → ℕ
-  found followed = first_found (is_name (get_or fs 1 [])) (among_names (get_or fs 1 []) last_names) followed (number_of_word (word_of rule (get_or fs 2 [])))
+  found followed = first_found (is_name (get_or fs 1 [])) (among_names (get_or fs 1 []) last_names) followed (word_of rule (get_or fs 2 []))
 
   tests_found : (s : Sofar) → Follows f places tree s → lowest (obligation_tests s (get_or fs 2 []) (obligation_of (get_or fs 1 []) (get_or fs 2 []))) ≡ found (well_followed s.before)
   tests_found s follows =
-      rw (stored_test (get_or fs 1 []), take-append_seam (get_or fs 1 []) (replicate (16 - length (get_or fs 1 [])) 0), follows.obligations, no_word (word_of rule (get_or fs 2 [])))
+      rw (stored_test (get_or fs 1 []), take-append_seam (get_or fs 1 []) (replicate (16 - length (get_or fs 1 [])) 0), follows.obligations)
 
   -- whether one may follow: by the kind of the nearest element and its count
   pub none_followed : tree.len ≡ 0 → (es : List Element) → Stands tree es → well_followed es ≡ false
@@ -95,7 +96,7 @@ module _ (f : Bytes) (places : List ℕ) (tree : Tree) (fs : List Bytes) where
       known_name known = refuses 4 (omega arith) (λ s h. rw (named, last_names_lem, known))
 
       module _ (fresh : among_names (get_or fs 1 []) (map obligation_name (obligations_in f places (tree.len - 1))) ≡ false) (shallow : tree.depth ≤ 7) where
-        by_followed : (s : Sofar) → Follows f places tree s → found (well_followed s.before) ≡ lowest ((14, not (not (rule_found (get_or tree.kinds tree.depth None)) && ltb (obligation_count places (tree.len - 1)) 2)) ∷ (7, eqb (number_of_word (word_of rule (get_or fs 2 []))) 6) ∷ [])
+        by_followed : (s : Sofar) → Follows f places tree s → found (well_followed s.before) ≡ lowest ((14, not (not (rule_found (get_or tree.kinds tree.depth None)) && ltb (obligation_count places (tree.len - 1)) 2)) ∷ (7, is_none (word_of rule (get_or fs 2 []))) ∷ [])
         by_followed s h = rw (named, last_names_lem, fresh, followed some shallow s.before h.stands h.obligations)
 
         pub behind_rule : rule_found (get_or tree.kinds tree.depth None) ≡ true → Answer 14
@@ -106,11 +107,11 @@ module _ (f : Bytes) (places : List ℕ) (tree : Tree) (fs : List Bytes) where
           third full = refuses 14 (omega arith) (λ s h. by_followed s h ∙ rw (other, le-ltb _ 2 full))
 
           module _ (free : obligation_count places (tree.len - 1) < 2) where
-            by_word : (s : Sofar) → Follows f places tree s → found (well_followed s.before) ≡ lowest ((7, eqb (number_of_word (word_of rule (get_or fs 2 []))) 6) ∷ [])
+            by_word : (s : Sofar) → Follows f places tree s → found (well_followed s.before) ≡ lowest ((7, is_none (word_of rule (get_or fs 2 []))) ∷ [])
             by_word s h = by_followed s h ∙ rw (other, lt-ltb _ 2 free)
 
-            pub bad_word : number_of_word (word_of rule (get_or fs 2 [])) ≡ 6 → Answer 7
-            bad_word bad = refuses 7 (omega arith) (λ s h. by_word s h ∙ rw (eq-eqb _ 6 bad))
+            pub bad_word : is_none (word_of rule (get_or fs 2 [])) ≡ true → Answer 7
+            bad_word bad = refuses 7 (omega arith) (λ s h. by_word s h ∙ rw bad)
 
-            pub good_obligation : number_of_word (word_of rule (get_or fs 2 [])) ≢ 6 → Answer 0
-            good_obligation good = record { is_lowest = λ s h. sym (tests_found s h ∙ by_word s h ∙ rw (ne_eqb _ 6 good)); some = λ z. omega arith; free = λ z. free }
+            pub good_obligation : is_none (word_of rule (get_or fs 2 [])) ≡ false → Answer 0
+            good_obligation good = record { is_lowest = λ s h. sym (tests_found s h ∙ by_word s h ∙ rw good); some = λ z. omega arith; free = λ z. free }

@@ -37,7 +37,7 @@ fn obligation_refusal(file: &[u8], places: &[usize], tree: Tree, line: &[u8]) ->
     if 2 <= layout::obligation_count(places, last) {
         return Err(Refusal::NoObligation);
     }
-    if syntax::word_number(Kind::Rule, fields::field(line, 2)) == 6 {
+    if syntax::word_of(Kind::Rule, fields::field(line, 2)).is_none() {
         return Err(Refusal::BadWord);
     }
     Ok(())

@@ -1,20 +1,23 @@
 -- Laws of the first field, the depth and the word of a tree line.
-use mathlib.Core.Path.{◌≡◌, refl}
+use Rattle.std.specs.Prelude.{Option as Found}
+use Rattle.std.specs.Option.{is_some}
+use mathlib.Core.Path.{◌≡◌, refl, sym, ap, ◌∙◌}
 use mathlib.Core.Logic.{◌≢◌}
 use Prim.Native.Nat.{◌-◌}
 use native.Mathlib.Omega.{arith}
-use mathlib.Core.Bool.{Bool, true, false, cond, and-false}
+use mathlib.Core.Bool.{Bool, true, false, cond, not, and-false}
 use mathlib.Core.List.{[], ◌∷◌}
 use mathlib.Core.Option.{Option, none, some}
 use lib.ListN.{length, get_or}
-use lib.Dec.{eqb}
-use Rattle.meaning.specs.Text.{Bytes, is_none, between, same}
-use Rattle.meaning.specs.Model.{letter_text, word_text}
-use Rattle.meaning.specs.Reading.{kind_of, attribute_letter, obligation_letter, depth_of, word_of}
-use Rattle.laws.proofs.Types.{Kind, set, policy, Word, deny_overrides, permit_overrides, first_applicable, only_one_applicable}
+use borrow.Author.Tests.{not-true, not-false}
+use Rattle.meaning.specs.Text.{Bytes, is_none, between}
+use Rattle.meaning.specs.Model.{letter_text}
+use Rattle.meaning.specs.Reading.{kind_of, attribute_letter, obligation_letter, depth_of}
+use Rattle.laws.proofs.Types.{Kind, Word}
 use Rattle.laws.proofs.Bools.{Test, passed, failed, test}
 use Rattle.laws.proofs.Lines.{letter_is}
-use Rattle.syntax.specs.Fields.{line_kind, number_of_word}
+use Rattle.laws.specs.Found.{found}
+use Rattle.syntax.specs.Fields.{line_kind}
 use Rattle.syntax.specs.declared.LineKind.{LineKind}
 
 -- First field: what each answer says of it
@@ -55,29 +58,7 @@ depth_other [] h = refl
 depth_other (x ∷ []) h = absurd (h refl)
 depth_other (x ∷ y ∷ ys) h = refl
 
--- Word: the words of a policy are those of a set but the last
-pub policy_number : (w : Bytes) → number_of_word (word_of policy w) ≡ cond (eqb (number_of_word (word_of set w)) 5) 6 (number_of_word (word_of set w))
-policy_number w = go (matching deny_overrides) (matching permit_overrides) (matching first_applicable) (matching only_one_applicable)
-  where
-    matching : Word → Bool
-    matching x = same (word_text x) w
-
-    go : (a b c d : Bool)
-        → let later = cond c (some first_applicable) (cond d (some only_one_applicable) none) in
-        let n = number_of_word (cond a (some deny_overrides) (cond b (some permit_overrides) later)) in
-        number_of_word (cond a (some deny_overrides) (cond b (some permit_overrides) (cond c (some first_applicable) none))) ≡ cond (eqb n 5) 6 n
-    go true b c d = refl
-    go false true c d = refl
-    go false false true d = refl
-    go false false false true = refl
-    go false false false false = refl
-
--- a word is not allowed exactly where its number is 6
-pub no_word : (o : Option Word) → is_none o ≡ eqb (number_of_word o) 6
-no_word (some Word.Permit) = refl
-no_word (some Word.Deny) = refl
-no_word (some deny_overrides) = refl
-no_word (some permit_overrides) = refl
-no_word (some first_applicable) = refl
-no_word (some only_one_applicable) = refl
-no_word none = refl
+-- Word: whether none was found
+pub no_word : (o : Option Word) {r : Found Word} {b : Bool} → r ≡ found o → is_some r ≡ not b → is_none o ≡ b
+no_word none {b = b} e h = sym (not-false b (sym h ∙ ap is_some e))
+no_word (some w) {b = b} e h = sym (not-true b (sym h ∙ ap is_some e))

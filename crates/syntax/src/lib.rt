@@ -4,9 +4,10 @@
 ghost use Rattle.std.specs.Prelude.{◌≡◌, [], ◌∷◌, map, ◌^◌, ◌≤◌, length};
 ghost use Rattle.meaning.specs.Text.{same, cut, tab, comma};
 ghost use Rattle.meaning.specs.Reading.{depth_of, word_of, mask_of, target_of, or_empty};
-ghost use Rattle.syntax.specs.Fields.{spelt, line_kind, number_of_word};
+ghost use Rattle.laws.specs.Found.{found};
+ghost use Rattle.syntax.specs.Fields.{spelt, line_kind};
 
-use meaning::Kind;
+use meaning::{Kind, Word};
 
 // A line by its first field; an attribute line with whether its attribute takes several values in a request.
 #[derive(Clone, Copy)]
@@ -17,29 +18,19 @@ pub enum LineKind {
     Other,
 }
 
-// A line by its letter. Most lines are those of rules, so their letter is tried first.
+// A line by its letter.
 fn letter_kind(letter: u8) -> LineKind
     ensures { result ≡ line_kind (letter ∷ []) }
 {
-    if letter == b'R' {
-        return LineKind::Tree(Kind::Rule);
+    match letter {
+        b'R' => LineKind::Tree(Kind::Rule),
+        b'P' => LineKind::Tree(Kind::Policy),
+        b'S' => LineKind::Tree(Kind::Set),
+        b'A' => LineKind::Attribute(false),
+        b'M' => LineKind::Attribute(true),
+        b'O' => LineKind::Obligation,
+        _ => LineKind::Other,
     }
-    if letter == b'P' {
-        return LineKind::Tree(Kind::Policy);
-    }
-    if letter == b'S' {
-        return LineKind::Tree(Kind::Set);
-    }
-    if letter == b'A' {
-        return LineKind::Attribute(false);
-    }
-    if letter == b'M' {
-        return LineKind::Attribute(true);
-    }
-    if letter == b'O' {
-        return LineKind::Obligation;
-    }
-    LineKind::Other
 }
 
 pub fn line_kind(first: &[u8]) -> LineKind
@@ -69,60 +60,50 @@ pub fn depth_of(f: &[u8]) -> usize
     (b - b'0') as usize
 }
 
-// The number of a rule's effect.
-fn effect_number(w: &[u8]) -> usize
-    ensures value { result ≡ number_of_word (word_of Kind.Rule w.now) }
-    ensures within { result ≤ 6 }
+// The effect that a rule's word names.
+fn effect_of(w: &[u8]) -> Option<Word>
+    ensures { result ≡ found (word_of Kind.Rule w.now) }
 {
     if comparing::same(b"permit", w) {
-        return 0;
+        return Some(Word::Permit);
     }
     if comparing::same(b"deny", w) {
-        return 1;
+        return Some(Word::Deny);
     }
-    6
+    None
 }
 
-// The number of a set's algorithm.
-fn algorithm_number(w: &[u8]) -> usize
-    ensures value { result ≡ number_of_word (word_of Kind.Set w.now) }
-    ensures within { result ≤ 6 }
+// The algorithm that a set's word names.
+fn algorithm_of(w: &[u8]) -> Option<Word>
+    ensures { result ≡ found (word_of Kind.Set w.now) }
 {
     if comparing::same(b"deny-overrides", w) {
-        return 2;
+        return Some(Word::DenyOverrides);
     }
     if comparing::same(b"permit-overrides", w) {
-        return 3;
+        return Some(Word::PermitOverrides);
     }
     if comparing::same(b"first-applicable", w) {
-        return 4;
+        return Some(Word::FirstApplicable);
     }
     if comparing::same(b"only-one-applicable", w) {
-        return 5;
+        return Some(Word::OnlyOneApplicable);
     }
-    6
+    None
 }
 
-// The number of a word; 6 where it is not allowed for its kind.
-pub fn word_number(kind: Kind, w: &[u8]) -> usize
-    ensures value { result ≡ number_of_word (word_of kind w.now) }
-    ensures within { result ≤ 6 }
+// The word that a field names, if its kind may have it.
+pub fn word_of(kind: Kind, w: &[u8]) -> Option<Word>
+    ensures { result ≡ found (word_of kind w.now) }
 {
     match kind {
-        Kind::Rule => {
-            return effect_number(w);
-        }
-        Kind::Set => {
-            return algorithm_number(w);
-        }
-        Kind::Policy => {
-            let n = algorithm_number(w);
+        Kind::Rule => effect_of(w),
+        Kind::Set => algorithm_of(w),
+        Kind::Policy => match algorithm_of(w) {
             // only-one-applicable is for sets
-            if n == 5 {
-                return 6;
-            }
-            return n;
-        }
+            Some(Word::OnlyOneApplicable) => None,
+            word => word,
+        },
     }
 }
 

@@ -3,8 +3,7 @@ use mathlib.Core.Path.{ap, ◌∙◌}
 use native.Mathlib.Omega.{arith}
 use Prim.Native.Nat.{◌*◌}
 use lib.ListN.{length}
-use Rattle.meaning.specs.Reading.{depth_of, word_of}
-use Rattle.syntax.specs.Fields.{number_of_word}
+use Rattle.meaning.specs.Reading.{depth_of}
 use Rattle.layout.specs.Nearest.{grown}
 use Rattle.element_lines.proofs.TreeLines.{same_row, same_end}
 use Rattle.element_lines.proofs.lay_line.Goals as goal
@@ -24,11 +23,10 @@ pub returns : goal.returns
 returns c =
     let args = c.args in
     let depth = c.depth_of-depth.ensures.value ∙ ap depth_of c.depth_field.ensures in
-    let word = c.word_number-word.ensures.value ∙ ap (λ w. number_of_word (word_of args.kind w)) c.word_field.ensures in
     let laid = c.put_element.ensures in
     let tree = c.with_element-tree.ensures ∙ ap (grown args.st.tree args.kind) depth in
     record {
       value = rw tree;
-      table_after = laid.table_after ∙ same_row args.table.now args.st.tree.len word depth args.masks;
+      table_after = laid.table_after ∙ same_row args.table.now args.st.tree.len c.number_of.ensures depth args.masks;
       places_after = laid.places_after ∙ same_end args.places.now (2 * args.st.tree.len) args.st.at c.name_field-name.ensures;
     }

@@ -25,39 +25,39 @@ pub field_ends-e-requires : goal.field_ends-e-requires
 field_ends-e-requires c =
     omega (arith, c.requires.2.count)
 
-pub element_refusal-requires : goal.element_refusal-requires
-element_refusal-requires c =
+pub element_word-requires : goal.element_word-requires
+element_word-requires c =
     let pre = c.requires in
     (pre.0.rooms.named, pre.0.in_file.shallow, c.field_ends-e.ensures.headed, (_, behind pre.0))
 
-pub returns-in_err-element_refusal : goal.returns-in_err-element_refusal
-returns-in_err-element_refusal c =
+pub returns-in_err-word : goal.returns-in_err-word
+returns-in_err-word c =
     let pre = c.requires in
-    let same : c.from_residual.result ≡ Err c.in_err-element_refusal.field-0.0 = search rules in
-    rw same (earlier_told _ _ _ _ _ _ _ pre.0 pre.1 pre.2 c.if-fields-attributes.false _ (c.in_err-element_refusal.ensures _ (behind pre.0)))
+    let same : c.from_residual.result ≡ Err c.in_err-word.field-0.0 = search rules in
+    rw same (earlier_told _ _ _ _ _ _ _ pre.0 pre.1 pre.2 c.if-fields-attributes.false _ (c.in_err-word.ensures.refusal _ (behind pre.0)))
 
 pub line_masks-requires : goal.line_masks-requires
 line_masks-requires c =
     let pre = c.requires in
-    let passed = sym (c.in_ok-element_refusal.ensures _ (behind pre.0)) in
+    let passed = sym (c.in_ok-word.ensures.refusal _ (behind pre.0)) in
     let attributes = pre.0.in_file.attributes in
     (attributes.standing, attributes.few_values, some_attribute _ _ _ _ _ _ _ pre.0 pre.1 pre.2 c.if-fields-attributes.false passed, sym pre.2.count ∙ c.if-fields-attributes.false, c.field_ends-e.ensures.headed)
 
 pub returns-in_default : goal.returns-in_default
 returns-in_default c =
     let pre = c.requires in
-    let passed = sym (c.in_ok-element_refusal.ensures _ (behind pre.0)) in
+    let passed = sym (c.in_ok-word.ensures.refusal _ (behind pre.0)) in
     targets_told _ _ _ _ _ _ _ pre.0 pre.1 pre.2 c.if-fields-attributes.false passed (sym c.in_default.ensures)
 
 pub lay_line-requires : goal.lay_line-requires
 lay_line-requires c =
     let pre = c.requires in
-    let passed = sym (c.in_ok-element_refusal.ensures _ (behind pre.0)) in
+    let passed = sym (c.in_ok-word.ensures.refusal _ (behind pre.0)) in
     (room_there _ _ _ _ _ _ _ pre.0 pre.1 pre.2 c.if-fields-attributes.false passed (omega (arith, pre.1.ends)), c.field_ends-e.ensures.headed)
 
 pub returns : goal.returns
 returns c =
     let pre = c.requires in
-    let passed = sym (c.in_ok-element_refusal.ensures _ (behind pre.0)) in
+    let passed = sym (c.in_ok-word.ensures.refusal _ (behind pre.0)) in
     let put = c.lay_line.ensures in
-    tree_told _ _ _ _ _ _ _ pre.0 pre.1 pre.2 c.if-fields-attributes.false passed _ _ _ _ (sym c.in-Some.ensures) put.value put.table_after put.places_after
+    tree_told _ _ _ _ _ _ _ pre.0 pre.1 pre.2 c.if-fields-attributes.false passed _ _ _ _ _ c.in_ok-word.ensures.word (sym c.in-Some.ensures) put.value put.table_after put.places_after

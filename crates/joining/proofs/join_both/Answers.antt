@@ -1,5 +1,6 @@
 -- `join_both`: the first line that differs, a bad word, a text that is too long, or what reading it and the buffer say. Assumes nothing.
 use native.Mathlib.Omega.{arith}
+use Rattle.syntax.proofs.Fields.{no_word}
 use Rattle.joining.proofs.Starts.{joinable}
 use Rattle.joining.proofs.Told.{laid_part, short_word, differs_told, no_word_told, too_long_told, text_joined}
 use Rattle.joining.proofs.join_both.Goals as goal
@@ -10,20 +11,20 @@ returns-then-line-ne0 c =
     let both = differs_told args.word.now args.first.now args.second.now args.a args.b args.from args.other c.requires.0 c.requires.1 _ c.first_differing-line.ensures.value args.out.now c.if-line-ne0.true in
     record { value = both.0; out_after = both.1 }
 
-pub returns-then-word_number-eq6 : goal.returns-then-word_number-eq6
-returns-then-word_number-eq6 c =
+pub returns-then-is_none : goal.returns-then-is_none
+returns-then-is_none c =
     let args = c.args in
-    let both = no_word_told args.word.now args.first.now args.second.now args.a args.b args.from args.other c.requires.0 c.requires.1 _ c.first_differing-line.ensures.value args.out.now c.if-line-ne0.false _ c.word_number.ensures.value c.if-word_number-eq6.true _ c.places_in-joined.ensures.value in
+    let both = no_word_told args.word.now args.first.now args.second.now args.a args.b args.from args.other c.requires.0 c.requires.1 _ c.first_differing-line.ensures.value args.out.now c.if-line-ne0.false (no_word _ c.word_of.ensures c.is_none.ensures) c.if-is_none.true _ c.places_in-joined.ensures.value in
     record { value = both.0; out_after = both.1 }
 
 pub put_joined-needed-requires : goal.put_joined-needed-requires
 put_joined-needed-requires c =
-    (joinable _ _ _ c.requires.0, joinable _ _ _ c.requires.1, short_word c.args.word.now _ c.word_number.ensures.value c.if-word_number-eq6.false)
+    (joinable _ _ _ c.requires.0, joinable _ _ _ c.requires.1, short_word c.args.word.now (no_word _ c.word_of.ensures c.is_none.ensures) c.if-is_none.false)
 
 pub returns-then-needed-gt16384 : goal.returns-then-needed-gt16384
 returns-then-needed-gt16384 c =
     let args = c.args in
-    let both = too_long_told args.word.now args.first.now args.second.now args.a args.b args.from args.other c.requires.0 c.requires.1 _ c.first_differing-line.ensures.value args.out.now c.if-line-ne0.false _ c.word_number.ensures.value c.if-word_number-eq6.false c.put_joined-needed.ensures c.if-needed-gt16384.true in
+    let both = too_long_told args.word.now args.first.now args.second.now args.a args.b args.from args.other c.requires.0 c.requires.1 _ c.first_differing-line.ensures.value args.out.now c.if-line-ne0.false (no_word _ c.word_of.ensures c.is_none.ensures) c.if-is_none.false c.put_joined-needed.ensures c.if-needed-gt16384.true in
     record { value = both.0; out_after = both.1 }
 
 pub slice_bounds-accept-end : goal.slice_bounds-accept-end
@@ -35,5 +36,5 @@ accept-requires c = omega (arith, laid_part c.put_joined-needed.ensures (omega (
 pub returns : goal.returns
 returns c =
     let args = c.args in
-    let both = text_joined args.word.now args.first.now args.second.now args.a args.b args.from args.other c.requires.0 c.requires.1 _ c.first_differing-line.ensures.value args.out.now c.if-line-ne0.false _ c.word_number.ensures.value c.if-word_number-eq6.false c.put_joined-needed.ensures (omega (arith, c.if-needed-gt16384.false)) c.accept.ensures in
+    let both = text_joined args.word.now args.first.now args.second.now args.a args.b args.from args.other c.requires.0 c.requires.1 _ c.first_differing-line.ensures.value args.out.now c.if-line-ne0.false (no_word _ c.word_of.ensures c.is_none.ensures) c.if-is_none.false c.put_joined-needed.ensures (omega (arith, c.if-needed-gt16384.false)) c.accept.ensures in
     record { value = both.0; out_after = both.1 }
