@@ -26,10 +26,8 @@ fn match_one(table: &[u16], n: usize, q: Request, hits: &mut [u64])
     requires { Rows table.now n × (64 * n ≤ length hits.old) × (q.len ≤ 6) }
     ensures { Answers table.now hits.new n 0 0 (matches (severals_of q) (values_of q)) × (length hits.new ≡ length hits.old) }
 {
-    let mut i = 0;
-    while i < n {
+    for i in 0..n {
         hits[64 * i] = bit_of(table::matches(table, i, q));
-        i += 1;
     }
 }
 

@@ -15,12 +15,7 @@ fn close_gap(text: &mut [u8], start: usize, end: usize)
     requires { (start ≤ end) × (end ≤ length text.old) }
     ensures { text.new ≡ closed text.old start end }
 {
-    let moved = text.len() - end;
-    let mut j = 0;
-    while j < moved {
-        text[start + j] = text[end + j];
-        j += 1;
-    }
+    text.copy_within(end.., start);
 }
 
 // Strikes the rule that trimming would strike next, in place; where no rule is needless the text stays.

@@ -38,12 +38,10 @@ fn differ_any(first: &[u8], a: Attributes, second: &[u8], b: Attributes, j: usiz
     ensures { result ≡ any (differs (attribute_at second.now b j)) (attributes_of first.now a) }
 {
     let len = a.len;
-    let mut i = 0;
-    while i < len {
+    for i in 0..len {
         if differ(first, a, i, second, b, j) {
             return true;
         }
-        i += 1;
     }
     false
 }
@@ -55,12 +53,10 @@ pub fn first_differing(first: &[u8], a: Attributes, second: &[u8], b: Attributes
     ensures within { result ≤ 6 }
 {
     let len = b.len;
-    let mut j = 0;
-    while j < len {
+    for j in 0..len {
         if differ_any(first, a, second, b, j) {
             return j + 1;
         }
-        j += 1;
     }
     0
 }
@@ -97,10 +93,8 @@ fn of_first(first: &[u8], a: Attributes, own: &[u8], c: Attributes) -> Placing
         places: [0; 12],
         len: 0,
     };
-    let mut i = 0;
-    while i < len {
+    for i in 0..len {
         p = with_place(p, place_in(own, c, a.name(first, i)));
-        i += 1;
     }
     p
 }
@@ -120,15 +114,12 @@ pub fn places_in(
 {
     let len = b.len;
     let mut p = of_first(first, a, own, c);
-    let mut j = 0;
-    while j < len {
+    for j in 0..len {
         let name = b.name(second, j);
         if layout::known_attribute(first, a, name) {
-            j += 1;
             continue;
         }
         p = with_place(p, place_in(own, c, name));
-        j += 1;
     }
     p
 }

@@ -4,14 +4,14 @@ use mathlib.Core.Bool.{true, false, not, cond}
 use mathlib.Core.List.{List, [], ◌∷◌, ◌++◌}
 use Prim.Native.Nat.{ℕ, zero, suc, ◌+◌, ◌-◌, ◌≤◌}
 use native.Mathlib.Omega.{arith}
-use lib.ListN.{length, get_or, replicate, length-append}
+use lib.ListN.{length, replicate, length-append}
 use Rattle.meaning.specs.Text.{Bytes, bytes, keep, gathered, counting, cut, tab, newline, line}
 use Rattle.meaning.specs.Model.{Attribute, letter_text, attribute_fields}
 use Rattle.meaning.specs.Joining.{declared}
 use Rattle.laws.proofs.Text.{Some, one_or_more, cut_some, join_cut}
 use Rattle.laws.proofs.Lists.{gathered_keep}
 use Rattle.layout.specs.declared.Attributes.{Attributes}
-use Rattle.layout.specs.Places.{part, place_at, values_in, attribute_at, attributes_from, attributes_of, Standing}
+use Rattle.layout.specs.Places.{place_at, values_in, attribute_at, attributes_from, attributes_of, Standing}
 use Rattle.attribute_lines.proofs.Parts.{part_length}
 use Rattle.printing.specs.Wrote.{Wrote}
 use Rattle.printing.proofs.Laws.{then, line_next, line_behind}

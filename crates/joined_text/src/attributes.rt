@@ -37,10 +37,8 @@ pub(crate) fn put_attributes(file: &[u8], a: Attributes, out: &mut [u8], at: usi
 {
     let len = a.len;
     let mut end = at;
-    let mut i = 0;
-    while i < len {
+    for i in 0..len {
         end = put_attribute(file, a, i, out, end);
-        i += 1;
     }
     end
 }
@@ -59,14 +57,11 @@ pub(crate) fn put_alone(
 {
     let len = b.len;
     let mut end = at;
-    let mut j = 0;
-    while j < len {
+    for j in 0..len {
         if layout::known_attribute(first, a, b.name(second, j)) {
-            j += 1;
             continue;
         }
         end = put_attribute(second, b, j, out, end);
-        j += 1;
     }
     end
 }
@@ -77,10 +72,8 @@ fn put_stars(n: usize, out: &mut [u8], at: usize) -> usize
     ensures { Wrote out.old at (gathered (λ t. tab ∷ t) (replicate n (bytes "*"))) out.new result × (result ≤ at + 2 * n) }
 {
     let mut end = at;
-    let mut i = 0;
-    while i < n {
+    for _i in 0..n {
         end = printing::put_bytes(out, end, b"\t*");
-        i += 1;
     }
     end
 }

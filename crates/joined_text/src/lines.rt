@@ -28,10 +28,8 @@ fn put_targets(targets: &[u8], p: Placing, n: usize, out: &mut [u8], at: usize) 
     let places = p.places;
     let len = p.len;
     let mut end = at;
-    let mut i = 0;
-    while i < len {
+    for i in 0..len {
         end = put_target(targets, places[i], n, out, end);
-        i += 1;
     }
     end
 }

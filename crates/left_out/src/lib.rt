@@ -39,20 +39,17 @@ pub fn leave_out(
         return false;
     }
     let mut at = first;
-    let mut i = 0;
-    while i < n {
+    for i in 0..n {
         let start = places[2 * i];
         let end = trimmed_text::lines_end(file, places, n, i);
         if begins(proposal, at, file, start, end) {
             at += end - start;
-            i += 1;
             continue;
         }
         match table::word_at(table, i) {
             Word::Permit | Word::Deny => struck[i] = 1,
             _ => return false,
         }
-        i += 1;
     }
     at == proposal.len()
 }

@@ -34,12 +34,10 @@ pub fn put_text(file: &[u8], places: &[usize], struck: &[u8], n: usize, out: &mu
 {
     let first = places[0];
     let mut at = printing::put_bytes(out, 0, &file[0..first]);
-    let mut i = 0;
-    while i < n {
+    for i in 0..n {
         let start = places[2 * i];
         let end = piece_end(file, places, struck, n, i);
         at = printing::put_bytes(out, at, &file[start..end]);
-        i += 1;
     }
     at
 }

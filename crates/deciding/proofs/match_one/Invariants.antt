@@ -1,5 +1,4 @@
 -- `match_one` meets its contract, an element at a time.
-use Prim.Native.Nat.{◌-◌, ◌≤◌}
 use mathlib.Core.Path.{◌≡◌}
 use lib.ListN.{length}
 use Rattle.meaning.specs.Deciding.{matches}
@@ -8,7 +7,4 @@ use Rattle.blocks.specs.Bits.{Answers}
 use Rattle.deciding.proofs.match_one.Given as goal
 
 abbrev pub invariant-loop-i : goal.invariant-loop-i
-invariant-loop-i l = (l.i ≤ l.n) × (length l.hits ≡ length l.initial.hits) × Answers l.table l.hits l.i 0 0 (matches (severals_of l.q) (values_of l.q))
-
-abbrev pub decreases-loop-i : goal.decreases-loop-i
-decreases-loop-i l = l.n - l.i
+invariant-loop-i l = (length l.hits ≡ length l.initial.hits) × Answers l.table l.hits l.i 0 0 (matches (severals_of l.q) (values_of l.q))

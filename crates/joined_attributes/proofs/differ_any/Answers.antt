@@ -2,7 +2,6 @@
 use mathlib.Core.Path.{sym, ap, ◌∙◌}
 use native.Mathlib.Nat.{sub-zero}
 use native.Mathlib.Omega.{arith}
-use borrow.Author.Rules.{rules}
 use Rattle.meaning.specs.Text.{any}
 use Rattle.meaning.specs.Joining.{differs}
 use Rattle.layout.specs.Places.{attribute_at}
@@ -10,7 +9,7 @@ use Rattle.layout.proofs.Names.{attributes_end, attributes_next}
 use Rattle.joined_attributes.proofs.differ_any.Goals as goal
 
 pub loop-i-init : goal.loop-i-init
-loop-i-init c = (search rules, rw sub-zero)
+loop-i-init c = rw sub-zero
 
 pub differ-requires : goal.differ-requires
 differ-requires c =
@@ -20,15 +19,15 @@ pub returns-then-differ : goal.returns-then-differ
 returns-then-differ c =
     let l = c.loop-i in
     let hit = sym c.differ.ensures ∙ c.if-differ.true in
-    sym (l.invariant.1 ∙ ap (any (differs (attribute_at c.args.second.now c.args.b c.args.j))) (attributes_next c.args.first.now c.args.a l.i (omega arith)) ∙ rw hit)
+    sym (l.invariant ∙ ap (any (differs (attribute_at c.args.second.now c.args.b c.args.j))) (attributes_next c.args.first.now c.args.a l.i (omega arith)) ∙ rw hit)
 
 pub loop-i-preserved : goal.loop-i-preserved
 loop-i-preserved c =
     let l = c.loop-i in
     let miss = sym c.differ.ensures ∙ c.if-differ.false in
-    (omega arith, l.invariant.1 ∙ ap (any (differs (attribute_at c.args.second.now c.args.b c.args.j))) (attributes_next c.args.first.now c.args.a l.i (omega arith)) ∙ rw miss)
+    l.invariant ∙ ap (any (differs (attribute_at c.args.second.now c.args.b c.args.j))) (attributes_next c.args.first.now c.args.a l.i (omega arith)) ∙ rw miss
 
 pub returns : goal.returns
 returns c =
     let l = c.loop-i in
-    sym (l.invariant.1 ∙ ap (any (differs (attribute_at c.args.second.now c.args.b c.args.j))) (attributes_end c.args.first.now c.args.a l.i (omega arith)))
+    sym (l.invariant ∙ ap (any (differs (attribute_at c.args.second.now c.args.b c.args.j))) (attributes_end c.args.first.now c.args.a l.i (omega arith)))

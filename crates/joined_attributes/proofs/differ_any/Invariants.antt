@@ -1,5 +1,5 @@
 -- `differ_any`: the loop keeps the answer, that of the attributes from `i` on. Assumes nothing.
-use Prim.Native.Nat.{◌-◌, ◌≤◌}
+use Prim.Native.Nat.{◌-◌}
 use mathlib.Core.Path.{◌≡◌}
 use Rattle.meaning.specs.Text.{any}
 use Rattle.meaning.specs.Joining.{differs}
@@ -7,7 +7,4 @@ use Rattle.layout.specs.Places.{attribute_at, attributes_from, attributes_of}
 use Rattle.joined_attributes.proofs.differ_any.Given as goal
 
 abbrev pub invariant-loop-i : goal.invariant-loop-i
-invariant-loop-i l = (l.i ≤ l.len) × (any (differs (attribute_at l.second l.b l.j)) (attributes_of l.first l.a) ≡ any (differs (attribute_at l.second l.b l.j)) (attributes_from l.first l.a l.i (l.len - l.i)))
-
-abbrev pub decreases-loop-i : goal.decreases-loop-i
-decreases-loop-i l = l.len - l.i
+invariant-loop-i l = any (differs (attribute_at l.second l.b l.j)) (attributes_of l.first l.a) ≡ any (differs (attribute_at l.second l.b l.j)) (attributes_from l.first l.a l.i (l.len - l.i))

@@ -13,7 +13,7 @@ use Rattle.joined_attributes.proofs.Differing.{found, passed_over}
 use Rattle.joined_attributes.proofs.first_differing.Goals as goal
 
 pub loop-j-init : goal.loop-j-init
-loop-j-init c = (search rules, rw sub-zero)
+loop-j-init c = rw sub-zero
 
 pub differ_any-requires : goal.differ_any-requires
 differ_any-requires c =
@@ -25,7 +25,7 @@ returns-then-differ_any c =
     let own = attributes_of c.args.first.now c.args.a in
     let next = attributes_next c.args.second.now c.args.b l.j (omega arith) in record {
       value = found own (l.j + 1) (attribute_at c.args.second.now c.args.b l.j) (attributes_from c.args.second.now c.args.b (l.j + 1) (c.args.b.len - (l.j + 1))) (sym c.differ_any.ensures ∙ c.if-differ_any.true)
-          ∙ sym (ap (place_or 0) (l.invariant.1 ∙ ap (first_differing own (l.j + 1)) next));
+          ∙ sym (ap (place_or 0) (l.invariant ∙ ap (first_differing own (l.j + 1)) next));
       within = omega (arith, c.requires.1.few);
     }
 
@@ -34,15 +34,13 @@ loop-j-preserved c =
     let l = c.loop-j in
     let own = attributes_of c.args.first.now c.args.a in
     let next = attributes_next c.args.second.now c.args.b l.j (omega arith) in
-    let rest = attributes_from c.args.second.now c.args.b (l.j + 1) (c.args.b.len - (l.j + 1)) in (
-      omega arith,
-      l.invariant.1 ∙ ap (first_differing own (l.j + 1)) next
-          ∙ passed_over own (l.j + 1) (attribute_at c.args.second.now c.args.b l.j) rest (sym c.differ_any.ensures ∙ c.if-differ_any.false)
-          ∙ ap (λ n. first_differing own n rest) (sym (add-one (l.j + 1))),
-    )
+    let rest = attributes_from c.args.second.now c.args.b (l.j + 1) (c.args.b.len - (l.j + 1)) in
+    l.invariant ∙ ap (first_differing own (l.j + 1)) next
+    ∙ passed_over own (l.j + 1) (attribute_at c.args.second.now c.args.b l.j) rest (sym c.differ_any.ensures ∙ c.if-differ_any.false)
+    ∙ ap (λ n. first_differing own n rest) (sym (add-one (l.j + 1)))
 
 pub returns : goal.returns
 returns c =
     let l = c.loop-j in
     let own = attributes_of c.args.first.now c.args.a in
-    record { value = sym (ap (place_or 0) (l.invariant.1 ∙ ap (first_differing own (l.j + 1)) (attributes_end c.args.second.now c.args.b l.j (omega arith)))); within = search rules }
+    record { value = sym (ap (place_or 0) (l.invariant ∙ ap (first_differing own (l.j + 1)) (attributes_end c.args.second.now c.args.b l.j (omega arith)))); within = search rules }

@@ -1,12 +1,9 @@
 -- `first_differing`: the loop keeps the answer, that of the second file's attributes from `j` on. Assumes nothing.
-use Prim.Native.Nat.{◌+◌, ◌-◌, ◌≤◌}
+use Prim.Native.Nat.{◌+◌, ◌-◌}
 use mathlib.Core.Path.{◌≡◌}
 use Rattle.meaning.specs.Joining.{first_differing}
 use Rattle.layout.specs.Places.{attributes_from, attributes_of}
 use Rattle.joined_attributes.proofs.first_differing.Given as goal
 
 abbrev pub invariant-loop-j : goal.invariant-loop-j
-invariant-loop-j l = (l.j ≤ l.len) × (first_differing (attributes_of l.first l.a) 1 (attributes_of l.second l.b) ≡ first_differing (attributes_of l.first l.a) (l.j + 1) (attributes_from l.second l.b l.j (l.len - l.j)))
-
-abbrev pub decreases-loop-j : goal.decreases-loop-j
-decreases-loop-j l = l.len - l.j
+invariant-loop-j l = first_differing (attributes_of l.first l.a) 1 (attributes_of l.second l.b) ≡ first_differing (attributes_of l.first l.a) (l.j + 1) (attributes_from l.second l.b l.j (l.len - l.j))

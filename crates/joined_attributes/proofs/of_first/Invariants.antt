@@ -1,12 +1,8 @@
 -- `of_first`: the loop keeps the list of the places so far. Assumes nothing.
-use Prim.Native.Nat.{◌-◌, ◌≤◌}
 use mathlib.Core.Path.{◌≡◌}
 use Rattle.layout.specs.Places.{attributes_from, attributes_of}
 use Rattle.joined_attributes.specs.Placing.{listed, places_in}
 use Rattle.joined_attributes.proofs.of_first.Given as goal
 
 abbrev pub invariant-loop-i : goal.invariant-loop-i
-invariant-loop-i l = (l.i ≤ l.len) × (l.p ≡ listed (places_in (attributes_of l.own l.c) (attributes_from l.first l.a 0 l.i)))
-
-abbrev pub decreases-loop-i : goal.decreases-loop-i
-decreases-loop-i l = l.len - l.i
+invariant-loop-i l = l.p ≡ listed (places_in (attributes_of l.own l.c) (attributes_from l.first l.a 0 l.i))

@@ -2,7 +2,6 @@
 -- Assumes nothing.
 use mathlib.Core.Path.{◌≡◌, sym, ap, ◌∙◌}
 use native.Mathlib.Omega.{arith}
-use borrow.Author.Rules.{rules}
 use Rattle.meaning.specs.Joining.{declared, both, place_in}
 use Rattle.layout.specs.Places.{attributes_from, attributes_of}
 use Rattle.layout.proofs.Laws.{attributes_length}
@@ -12,7 +11,7 @@ use Rattle.joined_attributes.proofs.places_in.Goals as goal
 
 pub loop-j-init : goal.loop-j-init
 loop-j-init c =
-    (search rules, first_listed c.args.second.now c.args.b (attributes_of c.args.own.now c.args.c) (attributes_of c.args.first.now c.args.a) c.of_first-p.ensures)
+    first_listed c.args.second.now c.args.b (attributes_of c.args.own.now c.args.c) (attributes_of c.args.first.now c.args.a) c.of_first-p.ensures
 
 pub name-name-requires : goal.name-name-requires
 name-name-requires c =
@@ -23,7 +22,7 @@ loop-j-preserved-then-known_attribute c =
     let l = c.loop-j in
     let first = attributes_of c.args.first.now c.args.a in
     let known = sym (c.known_attribute.ensures ∙ ap (declared first) c.name-name.ensures) ∙ c.if-known_attribute.true in
-    (omega arith, known_passed c.args.second.now c.args.b (attributes_of c.args.own.now c.args.c) first l.j known l.invariant.1)
+    known_passed c.args.second.now c.args.b (attributes_of c.args.own.now c.args.c) first l.j known l.invariant
 
 pub with_place-p-requires : goal.with_place-p-requires
 with_place-p-requires c =
@@ -32,7 +31,7 @@ with_place-p-requires c =
       arith,
       c.requires.0.few,
       c.requires.1.few,
-      ap (λ p. p.len) l.invariant.1,
+      ap (λ p. p.len) l.invariant,
       attributes_length c.args.first.now c.args.a,
       both_count c.args.second.now c.args.b (attributes_of c.args.own.now c.args.c) (attributes_of c.args.first.now c.args.a) l.j,
     )
@@ -45,14 +44,14 @@ loop-j-preserved c =
     let own = attributes_of c.args.own.now c.args.c in
     let alone = sym (c.known_attribute.ensures ∙ ap (declared first) name) ∙ c.if-known_attribute.false in
     let place = c.place_in.ensures ∙ ap (place_in own) name in
-    (omega arith, c.with_place-p.ensures ∙ alone_listed c.args.second.now c.args.b own first l.j (omega (arith, c.requires.0.few, c.requires.1.few, attributes_length c.args.first.now c.args.a)) alone place l.invariant.1)
+    c.with_place-p.ensures ∙ alone_listed c.args.second.now c.args.b own first l.j (omega (arith, c.requires.0.few, c.requires.1.few, attributes_length c.args.first.now c.args.a)) alone place l.invariant
 
 pub returns : goal.returns
 returns c =
     let l = c.loop-j in
     let first = attributes_of c.args.first.now c.args.a in
     let own = attributes_of c.args.own.now c.args.c in
-    let all : l.j ≡ c.args.b.len = omega arith in record { value = l.invariant.1 ∙ ap (λ n. listed (places_in own (both first (attributes_from c.args.second.now c.args.b 0 n)))) all; within = omega (arith, c.requires.0.few, c.requires.1.few, ap (λ p. p.len) l.invariant.1, attributes_length c.args.first.now c.args.a, both_count c.args.second.now c.args.b own first l.j) }
+    let all : l.j ≡ c.args.b.len = omega arith in record { value = l.invariant ∙ ap (λ n. listed (places_in own (both first (attributes_from c.args.second.now c.args.b 0 n)))) all; within = omega (arith, c.requires.0.few, c.requires.1.few, ap (λ p. p.len) l.invariant, attributes_length c.args.first.now c.args.a, both_count c.args.second.now c.args.b own first l.j) }
 
 pub of_first-p-requires : goal.of_first-p-requires
 of_first-p-requires c = (c.requires.0, c.requires.2)

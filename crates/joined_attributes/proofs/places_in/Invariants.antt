@@ -1,6 +1,5 @@
 -- `places_in`: the loop keeps the list of the places so far: of the first file's attributes, and of those alone behind them.
 -- Assumes nothing.
-use Prim.Native.Nat.{◌-◌, ◌≤◌}
 use mathlib.Core.Path.{◌≡◌}
 use Rattle.meaning.specs.Joining.{both}
 use Rattle.layout.specs.Places.{attributes_from, attributes_of}
@@ -8,7 +7,4 @@ use Rattle.joined_attributes.specs.Placing.{listed, places_in}
 use Rattle.joined_attributes.proofs.places_in.Given as goal
 
 abbrev pub invariant-loop-j : goal.invariant-loop-j
-invariant-loop-j l = (l.j ≤ l.len) × (l.p ≡ listed (places_in (attributes_of l.own l.c) (both (attributes_of l.first l.a) (attributes_from l.second l.b 0 l.j))))
-
-abbrev pub decreases-loop-j : goal.decreases-loop-j
-decreases-loop-j l = l.len - l.j
+invariant-loop-j l = l.p ≡ listed (places_in (attributes_of l.own l.c) (both (attributes_of l.first l.a) (attributes_from l.second l.b 0 l.j)))

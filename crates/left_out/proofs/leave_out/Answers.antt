@@ -25,14 +25,14 @@ loop-i-init c =
     let a = c.args in
     let matched = sym c.begins.ensures ∙ c.if-not-begins.false in
     let room = enough a.proposal.now a.file.now 0 0 (start_of a.places.now 0) (omega arith) (c.requires.0.inside 0 c.requires.0.some) matched in
-    (omega arith, omega (arith, room), refl, ap (λ m. leaving_from a.file.now a.places.now a.table.now a.n a.proposal.now m 0 (start_of a.places.now 0) a.struck.now) (sub-zero a.n))
+    (omega (arith, room), refl, ap (λ m. leaving_from a.file.now a.places.now a.table.now a.n a.proposal.now m 0 (start_of a.places.now 0) a.struck.now) (sub-zero a.n))
 
 pub begins-requires-in-loop-i : goal.begins-requires-in-loop-i
 begins-requires-in-loop-i c =
     let a = c.args in
     let (low, high) = lines_lie a.file.now a.places.now a.struck.now a.n c.requires.0 _ c.loop-i-test.true in
     let end = c.lines_end-end.ensures in
-    (c.loop-i.invariant.1, omega (arith, low, end), omega (arith, high, end))
+    (c.loop-i.invariant.0, omega (arith, low, end), omega (arith, high, end))
 
 pub overflow_sub-at : goal.overflow_sub-at
 overflow_sub-at c =
@@ -44,7 +44,7 @@ overflow_add-at c =
     let a = c.args in
     let end = c.lines_end-end.ensures in
     let high = (lines_lie a.file.now a.places.now a.struck.now a.n c.requires.0 _ c.loop-i-test.true).1 in
-    omega (arith, enough a.proposal.now a.file.now _ _ _ c.loop-i.invariant.1 (omega (arith, high, end)) (sym c.begins-in-loop-i.ensures ∙ c.if-begins.true))
+    omega (arith, enough a.proposal.now a.file.now _ _ _ c.loop-i.invariant.0 (omega (arith, high, end)) (sym c.begins-in-loop-i.ensures ∙ c.if-begins.true))
 
 pub loop-i-preserved-then-begins : goal.loop-i-preserved-then-begins
 loop-i-preserved-then-begins c =
@@ -54,17 +54,16 @@ loop-i-preserved-then-begins c =
     let inside = c.loop-i-test.true in
     let high = (lines_lie a.file.now a.places.now a.struck.now a.n c.requires.0 _ inside).1 in
     let matched = sym c.begins-in-loop-i.ensures ∙ c.if-begins.true in (
-      omega arith,
-      enough a.proposal.now a.file.now _ _ _ turn.invariant.1 (omega (arith, high, end)) matched,
-      turn.invariant.2,
-      sym (matched_next a.file.now a.places.now a.table.now a.n a.proposal.now turn.i turn.at _ turn.struck inside end matched) ∙ turn.invariant.3,
+      enough a.proposal.now a.file.now _ _ _ turn.invariant.0 (omega (arith, high, end)) matched,
+      turn.invariant.1,
+      sym (matched_next a.file.now a.places.now a.table.now a.n a.proposal.now turn.i turn.at _ turn.struck inside end matched) ∙ turn.invariant.2,
     )
 
 pub returns-in_default : goal.returns-in_default
 returns-in_default c =
     let a = c.args in
     let turn = c.loop-i in
-    let e = sym (other_next a.file.now a.places.now a.table.now a.n a.proposal.now turn.i turn.at _ turn.struck c.loop-i-test.true c.lines_end-end.ensures (sym c.begins-in-loop-i.ensures ∙ c.if-begins.false) (group_number _ c.word_at.result c.word_at.ensures c.in_default.not-Permit c.in_default.not-Deny)) ∙ turn.invariant.3 in
+    let e = sym (other_next a.file.now a.places.now a.table.now a.n a.proposal.now turn.i turn.at _ turn.struck c.loop-i-test.true c.lines_end-end.ensures (sym c.begins-in-loop-i.ensures ∙ c.if-begins.false) (group_number _ c.word_at.result c.word_at.ensures c.in_default.not-Permit c.in_default.not-Deny)) ∙ turn.invariant.2 in
     let all = e ∙ sym (start_matched a.file.now a.places.now a.table.now a.n a.proposal.now a.struck.now (sym c.begins.ensures ∙ c.if-not-begins.false)) in
     (ap (λ x. x.whole) all, ap (λ x. x.flags) all)
 
@@ -72,15 +71,14 @@ pub loop-i-preserved : goal.loop-i-preserved
 loop-i-preserved c =
     let a = c.args in
     let turn = c.loop-i in (
-      omega arith,
-      turn.invariant.1,
-      length-set turn.struck turn.i 1 ∙ turn.invariant.2,
-      sym (struck_next a.file.now a.places.now a.table.now a.n a.proposal.now turn.i turn.at _ turn.struck c.loop-i-test.true c.lines_end-end.ensures (sym c.begins-in-loop-i.ensures ∙ c.if-begins.false) (effect_number _ c.word_at.result c.word_at.ensures c.in-Permit.is)) ∙ turn.invariant.3,
+      turn.invariant.0,
+      length-set turn.struck turn.i 1 ∙ turn.invariant.1,
+      sym (struck_next a.file.now a.places.now a.table.now a.n a.proposal.now turn.i turn.at _ turn.struck c.loop-i-test.true c.lines_end-end.ensures (sym c.begins-in-loop-i.ensures ∙ c.if-begins.false) (effect_number _ c.word_at.result c.word_at.ensures c.in-Permit.is)) ∙ turn.invariant.2,
     )
 
 pub returns : goal.returns
 returns c =
     let a = c.args in
     let turn = c.loop-i in
-    let all = sym (at_end a.file.now a.places.now a.table.now a.n a.proposal.now turn.struck turn.i turn.at turn.invariant.0 (omega (arith, c.loop-i-test.false))) ∙ turn.invariant.3 ∙ sym (start_matched a.file.now a.places.now a.table.now a.n a.proposal.now a.struck.now (sym c.begins.ensures ∙ c.if-not-begins.false)) in
+    let all = sym (at_end a.file.now a.places.now a.table.now a.n a.proposal.now turn.struck turn.i turn.at (omega arith) (omega (arith, c.loop-i-test.false))) ∙ turn.invariant.2 ∙ sym (start_matched a.file.now a.places.now a.table.now a.n a.proposal.now a.struck.now (sym c.begins.ensures ∙ c.if-not-begins.false)) in
     (ap (λ x. x.whole) all, ap (λ x. x.flags) all)

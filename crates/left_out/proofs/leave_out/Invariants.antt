@@ -8,10 +8,6 @@ use Rattle.left_out.proofs.leave_out.Given as goal
 
 abbrev pub invariant-loop-i : goal.invariant-loop-i
 invariant-loop-i l =
-    (l.i ≤ l.n)
-    × (l.at ≤ length l.proposal)
+    (l.at ≤ length l.proposal)
     × (length l.struck ≡ length l.initial.struck)
     × (leaving_from l.file l.places l.table l.n l.proposal (l.n - l.i) l.i l.at l.struck ≡ leaving_from l.file l.places l.table l.n l.proposal l.n 0 (start_of l.places 0) l.initial.struck)
-
-abbrev pub decreases-loop-i : goal.decreases-loop-i
-decreases-loop-i l = l.n - l.i

@@ -22,7 +22,7 @@ loop-i-init c =
     let p = c.put_bytes-at in
     let start = reached_line a.file.now a.places.now a.n 0 (omega (arith, c.requires.some)) in
     let head = length_head a.file.now a.places.now a.struck.now a.n c.requires in
-    (omega arith, omega (arith, p.ensures.moved), begun (piece_at a.file.now a.places.now a.struck.now a.n) (length a.file.now) 0 _ _)
+    (omega (arith, p.ensures.moved), begun (piece_at a.file.now a.places.now a.struck.now a.n) (length a.file.now) 0 _ _)
 
 pub put_bytes-at-requires-in-loop-i : goal.put_bytes-at-requires-in-loop-i
 put_bytes-at-requires-in-loop-i c =
@@ -30,7 +30,7 @@ put_bytes-at-requires-in-loop-i c =
     let l = c.loop-i in
     let p = c.piece_end-end in
     let start = reached_line a.file.now a.places.now a.n l.i c.loop-i-test.true in
-    omega (arith, l.invariant.1, length_piece a.file.now a.places.now a.struck.now a.n l.i p.result p.ensures, p.ensures.starts) in
+    omega (arith, l.invariant.0, length_piece a.file.now a.places.now a.struck.now a.n l.i p.result p.ensures, p.ensures.starts) in
     omega (arith, room)
 
 pub loop-i-preserved : goal.loop-i-preserved
@@ -39,14 +39,13 @@ loop-i-preserved c =
     let l = c.loop-i in
     let p = c.piece_end-end in
     let start = reached_line a.file.now a.places.now a.n l.i c.loop-i-test.true in
-    omega (arith, l.invariant.1, length_piece a.file.now a.places.now a.struck.now a.n l.i p.result p.ensures, p.ensures.starts) in
+    omega (arith, l.invariant.0, length_piece a.file.now a.places.now a.struck.now a.n l.i p.result p.ensures, p.ensures.starts) in
     let a = c.args in
     let l = c.loop-i in
     let p = c.piece_end-end in
     let w = c.put_bytes-at-in-loop-i.ensures in (
-      omega arith,
       omega (arith, room, w.moved, p.ensures.ends),
-      stored (piece_at a.file.now a.places.now a.struck.now a.n) (length a.file.now) 0 _ _ l.i l.invariant.2 (piece_stored a.file.now a.places.now a.struck.now a.n l.i p.result p.ensures w),
+      stored (piece_at a.file.now a.places.now a.struck.now a.n) (length a.file.now) 0 _ _ l.i l.invariant.1 (piece_stored a.file.now a.places.now a.struck.now a.n l.i p.result p.ensures w),
     )
 
 pub returns : goal.returns
@@ -55,4 +54,4 @@ returns c =
     let a = c.args in
     let l = c.loop-i in
     let end = reached_end a.file.now a.places.now a.n l.i c.loop-i-test.false in
-    (then c.put_bytes-at.ensures (ended_all (piece_at a.file.now a.places.now a.struck.now a.n) (length a.file.now) _ _ l.i l.invariant.2 a.n (omega arith)), omega (arith, l.invariant.1))
+    (then c.put_bytes-at.ensures (ended_all (piece_at a.file.now a.places.now a.struck.now a.n) (length a.file.now) _ _ l.i l.invariant.1 a.n (omega arith)), omega (arith, l.invariant.0))

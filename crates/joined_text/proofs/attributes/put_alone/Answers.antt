@@ -1,7 +1,6 @@
 -- `put_alone`: the loop keeps the lines of those before `j` whose names the first file lacks. Assumes nothing.
 use mathlib.Core.Path.{sym, ap, ◌∙◌}
 use native.Mathlib.Omega.{arith}
-use borrow.Author.Rules.{rules}
 use Rattle.meaning.specs.Joining.{declared}
 use Rattle.layout.specs.Places.{attributes_of}
 use Rattle.printing.proofs.Walks.{begun, stored, passed_over, ended_all}
@@ -10,7 +9,7 @@ use Rattle.joined_text.proofs.attributes.put_alone.Goals as goal
 
 pub loop-j-init : goal.loop-j-init
 loop-j-init c =
-    (search rules, begun (alone_at c.args.second.now c.args.b (attributes_of c.args.first.now c.args.a)) 16388 0 c.args.out.now c.args.at)
+    begun (alone_at c.args.second.now c.args.b (attributes_of c.args.first.now c.args.a)) 16388 0 c.args.out.now c.args.at
 
 pub name-requires : goal.name-requires
 name-requires c =
@@ -25,13 +24,13 @@ loop-j-preserved-then-known_attribute c =
     let l = c.loop-j in
     let first = attributes_of c.args.first.now c.args.a in
     let known = sym (c.known_attribute.ensures ∙ ap (declared first) c.name.ensures) ∙ c.if-known_attribute.true in
-    (omega arith, passed_over (alone_at c.args.second.now c.args.b first) 16388 0 c.args.out.now c.args.at l.j l.invariant.1 (alone_known c.args.second.now c.args.b first l.j known))
+    passed_over (alone_at c.args.second.now c.args.b first) 16388 0 c.args.out.now c.args.at l.j l.invariant (alone_known c.args.second.now c.args.b first l.j known)
 
 pub put_attribute-end-requires : goal.put_attribute-end-requires
 put_attribute-end-requires c =
     let pre = c.requires in
     let l = c.loop-j in
-    (omega (arith, pre.1.standing.few), pre.1.standing.each l.j (omega arith), pre.1.short, omega (arith, pre.2, pre.1.standing.few, l.invariant.1.within))
+    (omega (arith, pre.1.standing.few), pre.1.standing.each l.j (omega arith), pre.1.short, omega (arith, pre.2, pre.1.standing.few, l.invariant.within))
 
 pub loop-j-preserved : goal.loop-j-preserved
 loop-j-preserved c =
@@ -40,11 +39,11 @@ loop-j-preserved c =
     let alone = sym (c.known_attribute.ensures ∙ ap (declared first) c.name.ensures) ∙ c.if-known_attribute.false in
     let put = c.put_attribute-end.ensures in
     let line = same_text (alone_new c.args.second.now c.args.b first l.j alone) put.0 in
-    (omega arith, stored (alone_at c.args.second.now c.args.b first) 16388 0 c.args.out.now c.args.at l.j l.invariant.1 (line, put.1))
+    stored (alone_at c.args.second.now c.args.b first) 16388 0 c.args.out.now c.args.at l.j l.invariant (line, put.1)
 
 pub returns : goal.returns
 returns c =
     let l = c.loop-j in
     let first = attributes_of c.args.first.now c.args.a in
-    let lines = ended_all (alone_at c.args.second.now c.args.b first) 16388 c.args.out.now c.args.at l.j l.invariant.1 c.args.b.len (omega (arith, l.invariant.0)) in
-    (same_text (alone_lines c.args.second.now c.args.b first) lines, omega (arith, l.invariant.1.within, c.requires.1.standing.few))
+    let lines = ended_all (alone_at c.args.second.now c.args.b first) 16388 c.args.out.now c.args.at l.j l.invariant c.args.b.len (omega (arith)) in
+    (same_text (alone_lines c.args.second.now c.args.b first) lines, omega (arith, l.invariant.within, c.requires.1.standing.few))

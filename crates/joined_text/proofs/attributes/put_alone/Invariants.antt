@@ -1,12 +1,8 @@
 -- `put_alone`: the loop keeps the lines of those before `j` whose names the first file lacks. Assumes nothing.
-use Prim.Native.Nat.{◌-◌, ◌≤◌}
 use Rattle.layout.specs.Places.{attributes_of}
 use Rattle.printing.proofs.Walks.{Sofar}
 use Rattle.joined_text.proofs.Header.{alone_at}
 use Rattle.joined_text.proofs.attributes.put_alone.Given as goal
 
 abbrev pub invariant-loop-j : goal.invariant-loop-j
-invariant-loop-j l = (l.j ≤ l.len) × Sofar (alone_at l.second l.b (attributes_of l.first l.a)) 16388 0 l.initial.out l.at l.j l.out l.end
-
-abbrev pub decreases-loop-j : goal.decreases-loop-j
-decreases-loop-j l = l.len - l.j
+invariant-loop-j l = Sofar (alone_at l.second l.b (attributes_of l.first l.a)) 16388 0 l.initial.out l.at l.j l.out l.end

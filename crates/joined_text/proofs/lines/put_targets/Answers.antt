@@ -4,7 +4,6 @@ use mathlib.Core.List.{◌∷◌}
 use Prim.Native.Nat.{ℕ, ◌+◌, ◌-◌}
 use native.Mathlib.Omega.{arith}
 use lib.ListN.{length, get_or}
-use borrow.Author.Rules.{rules}
 use Rattle.meaning.specs.Text.{Bytes, counting, cut, tab}
 use Rattle.laws.proofs.Rewritten.{gathered_map}
 use Rattle.printing.specs.Wrote.{Wrote}
@@ -16,18 +15,18 @@ use Rattle.joined_text.proofs.lines.put_targets.Goals as goal
 pub loop-i-init : goal.loop-i-init
 loop-i-init c =
     let args = c.args in
-    (search rules, begun (λ i. tab ∷ placed_target args.n (cut tab args.targets.now) (get_or args.p.places i 0)) (length args.targets.now + 2) 0 args.out.now args.at)
+    begun (λ i. tab ∷ placed_target args.n (cut tab args.targets.now) (get_or args.p.places i 0)) (length args.targets.now + 2) 0 args.out.now args.at
 
 pub put_target-end-requires : goal.put_target-end-requires
 put_target-end-requires c =
     let l = c.loop-i in
-    (c.requires.0, omega (arith, c.requires, l.invariant.1.within, room_for (length c.args.targets.now + 2) (l.i - 0) (omega (arith, c.requires))))
+    (c.requires.0, omega (arith, c.requires, l.invariant.within, room_for (length c.args.targets.now + 2) (l.i - 0) (omega (arith, c.requires))))
 
 pub loop-i-preserved : goal.loop-i-preserved
 loop-i-preserved c =
     let args = c.args in
     let l = c.loop-i in
-    (omega arith, stored (λ i. tab ∷ placed_target args.n (cut tab args.targets.now) (get_or args.p.places i 0)) (length args.targets.now + 2) 0 args.out.now args.at l.i l.invariant.1 (c.put_target-end.ensures.0, omega (arith, c.put_target-end.ensures.1)))
+    stored (λ i. tab ∷ placed_target args.n (cut tab args.targets.now) (get_or args.p.places i 0)) (length args.targets.now + 2) 0 args.out.now args.at l.i l.invariant (c.put_target-end.ensures.0, omega (arith, c.put_target-end.ensures.1))
 
 pub returns : goal.returns
 returns c =
@@ -35,6 +34,6 @@ returns c =
     let l = c.loop-i in
     let each : ℕ → Bytes = λ k. tab ∷ placed_target args.n (cut tab args.targets.now) k in (
       subst (λ t. Wrote args.out.now args.at t l.out l.end) (sym (gathered_map each (λ i. get_or args.p.places i 0) (counting 0 args.p.len)))
-          (ended_all (λ i. each (get_or args.p.places i 0)) (length args.targets.now + 2) args.out.now args.at l.i l.invariant.1 args.p.len (omega arith)),
-      omega (arith, l.invariant.1.within, room_for (length args.targets.now + 2) (l.i - 0) (omega (arith, c.requires))),
+          (ended_all (λ i. each (get_or args.p.places i 0)) (length args.targets.now + 2) args.out.now args.at l.i l.invariant args.p.len (omega arith)),
+      omega (arith, l.invariant.within, room_for (length args.targets.now + 2) (l.i - 0) (omega (arith, c.requires))),
     )

@@ -1,6 +1,6 @@
 -- `put_targets`: the targets of the joined attributes so far. Assumes nothing.
 use mathlib.Core.List.{◌∷◌}
-use Prim.Native.Nat.{◌+◌, ◌-◌, ◌≤◌}
+use Prim.Native.Nat.{◌+◌}
 use lib.ListN.{length, get_or}
 use Rattle.meaning.specs.Text.{cut, tab}
 use Rattle.printing.proofs.Walks.{Sofar}
@@ -8,7 +8,4 @@ use Rattle.joined_text.specs.Lines.{placed_target}
 use Rattle.joined_text.proofs.lines.put_targets.Given as goal
 
 abbrev pub invariant-loop-i : goal.invariant-loop-i
-invariant-loop-i l = (l.i ≤ l.len) × Sofar (λ i. tab ∷ placed_target l.n (cut tab l.targets) (get_or l.places i 0)) (length l.targets + 2) 0 l.initial.out l.at l.i l.out l.end
-
-abbrev pub decreases-loop-i : goal.decreases-loop-i
-decreases-loop-i l = l.len - l.i
+invariant-loop-i l = Sofar (λ i. tab ∷ placed_target l.n (cut tab l.targets) (get_or l.places i 0)) (length l.targets + 2) 0 l.initial.out l.at l.i l.out l.end
