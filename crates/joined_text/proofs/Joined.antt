@@ -15,7 +15,7 @@ use Rattle.laws.proofs.Lists.{map_map}
 use Rattle.laws.proofs.Rewritten.{gathered_append}
 use Rattle.layout.specs.declared.Attributes.{Attributes}
 use Rattle.layout.specs.Places.{attributes_of}
-use Rattle.layout.proofs.Names.{declared_place}
+use Rattle.joined_text.proofs.Placed.{declared_place}
 use Rattle.layout.proofs.Laws.{attributes_length}
 use Rattle.printing.specs.Wrote.{Wrote}
 use Rattle.printing.proofs.Laws.{then}

@@ -4,3 +4,4 @@ mod Targets
 mod Rows
 mod Walk
 mod Joined
+mod Placed
