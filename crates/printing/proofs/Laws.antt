@@ -1,14 +1,15 @@
 -- Texts laid one behind the other, behind a buffer's end, and over its start; lines by their fields.
-use mathlib.Core.Path.{◌≡◌, refl, sym, ap, ◌∙◌, subst}
+use mathlib.Core.Path.{◌≡◌, refl, sym, ap, ap₂, ◌∙◌, subst}
 use mathlib.Core.List.{List, [], ◌∷◌, ◌++◌, append_assoc, append-nil}
 use Prim.Native.Nat.{ℕ, suc, ◌+◌, ◌-◌, ◌≤◌, ◌<◌, min}
 use native.Mathlib.Nat.{add-zero, add-suc, suc-add}
-use native.Mathlib.Numerals.{add-one}
 use native.Mathlib.Omega.{arith}
-use lib.ListN.{length, take, drop, get_or, set, length-append, take-append-drop}
+use lib.ListN.{length, take, drop, set, length-append, take-append-drop}
 use lib.Dec.{ltb}
-use lib.Seq.{sets, sets-eq, length-sets, set_out, take-suc, take_all, length-take-le}
+use lib.Seq.{sets, sets-eq, length-sets, set_out, take_all, length-take-le}
 use borrow.Author.Tests.{ltb-true, ltb-false}
+use borrow.Rule.Slice.PartMut.{put_mid}
+use Rattle.std.proofs.lemmas.Slice.{put_mid-paste}
 use Rattle.laws.proofs.Bools.{Test, passed, failed, test}
 use Rattle.meaning.specs.Text.{Bytes, gathered, join, newline, tab, line}
 use Rattle.printing.specs.Wrote.{Wrote}
@@ -22,13 +23,8 @@ pub sets_out : (l : List ℕ) (i : ℕ) (xs : List ℕ) → length l ≤ i → s
 sets_out l i [] h = refl
 sets_out l i (x ∷ xs) h = ap (λ m. sets m (suc i) xs) (set_out l i x h) ∙ sets_out l (suc i) xs (omega arith)
 
--- one byte more of those that are stored, and all that fit
-pub sets_next : (l xs : List ℕ) (n i : ℕ) → i < length xs → set (sets l n (take i xs)) (n + i) (get_or xs i 0) ≡ sets l n (take (i + 1) xs)
-sets_next l xs n i h =
-    let size = length-take-le i xs (omega arith) in
-    sym (rw (add-one i, take-suc xs i 0, sets_append, size))
-
-pub sets_fit : (l xs : List ℕ) (n i : ℕ) → i ≡ min (length xs) (length l - n) → sets l n (take i xs) ≡ sets l n xs
+-- all bytes that fit
+sets_fit : (l xs : List ℕ) (n i : ℕ) → i ≡ min (length xs) (length l - n) → sets l n (take i xs) ≡ sets l n xs
 sets_fit l xs n i e = go (test (ltb i (length xs)))
   where
     go : Test (ltb i (length xs)) → sets l n (take i xs) ≡ sets l n xs
@@ -38,6 +34,16 @@ sets_fit l xs n i e = go (test (ltb i (length xs)))
         let full : length (sets l n (take i xs)) ≤ n + length (take i xs) = omega (arith, length-sets l n (take i xs)) in
         sym (sets_out (sets l n (take i xs)) (n + length (take i xs)) (drop i xs) full) ∙ sym (sets_append l n (take i xs) (drop i xs)) ∙ ap (sets l n) (take-append-drop i xs)
     go (failed t) = ap (sets l n) (take_all i xs (ltb-false i (length xs) t))
+
+-- a part of a buffer that holds the bytes that fit
+pub copied_fit : (l ys xs : List ℕ) (n k i : ℕ) → n < length l → i ≡ min (length xs) (length l - n) → i ≡ k → ys ≡ take i xs → put_mid n k l ys ≡ sets l n xs
+copied_fit l ys xs n k i inside fit same copied =
+    let zs = take i xs in
+    let size : length zs ≡ i = length-take-le i xs (omega arith) in
+    put_mid-paste n k l ys zs i copied same (sym size)
+    ∙ ap₂ (λ t m. (take n l ++ t) ++ drop (n + m) l) (take_all i zs (omega (arith, size))) (sym size)
+    ∙ sym (sets-eq zs l n (omega (arith, size)))
+    ∙ sets_fit l xs n i fit
 
 -- one text behind the other, and no text
 pub then : {x y z s t : List ℕ} {n m k : ℕ} → Wrote x n s y m → Wrote y m t z k → Wrote x n (s ++ t) z k

@@ -1,7 +1,7 @@
 // Text laid into a lent buffer. What does not fit is not stored, and the place moves on all the same: with an empty buffer the same code counts.
 #![tactic(auto)]
 
-ghost use Rattle.std.specs.Prelude.{◌≡◌, ◌+◌, ◌/◌, ◌≤◌, ◌<◌, ◌^◌, min, [], ◌∷◌, ◌++◌, length};
+ghost use Rattle.std.specs.Prelude.{◌≡◌, ◌+◌, ◌/◌, ◌≤◌, ◌<◌, ◌^◌, [], ◌∷◌, ◌++◌, length};
 ghost use Rattle.meaning.specs.Text.{decimal};
 ghost use Rattle.meaning.specs.Model.{decision_text};
 ghost use Rattle.printing.specs.Wrote.{Wrote};
@@ -21,17 +21,7 @@ pub fn put(out: &mut [u8], at: usize, b: u8) -> usize
     at + 1
 }
 
-// The smaller of two numbers.
-fn smaller(a: usize, b: usize) -> usize
-    ensures { result ≡ min a b }
-{
-    if b < a {
-        return b;
-    }
-    a
-}
-
-// Stores bytes one behind the other: how many fit is known first, so that the loop is a plain copy.
+// Stores bytes one behind the other: those that fit.
 pub fn put_bytes(out: &mut [u8], at: usize, bytes: &[u8]) -> usize
     requires { at + length bytes.now < 2 ^ 64 }
     ensures { Wrote out.old at bytes.now out.new result }
@@ -39,12 +29,8 @@ pub fn put_bytes(out: &mut [u8], at: usize, bytes: &[u8]) -> usize
     if out.len() <= at {
         return at + bytes.len();
     }
-    let fit = smaller(bytes.len(), out.len() - at);
-    let mut j = 0;
-    while j < fit {
-        out[at + j] = bytes[j];
-        j += 1;
-    }
+    let fit = bytes.len().min(out.len() - at);
+    out[at..at + fit].copy_from_slice(&bytes[..fit]);
     at + bytes.len()
 }
 

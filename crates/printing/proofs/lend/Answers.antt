@@ -2,10 +2,8 @@ use native.Mathlib.Omega.{arith}
 use borrow.Author.Tests.{lt-ltb, le-ltb}
 use Rattle.printing.proofs.lend.Goals as goal
 
--- src/lib.rt:86:9
 pub returns-then-room-needed : goal.returns-then-room-needed
 returns-then-room-needed c = record { value = rw (lt-ltb _ _ c.if-room-needed.true); within = omega arith }
 
--- src/lib.rt:81:1
 pub returns : goal.returns
 returns c = record { value = rw (le-ltb _ _ c.if-room-needed.false); within = omega arith }

@@ -2,10 +2,6 @@ use native.Mathlib.Omega.{arith}
 use Rattle.printing.proofs.Laws.{then}
 use Rattle.printing.proofs.put_number.Goals as goal
 
--- src/lib.rt:64:9
--- src/lib.rt:65:5
--- src/lib.rt:60:1
--- src/lib.rt:60:1
 pub returns : goal.returns
 returns c =
     let (w, l) = c.put_decimal-behind.ensures in
