@@ -1,8 +1,6 @@
 -- `attribute_line` meets its contract: what its tests say, and the places of its name and its values.
-use Prim.Native.Nat.{◌+◌, ◌-◌}
 use mathlib.Core.Path.{refl, ap, ◌∙◌}
 use native.Mathlib.Omega.{arith}
-use lib.ListN.{length}
 use Rattle.layout.specs.Places.{line_place, added}
 use Rattle.attribute_lines.proofs.AttributeLines.{attribute_parts}
 use Rattle.attribute_lines.proofs.attribute_line.Goals as goal
