@@ -1,8 +1,6 @@
 // Reads a policy file from standard input and prints its report, or the line `E`. Where reading fails nothing is printed; where reading or writing fails, standard error gets a line.
 #![tactic(auto)]
 
-mod input;
-
 use failures::fail;
 
 fn main(rt: HostRuntime) {

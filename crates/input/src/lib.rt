@@ -1,4 +1,6 @@
 // Reading to the end of the input, or until the buffer is full, with the failure where a read fails.
+#![tactic(auto)]
+
 ghost use Rattle.std.specs.Prelude.{◌≡◌, ◌≤◌, ◌<◌, length, take, IsNone};
 ghost use Rattle.std.specs.Io.KnownBytes.{Consumes, IsAtEnd};
 
@@ -7,7 +9,7 @@ use std::io::Read;
 
 // How many bytes were read, and the failure behind them, if a read failed.
 #[derive(Clone, Copy)]
-pub(crate) struct Input {
+pub struct Input {
     pub length: usize,
     pub failure: Option<io::Error>,
 }
@@ -31,7 +33,7 @@ fn read_some<R: Read>(reader: &mut R, part: &mut [u8]) -> Input
 }
 
 // Reads until nothing more comes.
-pub(crate) fn read_all<R: Read>(reader: &mut R, file: &mut [u8]) -> Input
+pub fn read_all<R: Read>(reader: &mut R, file: &mut [u8]) -> Input
     ensures within { result.length ≤ length file.old }
     ensures bytes { Consumes (R.remaining reader.old) (R.remaining reader.new) (take result.length file.new) }
     ensures end { IsNone result.failure → result.length < length file.old → IsAtEnd (R.remaining reader.new) }
