@@ -1,5 +1,6 @@
--- `apply` calls itself on the parent, which stands before the element.
+-- `apply` calls itself on the parent, whose depth is less.
+use Rattle.table.specs.Rows.{depth_of}
 use Rattle.rows.proofs.+apply.Given as goal
 
 abbrev pub decreases-apply : goal.decreases-apply
-decreases-apply l = l.i
+decreases-apply l = depth_of l.table.now l.i
