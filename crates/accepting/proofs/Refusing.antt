@@ -1,10 +1,9 @@
 -- A proposal that flags do not stand for: its refusal, or its first other line.
 use mathlib.Core.Path.{◌≡◌, refl, sym, ap, ◌∙◌}
 use Prim.Native.Nat.{ℕ}
-use mathlib.Core.List.{List}
 use mathlib.Core.Option.{Option, none, some}
 use Rattle.meaning.specs.Text.{Bytes}
-use Rattle.meaning.specs.Model.{Policy, given}
+use Rattle.meaning.specs.Model.{Policy, refused, given}
 use Rattle.meaning.specs.Reading.{read}
 use Rattle.meaning.specs.Trimming.{file_lines}
 use Rattle.meaning.specs.Accepting.{first_other, judged, accept_file}
@@ -13,14 +12,11 @@ use Rattle.laws.proofs.Reading.{accepted}
 use Rattle.laws.proofs.Operations.{operations}
 use Rattle.laws.proofs.OtherLines.{leaves_out}
 use Rattle.other_lines.specs.Told.{or_zero}
-use Rattle.reader.specs.declared.Reading.{Reading}
-use Rattle.reader.specs.Told.{ReadAs}
-use Rattle.reader.proofs.FileRead.{file_refused}
 use Rattle.accepting.specs.Judged.{LeavesOthersOut}
 
 module _ (f g : Bytes) (out : LeavesOthersOut f g) where
-  pub told_refusal : (table places : List ℕ) (r : Reading) → ReadAs g table places r (read g) → (r.number ≡ 0 → ⊥) → record { number = r.number; second = r.second } ≡ accept_answer f g
-  told_refusal table places r is_read not-read = sym (operations.accepts_no_proposal f g out.policy r.number r.second out.is_read (file_refused g table places r is_read not-read))
+  pub told_refusal : {n m : ℕ} → read g ≡ refused n m → record { number = n; second = m } ≡ accept_answer f g
+  told_refusal {n} {m} e = sym (operations.accepts_no_proposal f g out.policy n m out.is_read e)
 
   pub told_line : (q : Policy) → read g ≡ given q → (line : ℕ) → line ≡ or_zero (first_other 1 (file_lines f) (file_lines g)) → record { number = 16; second = line } ≡ accept_answer f g
   unfolding judged accept_file

@@ -1,5 +1,5 @@
 // Whether a proposal is accepted beside a file that was read.
-#![tactic(auto)]
+#![tactic(auto, using(reader::proofs::FileRead::unread))]
 
 ghost use Rattle.std.specs.Prelude.{◌≡◌, suc, ◌+◌, ◌*◌, ◌≤◌, ◌<◌, length};
 ghost use Rattle.meaning.specs.Text.{first_from};
@@ -13,10 +13,12 @@ ghost use Rattle.trials.specs.Decided.{needless_at};
 ghost use Rattle.trials.specs.Steady.{Steady};
 ghost use Rattle.trials.specs.Trial.{Laid};
 ghost use Rattle.trimmed_text.specs.Held.{PolicyHeld};
+ghost use Rattle.refusals.specs.Numbers.{answer_of};
 ghost use Rattle.accepting.specs.Judged.{lines_from, judged_at, LeavesOthersOut};
 
 use differences::{PolicyFile, PolicyOutcomes};
 use meaning::Answer;
+use refusals::{Refusal, Refused};
 use table::Shape;
 use trials::Tried;
 
@@ -76,10 +78,11 @@ fn judge(file: &[u8], table: &[u16], places: &[usize], shape: Shape, struck: &mu
         obliged,
     };
     if let Some(request) = o.first_difference(&none, struck) {
-        return Answer {
-            number: 17,
+        let refused = Refused {
+            why: Refusal::OtherOutcome,
             second: request as u32,
         };
+        return refused.into();
     }
     let Some(rule) = first_needless(&o, struck) else {
         return Answer {
@@ -87,26 +90,26 @@ fn judge(file: &[u8], table: &[u16], places: &[usize], shape: Shape, struck: &mu
             second: 0,
         };
     };
-    Answer {
-        number: 18,
+    let refused = Refused {
+        why: Refusal::NeedlessRule,
         second: line_of(places, struck, shape.len, rule) as u32,
-    }
+    };
+    refused.into()
 }
 
 // What a proposal gets that leaves out more than rule lines, or has other ones: its own refusal, or its first other line.
-fn refuse(file: &[u8], proposal: &[u8]) -> Answer
+fn refuse(file: &[u8], proposal: &[u8]) -> Refused
     requires { LeavesOthersOut file.now proposal.now }
-    ensures { result ≡ accept_answer file.now proposal.now }
+    ensures { answer_of result ≡ accept_answer file.now proposal.now }
 {
     let mut table = [0u16; 512];
     let mut places = [0usize; 384];
-    let reading = reader::read(proposal, &mut table, &mut places);
-    if reading.number != 0 {
-        return reader::refusal(reading);
-    }
-    Answer {
-        number: 16,
-        second: other_lines::first_other(file, proposal) as u32,
+    match reader::read(proposal, &mut table, &mut places) {
+        Ok(_) => Refused {
+            why: Refusal::OtherLine,
+            second: other_lines::first_other(file, proposal) as u32,
+        },
+        Err(refused) => refused,
     }
 }
 
@@ -119,6 +122,6 @@ pub fn accept(file: &[u8], table: &[u16], places: &[usize], shape: Shape, propos
     if left_out::leave_out(file, places, table, shape.n, proposal, &mut struck) {
         judge(file, table, places, shape, &mut struck)
     } else {
-        refuse(file, proposal)
+        refuse(file, proposal).into()
     }
 }

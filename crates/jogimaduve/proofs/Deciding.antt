@@ -21,9 +21,9 @@ use Rattle.obligations.proofs.Left.{outcome_whole}
 use Rattle.deciding.specs.Told.{outcome_on, outcome_for, Told, Asking}
 use Rattle.request_lines.specs.declared.Asked.{Asked}
 use Rattle.request_lines.specs.Asked.{AskedAs}
-use Rattle.reader.specs.declared.Reading.{Reading}
-use Rattle.reader.specs.Told.{ReadAs}
-use Rattle.reader.proofs.FileRead.{file_refused, file_read, few}
+use Rattle.reader.specs.declared.Policy.{Policy as PolicyRead}
+use Rattle.reader.specs.Told.{ReadPolicy}
+use Rattle.reader.proofs.FileRead.{few}
 use Rattle.jogimaduve.proofs.Shaping.{letters_are}
 
 -- a refusal's answer: its two numbers and no bytes
@@ -34,27 +34,24 @@ refused_by n m = record { number = n; second = m; length = 0 }
 abbrev Answers : Bytes → Bytes → Decided → Result Outcome → Type 0
 Answers old new r x = (r ≡ decided_by x) × (new ≡ lent old (x then λ o. given o.obligations))
 
-module _ (f table places : List ℕ) (r : Reading) (is_read : ReadAs f table places r (read f)) (request out : Bytes) where
-  -- a file that is refused
-  pub refusal_answered : (r.number ≡ 0 → ⊥) → (refused_by r.number r.second ≡ decide_answer f request out) × (out ≡ decide_lent f request out)
-  unfolding decide_file
-  refusal_answered h = (rw (file_refused f table places r is_read h), rw (file_refused f table places r is_read h))
+-- a file that is refused
+pub refusal_answered : (f : Bytes) {n m : ℕ} → read f ≡ refused n m → (request out : Bytes) → (refused_by n m ≡ decide_answer f request out) × (out ≡ decide_lent f request out)
+unfolding decide_file
+refusal_answered f h request out = (rw h, rw h)
 
-  module _ (z : r.number ≡ 0) (a : Asked) (asks : AskedAs r.attributes a (request_line (attributes_of f r.attributes) request)) where
-    abbrev p : Policy
-    p = (file_read f table places r is_read z).0
-
+module _ (f table places : List ℕ) (r : PolicyRead) (p : Policy) (h : read f ≡ given p) (holds : ReadPolicy f table places r p) (request out : Bytes) where
+  module _ (a : Asked) (asks : AskedAs r.attributes a (request_line (attributes_of f r.attributes) request)) where
     -- what a request of the policy gets, for this buffer
     abbrev gets : Request → Result Outcome
     gets q = outcome_for (length out) (decide p q)
 
     -- the same of the policy's attributes
     asked_policy : AskedAs r.attributes a (request_line p.attributes request)
-    asked_policy = subst (λ attrs. AskedAs r.attributes a (request_line attrs request)) (sym (file_read f table places r is_read z).2.attributes) asks
+    asked_policy = subst (λ attrs. AskedAs r.attributes a (request_line attrs request)) (sym holds.attributes) asks
 
     decides_so : decide_file (length out) f request ≡ (request_line p.attributes request then gets)
     unfolding decide_file
-    decides_so = rw (file_read f table places r is_read z).1
+    decides_so = rw h
 
     answered_so : (new : Bytes) (d : Decided) → Answers out new d (request_line p.attributes request then gets) → (d ≡ decide_answer f request out) × (new ≡ decide_lent f request out)
     answered_so new d x = (x.0 ∙ ap decided_by (sym decides_so), x.1 ∙ ap (λ y. lent out (y then λ o. given o.obligations)) (sym decides_so))
@@ -77,13 +74,12 @@ module _ (f table places : List ℕ) (r : Reading) (is_read : ReadAs f table pla
     -- a request that is decided
     pub asking : a.good ≡ true → Asking f table places r.elements a.request
     asking g =
-        let (q, h, holds) = file_read f table places r is_read z in
-        let small = few f table places r q h holds in
+        let small = few f table places r p h holds in
         record { rows = omega (arith, holds.rooms.rows, small); some = holds.some; few = small; each = holds.obliged; values = go (request_line p.attributes request) asked_policy }
       where
         go : (x : Result Request) → AskedAs r.attributes a x → a.request.len ≤ 6
         go (refused n m) t = contradiction g (ap (λ x. x.good) t.is)
-        go (given q) t = rw (t.is, t.count) (file_read f table places r is_read z).2.spaced.standing.few
+        go (given q) t = rw (t.is, t.count) holds.spaced.standing.few
 
     pub request_decided : a.good ≡ true → depth_of table 0 ≡ 0 → (new : Bytes) (d : Decided) → Told out new (outcome_on f table places r.elements a.request) d
         → (d ≡ decide_answer f request out) × (new ≡ decide_lent f request out)
@@ -92,8 +88,6 @@ module _ (f table places : List ℕ) (r : Reading) (is_read : ReadAs f table pla
         go : (x : Result Request) → AskedAs r.attributes a x → Answers out new d (x then gets)
         go (refused k m) t = contradiction g (ap (λ x. x.good) t.is)
         go (given q) t =
-            let h = (file_read f table places r is_read z).1 in
-            let holds = (file_read f table places r is_read z).2 in
             let letters : severals_of a.request ≡ severals p.attributes = ap (λ x. severals_of x.request) t.is ∙ ap (λ k. take k (severals_at r.attributes)) t.count ∙ letters_are f table places r p h holds in
             let values : values_of a.request ≡ q = ap (λ x. values_of x.request) t.is ∙ values_with (severals_at r.attributes) q in
             let same : outcome_on f table places r.elements a.request ≡ decide p q =

@@ -17,11 +17,11 @@ use Rattle.table.specs.Shape.{counts_of, severals_of, hit_of}
 use Rattle.table.proofs.Children.{none_struck as no_rule_struck}
 use Rattle.outcomes.specs.Decided.{none_struck, decided_at}
 use Rattle.outcomes.specs.PolicyTable.{PolicyTable}
-use Rattle.layout.specs.Places.{place_at, FewValues}
+use Rattle.layout.specs.Places.{place_at}
 use Rattle.layout.proofs.Adding.{placed_six}
 use Rattle.layout.proofs.Laws.{attributes_length, decided}
 use Rattle.layout.proofs.Counts.{sizes_are, severals_are, sets_counted}
-use Rattle.reader.specs.declared.Reading.{Reading}
+use Rattle.reader.specs.declared.Policy.{Policy as PolicyRead}
 use Rattle.reader.specs.Told.{policy_shape, ReadPolicy}
 use Rattle.reader.proofs.FileRead.{few}
 use Rattle.trials.specs.Steady.{Steady}
@@ -30,7 +30,7 @@ use Rattle.trimmed_text.proofs.Placed.{copies_lined}
 use Rattle.trimmed_text.proofs.ByPlace.{root_word, leaves}
 use Rattle.trimmed_text.proofs.Steadying.{steady}
 
-module _ (f table places : List ℕ) (r : Reading) (p : Policy) (h : read f ≡ given p) (holds : ReadPolicy f table places r p) where
+module _ (f table places : List ℕ) (r : PolicyRead) (p : Policy) (h : read f ≡ given p) (holds : ReadPolicy f table places r p) where
   pub attributes_are : length p.attributes ≡ r.attributes.len
   attributes_are = ap length holds.attributes ∙ attributes_length f r.attributes
 
@@ -41,9 +41,6 @@ module _ (f table places : List ℕ) (r : Reading) (p : Policy) (h : read f ≡ 
   letters_are =
       let room : length r.attributes.all ≡ 6 = ap (λ a. length a.all) holds.places_are ∙ placed_six f r.attributes.len in
       sym (severals_are f r.attributes (omega (arith, holds.spaced.standing.few))) ∙ ap severals (sym holds.attributes)
-
-  pub sizable : (r.attributes.len ≤ 6) × FewValues r.attributes
-  sizable = (holds.spaced.standing.few, holds.spaced.few_values)
 
   -- its requests are those of the policy, and so many
   pub hits_are : (m : ℕ) → hit_of (policy_shape r) m ≡ hits p m

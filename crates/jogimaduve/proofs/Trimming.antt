@@ -21,7 +21,7 @@ use Rattle.trimmed_text.specs.Copied.{copied}
 use Rattle.trimmed_text.proofs.Trimmed.{trimmed_flags}
 use Rattle.trimmed_text.proofs.Tabled.{trimming_is}
 use Rattle.trimmed_text.proofs.Placed.{text_copied}
-use Rattle.reader.specs.declared.Reading.{Reading}
+use Rattle.reader.specs.declared.Policy.{Policy as PolicyRead}
 use Rattle.reader.specs.Told.{policy_shape, ReadPolicy}
 use Rattle.reader.proofs.FileRead.{elements_are, few}
 use Rattle.outcomes.specs.Decided.{none_struck}
@@ -33,7 +33,7 @@ pub small_text : (f : Bytes) (p : Policy) (h : read f ≡ given p) (needed : ℕ
 small_text f p h needed l = omega (arith, (accepted f p h).size)
 
 -- The flags that striking leaves
-module _ (f table places : List ℕ) (r : Reading) (p : Policy) (h : read f ≡ given p) (holds : ReadPolicy f table places r p) (s : Shape) (shaped : s ≡ policy_shape r)
+module _ (f table places : List ℕ) (r : PolicyRead) (p : Policy) (h : read f ≡ given p) (holds : ReadPolicy f table places r p) (s : Shape) (shaped : s ≡ policy_shape r)
     (flags : List ℕ) (struck : flags ≡ (table-level.trimming_at f places table s.n (hit_of s) s.space s.n none_struck).flags) where
   abbrev text : Bytes
   text = copied f places flags r.elements

@@ -1,19 +1,21 @@
 // The operations for C callers.
-#![tactic(auto)]
+#![tactic(auto, using(reader::proofs::FileRead::unread))]
 
 ghost use Rattle.std.specs.Prelude.{◌≡◌};
 ghost use Rattle.meaning.specs.Operations.{decide_answer, decide_lent, trim_answer, trim_lent, next_rule_answer, next_rule_lent, strike_answer, strike_lent, step_answer, step_lent, accept_answer, join_answer, join_lent, report_answer, report_lent, value_pairs_answer, value_pairs_lent};
+ghost use Rattle.refusals.specs.Numbers.{number_of};
 
 use differences::PolicyFile;
 use meaning::{Answer, Decided, Stepped};
+use refusals::{Refusal, Refused};
 
 // The answer of a request that is not decided.
-fn refused(answer: Answer) -> Decided
-    ensures { result ≡ record { number = answer.number; second = answer.second; length = 0 } }
+fn undecided(refused: Refused) -> Decided
+    ensures { result ≡ record { number = number_of refused.why; second = refused.second; length = 0 } }
 {
     Decided {
-        number: answer.number,
-        second: answer.second,
+        number: refused.why.number(),
+        second: refused.second,
         length: 0,
     }
 }
@@ -25,21 +27,19 @@ pub fn jogimaduve_decide(file: &[u8], request: &[u8], out: &mut [u8]) -> Decided
 {
     let mut table = [0u16; 512];
     let mut places = [0usize; 384];
-    let reading = reader::read(file, &mut table, &mut places);
-    if reading.number != 0 {
-        return refused(reader::refusal(reading));
-    }
-    let attributes = reading.attributes;
-    let asked = request_lines::request_line(file, attributes, request);
+    let policy = match reader::read(file, &mut table, &mut places) {
+        Ok(policy) => policy,
+        Err(refused) => return undecided(refused),
+    };
+    let asked = request_lines::request_line(file, policy.attributes, request);
     if !asked.good {
-        let answer = Answer {
-            number: 10,
+        return undecided(Refused {
+            why: Refusal::BadRequest,
             second: asked.place as u32,
-        };
-        return refused(answer);
+        });
     }
     let q = asked.request;
-    deciding::answer(file, &table, &places, reading.elements, q, out)
+    deciding::answer(file, &table, &places, policy.elements, q, out)
 }
 
 // The trimmed text of a policy file, in a lent buffer.
@@ -49,20 +49,20 @@ pub fn jogimaduve_trim(file: &[u8], out: &mut [u8]) -> Answer
 {
     let mut table = [0u16; 512];
     let mut places = [0usize; 384];
-    let reading = reader::read(file, &mut table, &mut places);
-    if reading.number != 0 {
-        return reader::refusal(reading);
-    }
-    let n = reading.elements;
+    let policy = match reader::read(file, &mut table, &mut places) {
+        Ok(policy) => policy,
+        Err(refused) => return refused.into(),
+    };
+    let n = policy.elements;
     let mut struck = [0u8; 64];
-    let shape = reader::policy_shape(reading);
-    let policy = PolicyFile {
+    let shape = policy.shape();
+    let held = PolicyFile {
         file,
         places: &places,
         table: &table,
         shape,
     };
-    trimming::strike(policy, &mut struck);
+    trimming::strike(held, &mut struck);
     let mut none = [0u8; 0];
     let needed = trimmed_text::put_text(file, &places, &struck, n, &mut none);
     let room = out.len();
@@ -78,11 +78,10 @@ pub fn jogimaduve_next_rule(file: &[u8], out: &mut [u8]) -> Answer
 {
     let mut table = [0u16; 512];
     let mut places = [0usize; 384];
-    let reading = reader::read(file, &mut table, &mut places);
-    if reading.number != 0 {
-        return reader::refusal(reading);
+    match reader::read(file, &mut table, &mut places) {
+        Ok(policy) => rule_by_rule::show(file, &table, &places, policy.shape(), out),
+        Err(refused) => refused.into(),
     }
-    rule_by_rule::show(file, &table, &places, reader::policy_shape(reading), out)
 }
 
 // A policy file without the line of a needless rule, which is given by its name, in a lent buffer.
@@ -92,12 +91,10 @@ pub fn jogimaduve_strike(file: &[u8], rule: &[u8], out: &mut [u8]) -> Answer
 {
     let mut table = [0u16; 512];
     let mut places = [0usize; 384];
-    let reading = reader::read(file, &mut table, &mut places);
-    if reading.number != 0 {
-        return reader::refusal(reading);
+    match reader::read(file, &mut table, &mut places) {
+        Ok(policy) => rule_by_rule::strike(file, &table, &places, policy.shape(), rule, out),
+        Err(refused) => refused.into(),
     }
-    let shape = reader::policy_shape(reading);
-    rule_by_rule::strike(file, &table, &places, shape, rule, out)
 }
 
 // Strikes, in place, the rule that trimming a policy file would strike next.
@@ -107,16 +104,14 @@ pub fn jogimaduve_step(text: &mut [u8]) -> Stepped
 {
     let mut table = [0u16; 512];
     let mut places = [0usize; 384];
-    let reading = reader::read(text, &mut table, &mut places);
-    if reading.number != 0 {
-        let answer = reader::refusal(reading);
-        return Stepped {
-            number: answer.number,
-            second: answer.second,
+    match reader::read(text, &mut table, &mut places) {
+        Ok(policy) => held_state::step(text, &table, &places, policy.shape()),
+        Err(refused) => Stepped {
+            number: refused.why.number(),
+            second: refused.second,
             struck: 0,
-        };
+        },
     }
-    held_state::step(text, &table, &places, reader::policy_shape(reading))
 }
 
 // Whether a proposal for the trimmed policy of a policy file, the original, is sound.
@@ -125,12 +120,10 @@ pub fn jogimaduve_accept(original: &[u8], proposal: &[u8]) -> Answer
 {
     let mut table = [0u16; 512];
     let mut places = [0usize; 384];
-    let reading = reader::read(original, &mut table, &mut places);
-    if reading.number != 0 {
-        return reader::refusal(reading);
+    match reader::read(original, &mut table, &mut places) {
+        Ok(policy) => accepting::accept(original, &table, &places, policy.shape(), proposal),
+        Err(refused) => refused.into(),
     }
-    let shape = reader::policy_shape(reading);
-    accepting::accept(original, &table, &places, shape, proposal)
 }
 
 // Two policy files joined as the two children of a set with this algorithm word, in a lent buffer.
@@ -140,12 +133,10 @@ pub fn jogimaduve_join(first: &[u8], second: &[u8], word: &[u8], out: &mut [u8])
 {
     let mut table = [0u16; 512];
     let mut places = [0usize; 384];
-    let reading = reader::read(first, &mut table, &mut places);
-    if reading.number != 0 {
-        return reader::refusal(reading);
+    match reader::read(first, &mut table, &mut places) {
+        Ok(policy) => joining::join(first, policy.attributes, places[0], second, word, out),
+        Err(refused) => refused.into(),
     }
-    let attributes = reading.attributes;
-    joining::join(first, attributes, places[0], second, word, out)
 }
 
 // The report of a policy file, in a lent buffer.
@@ -155,11 +146,10 @@ pub fn jogimaduve_report(file: &[u8], out: &mut [u8]) -> Answer
 {
     let mut table = [0u16; 512];
     let mut places = [0usize; 384];
-    let reading = reader::read(file, &mut table, &mut places);
-    if reading.number != 0 {
-        return reader::refusal(reading);
+    match reader::read(file, &mut table, &mut places) {
+        Ok(policy) => reporting::report(file, &table, &places, policy.shape(), out),
+        Err(refused) => refused.into(),
     }
-    reporting::report(file, &table, &places, reader::policy_shape(reading), out)
 }
 
 // The pairs of values of an `M` attribute that get another decision than one of the two alone, in a lent buffer.
@@ -169,10 +159,11 @@ pub fn jogimaduve_value_pairs(file: &[u8], attribute: &[u8], out: &mut [u8]) -> 
 {
     let mut table = [0u16; 512];
     let mut places = [0usize; 384];
-    let reading = reader::read(file, &mut table, &mut places);
-    if reading.number != 0 {
-        return reader::refusal(reading);
+    match reader::read(file, &mut table, &mut places) {
+        Ok(policy) => {
+            let shape = policy.shape();
+            value_pairs::tell(file, policy.attributes, &table, shape, attribute, out)
+        }
+        Err(refused) => refused.into(),
     }
-    let shape = reader::policy_shape(reading);
-    value_pairs::tell(file, reading.attributes, &table, shape, attribute, out)
 }

@@ -149,22 +149,22 @@ module _ (w f g : Bytes) (a b : Attributes) (from other : ℕ) (first-held : Fil
   told old n m e is = (is ∙ sym (ap (answered length) e), sym (ap (lent old) e))
 
   module _ (line : ℕ) (line-is : line ≡ place_or 0 (first_differing first 1 second)) (old : Bytes) where
-    pub differs_told : line ≢ 0 → Joins old old (record { number = 19; second = line })
-    differs_told h = told old 19 line (line_told line line-is h (length old)) refl
+    pub differs_told : line ≢ 0 → {r : Answer} → r ≡ record { number = 19; second = line } → Joins old old r
+    differs_told h is = told old 19 line (line_told line line-is h (length old)) is
 
     module _ (alike : line ≡ 0) {none_there : Bool} (word-is : is_none (word_of Kind.Set w) ≡ none_there) where
-      pub no_word_told : none_there ≡ true → (p : Placing) → p ≡ listed (places_in first (both first second)) → Joins old old (record { number = 7; second = p.len + 1 })
-      no_word_told h p is =
+      pub no_word_told : none_there ≡ true → (p : Placing) → p ≡ listed (places_in first (both first second)) → {r : Answer} → r ≡ record { number = 7; second = p.len + 1 } → Joins old old r
+      no_word_told h p is answers =
           let size : p.len + 1 ≡ suc (length (both first second)) = omega (arith, ap (λ x. x.len) is, length-map (both first second) (λ c. place_in first c.name)) in
-          told old 7 (suc (length (both first second))) (word_told line line-is alike word-is h (length old)) (ap (λ k. record { number = 7; second = k }) size)
+          told old 7 (suc (length (both first second))) (word_told line line-is alike word-is h (length old)) (answers ∙ ap (λ k. record { number = 7; second = k }) size)
 
       module _ (h : none_there ≡ false) {x y : List ℕ} {needed : ℕ} (laid : Wrote x 0 text y needed) where
         counted : needed ≡ length text
         counted = laid.moved ∙ zero-add (length text)
 
-        pub too_long_told : 16384 < needed → Joins old old (record { number = 1; second = 0 })
-        too_long_told l =
-            told old 1 0 (text_told_lem line line-is alike word-is h (length old) ∙ ap (λ x. x then λ j. fitted (length old) text) (too_long (omega (arith, counted)))) refl
+        pub too_long_told : 16384 < needed → {r : Answer} → r ≡ record { number = 1; second = 0 } → Joins old old r
+        too_long_told l is =
+            told old 1 0 (text_told_lem line line-is alike word-is h (length old) ∙ ap (λ x. x then λ j. fitted (length old) text) (too_long (omega (arith, counted)))) is
 
         -- the text stands at the start of what it was laid into
         stands : needed ≤ length x → take needed y ≡ text

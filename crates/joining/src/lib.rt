@@ -1,5 +1,5 @@
 // Two files joined into a lent buffer.
-#![tactic(auto)]
+#![tactic(auto, using(reader::proofs::FileRead::unread))]
 
 ghost use Rattle.std.specs.Prelude.{◌≡◌, ◌≤◌, length};
 ghost use Rattle.meaning.specs.Operations.{join_answer, join_lent};
@@ -7,6 +7,7 @@ ghost use Rattle.joining.specs.Held.{FileHeld, Accepted};
 
 use layout::Attributes;
 use meaning::{Answer, Kind};
+use refusals::{Refusal, Refused};
 
 // A text: what reading it refuses, or the text in a lent buffer.
 fn accept(text: &[u8], out: &mut [u8]) -> Answer
@@ -15,15 +16,16 @@ fn accept(text: &[u8], out: &mut [u8]) -> Answer
 {
     let mut table = [0u16; 512];
     let mut places = [0usize; 384];
-    let reading = reader::read(text, &mut table, &mut places);
-    if reading.number != 0 {
-        return reader::refusal(reading);
+    match reader::read(text, &mut table, &mut places) {
+        Ok(_) => {
+            let needed = text.len();
+            let room = out.len();
+            let part = printing::lend(needed, room);
+            printing::put_bytes(&mut out[..part], 0, text);
+            printing::text_answer(needed, room)
+        }
+        Err(refused) => refused.into(),
     }
-    let needed = text.len();
-    let room = out.len();
-    let part = printing::lend(needed, room);
-    printing::put_bytes(&mut out[..part], 0, text);
-    printing::text_answer(needed, room)
 }
 
 // Two files that were read. The lines behind a file's attribute lines start at `from` and `other`. The text is
@@ -44,25 +46,28 @@ fn join_both(
 {
     let line = joined_attributes::first_differing(first, a, second, b);
     if line != 0 {
-        return Answer {
-            number: 19,
+        let refused = Refused {
+            why: Refusal::OtherAttribute,
             second: line as u32,
         };
+        return refused.into();
     }
     if syntax::word_of(Kind::Set, word).is_none() {
         let joined = joined_attributes::places_in(first, a, second, b, first, a);
-        return Answer {
-            number: 7,
+        let refused = Refused {
+            why: Refusal::BadWord,
             second: (joined.len + 1) as u32,
         };
+        return refused.into();
     }
     let mut text = [0u8; 16384];
     let needed = joined_text::put_joined(first, a, from, second, b, other, word, &mut text);
     if 16384 < needed {
-        return Answer {
-            number: 1,
+        let refused = Refused {
+            why: Refusal::LongFile,
             second: 0,
         };
+        return refused.into();
     }
     accept(&text[..needed], out)
 }
@@ -82,10 +87,11 @@ pub fn join(
 {
     let mut table = [0u16; 512];
     let mut places = [0usize; 384];
-    let reading = reader::read(second, &mut table, &mut places);
-    if reading.number != 0 {
-        return reader::refusal(reading);
+    match reader::read(second, &mut table, &mut places) {
+        Ok(policy) => {
+            let b = policy.attributes;
+            join_both(first, a, from, second, b, places[0], word, out)
+        }
+        Err(refused) => refused.into(),
     }
-    let b = reading.attributes;
-    join_both(first, a, from, second, b, places[0], word, out)
 }

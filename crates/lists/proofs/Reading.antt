@@ -1,4 +1,5 @@
 -- The elements of a file that was read, listed one by one; and what a file is listed as.
+use Rattle.std.specs.Prelude.{Ok, Err}
 use mathlib.Core.Path.{◌≡◌, refl, sym, ap, ap₂, ◌∙◌}
 use Prim.Native.Nat.{ℕ, ◌+◌, ◌≤◌, ◌<◌}
 use native.Mathlib.Numerals.{add-one}
@@ -14,19 +15,22 @@ use Rattle.meaning.specs.Text.{Bytes}
 use Rattle.meaning.specs.Model.{Policy, Result, refused, given, ◌then◌}
 use Rattle.meaning.specs.Reading.{read}
 use Rattle.meaning.specs.Writing.{list_file}
-use Rattle.meaning.specs.Operations.{answered, lent, read_lent}
+use Rattle.meaning.specs.Operations.{answered, lent, read_answer, read_lent}
+use Rattle.refusals.specs.declared.Refused.{Refused}
+use Rattle.refusals.specs.declared.Refusal.TheVariants.{ShortList}
+use Rattle.refusals.specs.Numbers.{number_of, answer_of}
+use Rattle.laws.proofs.Reading.{refused-given, given_given}
 use Rattle.laws.proofs.Bools.{Test, passed, failed, test}
 use Rattle.table.specs.Rows.{element_at}
 use Rattle.layout.specs.Places.{element_in, elements_to}
 use Rattle.layout.proofs.Laws.{elements_length}
-use Rattle.reader.specs.declared.Reading.{Reading}
-use Rattle.reader.specs.Told.{ReadPolicy, ReadAs}
-use Rattle.reader.proofs.FileRead.{file_refused, elements_are, few, good, naming}
+use Rattle.reader.specs.declared.Policy.{Policy as PolicyRead}
+use Rattle.reader.specs.Told.{ReadPolicy}
+use Rattle.reader.proofs.FileRead.{elements_are, few, good, naming}
 use Rattle.elements.specs.declared.Elements.{Elements}
 use Rattle.elements.specs.Listed.{blank, no_elements, with_element, elements_of}
 use Rattle.elements.proofs.Listing.{one_more}
-use Rattle.lists.specs.declared.Listing.{Listing}
-use Rattle.lists.specs.Listed.{Filled, given_or, Listed}
+use Rattle.lists.specs.Listed.{Filled, Listed}
 
 -- the first i of them
 pub record Upto (f : Bytes) (table places : List ℕ) (all : Elements) (i : ℕ) : Type 0 where
@@ -52,27 +56,16 @@ module _ (f : Bytes) (table places : List ℕ) where
             ∙ ap (λ n. reverse (elements_to f table places n)) (sym (add-one i));
       }
 
--- A refusal, with no elements
-none_listed : (f : Bytes) (room n m : ℕ) → list_file room f ≡ refused n m → (a : Answer) → a ≡ record { number = n; second = m } → (es : Elements) → es ≡ no_elements → Listed f room (record { answer = a; elements = es })
-none_listed f room n m h a a-is es none =
-    record {
-      answer = a-is ∙ ap (answered length) (sym h);
-      elements = ap elements_of none ∙ ap given_or (sym h);
-      count = ap (λ l. l.len) none ∙ ap (λ x. length (given_or x)) (sym h);
-      few = rw none (omega arith);
-    }
-
--- of the file
-pub refusal_listed : (f table places : List ℕ) (r : Reading) → ReadAs f table places r (read f) → (r.number ≡ 0 → ⊥) → (room : ℕ) (a : Answer) → a ≡ record { number = r.number; second = r.second }
-    → (es : Elements) → es ≡ no_elements → Listed f room (record { answer = a; elements = es })
+-- a file that is refused
+pub refusal_listed : (f : Bytes) (room : ℕ) (r : Refused) → read f ≡ refused (number_of r.why) r.second → Listed f room (Err r)
 unfolding list_file
-refusal_listed f table places r is_read h room a a-is es none = none_listed f room r.number r.second (rw (file_refused f table places r is_read h)) a a-is es none
+refusal_listed f room r e = rw e
 
-module _ (f table places : List ℕ) (r : Reading) (p : Policy) (h : read f ≡ given p) (holds : ReadPolicy f table places r p) where
+module _ (f table places : List ℕ) (r : PolicyRead) (p : Policy) (h : read f ≡ given p) (holds : ReadPolicy f table places r p) where
   -- of a short list
-  pub short_listed : (room : ℕ) → room < r.elements → (es : Elements) → es ≡ no_elements → Listed f room (record { answer = record { number = 12; second = r.elements }; elements = es })
+  pub short_listed : (room : ℕ) → room < r.elements → Listed f room (Err (record { why = ShortList; second = r.elements }))
   unfolding list_file
-  short_listed room short es none = none_listed f room 12 r.elements (rw (h, elements_are f table places r p h holds, lt-ltb room r.elements short)) _ refl es none
+  short_listed room short = rw (h, elements_are f table places r p h holds, lt-ltb room r.elements short)
 
   pub filled : Filled f table places r.elements
   unfolding element_in element_at
@@ -83,39 +76,32 @@ module _ (f table places : List ℕ) (r : Reading) (p : Policy) (h : read f ≡ 
   given_all room enough = rw (h, elements_are f table places r p h holds, le-ltb room r.elements enough, holds.elements)
 
   -- the elements, where there is room
-  pub whole_listed : (room : ℕ) → r.elements ≤ room → (es : Elements) → elements_of es ≡ reverse (elements_to f table places r.elements) → es.len ≡ r.elements
-      → Listed f room (record { answer = record { number = 0; second = r.elements }; elements = es })
-  whole_listed room enough es all count =
-      record {
-        answer = ap (λ n. record { number = 0; second = n }) (sym size) ∙ ap (answered length) (sym (given_all room enough));
-        elements = all ∙ ap given_or (sym (given_all room enough));
-        count = count ∙ sym size ∙ ap (λ x. length (given_or x)) (sym (given_all room enough));
-        few = omega (arith, count, few f table places r p h holds);
-      }
+  pub whole_listed : (room : ℕ) → r.elements ≤ room → (es : Elements) → elements_of es ≡ reverse (elements_to f table places r.elements) → es.len ≡ r.elements → Listed f room (Ok es)
+  whole_listed room enough es all count = (given_all room enough ∙ ap given (sym all), count ∙ sym size, omega (arith, count, few f table places r p h holds))
     where
-      size : length (reverse (elements_to f table places r.elements)) ≡ r.elements
-      size = length-reverse (elements_to f table places r.elements) ∙ elements_length f table places r.elements
+      size : length (elements_of es) ≡ r.elements
+      size = ap length all ∙ length-reverse (elements_to f table places r.elements) ∙ elements_length f table places r.elements
 
--- What is listed for a lent list fits in, and is the list afterwards
-given_fits : (f : Bytes) (room : ℕ) → length (given_or (list_file room f)) ≤ room
+-- What is listed for a lent list fits in, and stands at its start afterwards
+given_fits : (f : Bytes) (room : ℕ) (es : List Element) → list_file room f ≡ given es → length es ≤ room
 unfolding list_file
-given_fits f room = go (read f)
+given_fits f room es e = go (read f) e
   where
-    few_or_none : (es : List Element) → Test (ltb room (length es)) → length (given_or (cond (ltb room (length es)) (refused 12 (length es)) (given es))) ≤ room
-    few_or_none es (passed e) = rw e (omega arith)
-    few_or_none es (failed e) = rw e (ltb-false room (length es) e)
+    one : (xs : List Element) → Test (ltb room (length xs)) → cond (ltb room (length xs)) (refused 12 (length xs)) (given xs) ≡ given es → length es ≤ room
+    one xs (passed t) e = absurd (refused-given (rw t at e))
+    one xs (failed t) e = omega (arith, ltb-false room (length xs) t, ap length (given_given (rw t at e)))
 
-    go : (x : Result Policy) → length (given_or (x then λ p. cond (ltb room (length p.elements)) (refused 12 (length p.elements)) (given p.elements))) ≤ room
-    go (refused n m) = omega arith
-    go (given p) = few_or_none p.elements (test (ltb room (length p.elements)))
+    go : (x : Result Policy) → (x then λ p. cond (ltb room (length p.elements)) (refused 12 (length p.elements)) (given p.elements)) ≡ given es → length es ≤ room
+    go (refused n m) e = absurd (refused-given e)
+    go (given p) e = one p.elements (test (ltb room (length p.elements))) e
 
-given_lent : (ys : List Element) (x : Result (List Element)) → given_or x ++ drop (length (given_or x)) ys ≡ lent ys x
-given_lent ys (refused n m) = refl
-given_lent ys (given es) = refl
+module _ (f : Bytes) (ys : List Element) (es : Elements) (listed : Listed f (length ys) (Ok es)) where
+  pub listed_fits : length (elements_of es) ≤ length ys
+  listed_fits = given_fits f (length ys) (elements_of es) listed.0
 
-module _ (f : Bytes) (ys : List Element) (r : Listing) (listed : Listed f (length ys) r) where
-  pub listed_fits : length (elements_of r.elements) ≤ length ys
-  listed_fits = rw listed.elements (given_fits f (length ys))
+  pub listed_told : (record { number = 0; second = es.len } ≡ read_answer f ys) × (elements_of es ++ drop (length (elements_of es)) ys ≡ read_lent f ys)
+  listed_told = (ap (λ n. record { number = 0; second = n }) listed.1 ∙ ap (answered length) (sym listed.0), ap (lent ys) (sym listed.0))
 
-  pub listed_lent : elements_of r.elements ++ drop (length (elements_of r.elements)) ys ≡ read_lent f ys
-  listed_lent = rw listed.elements (given_lent ys (list_file (length ys) f))
+-- and of a refusal nothing
+pub refusal_told : (f : Bytes) (ys : List Element) (r : Refused) → Listed f (length ys) (Err r) → {a : Answer} → a ≡ answer_of r → (a ≡ read_answer f ys) × (ys ≡ read_lent f ys)
+refusal_told f ys r e is = (is ∙ sym (ap (answered length) e), sym (ap (lent ys) e))

@@ -1,15 +1,15 @@
 -- A file's elements by value, for a list of so many places.
-use Rattle.std.specs.Prelude.{ℕ, ◌≤◌, ◌<◌, cond, List, [], ◌≡◌, eqb, length}
+use Rattle.std.specs.Prelude.{ℕ, ◌≤◌, ◌<◌, cond, List, Result as Told, Ok, Err, ◌≡◌, eqb, length}
 use Rattle.meaning.specs.declared.Obligation.{Obligation}
-use Rattle.meaning.specs.declared.Element.{Element}
 use Rattle.meaning.specs.Text.{Bytes}
-use Rattle.meaning.specs.Model.{unused, Result, refused, given}
+use Rattle.meaning.specs.Model.{unused, refused, given}
 use Rattle.meaning.specs.Writing.{list_file}
-use Rattle.meaning.specs.Operations.{answered}
+use Rattle.refusals.specs.declared.Refused.{Refused}
+use Rattle.refusals.specs.Numbers.{number_of}
 use Rattle.table.specs.Rows.{Rows, depth_of}
 use Rattle.layout.specs.Places.{obligation_end, obligation_at, Naming, Obliged}
+use Rattle.elements.specs.declared.Elements.{Elements}
 use Rattle.elements.specs.Listed.{elements_of}
-use Rattle.lists.specs.declared.Listing.{Listing}
 
 -- what place k for an obligation of element i holds
 abbrev pub place_in : Bytes → List ℕ → ℕ → ℕ → Obligation
@@ -22,13 +22,7 @@ pub record Filled (f : Bytes) (table places : List ℕ) (n : ℕ) : Type 0 where
   pub obliged : (i : ℕ) → i < n → Obliged f places i
   pub shallow : (i : ℕ) → i < n → depth_of table i ≤ 7
 
--- the elements given; none by a refusal
-abbrev pub given_or : Result (List Element) → List Element
-given_or (refused n m) = []
-given_or (given es) = es
-
-pub record Listed (f : Bytes) (room : ℕ) (r : Listing) : Type 0 where
-  pub answer : r.answer ≡ answered length (list_file room f)
-  pub elements : elements_of r.elements ≡ given_or (list_file room f)
-  pub count : r.elements.len ≡ length (given_or (list_file room f))
-  pub few : r.elements.len ≤ 64
+-- the elements given, or the refusal
+abbrev pub Listed : Bytes → ℕ → Told Elements Refused → Type 0
+Listed f room (Ok es) = (list_file room f ≡ given (elements_of es)) × (es.len ≡ length (elements_of es)) × (es.len ≤ 64)
+Listed f room (Err r) = list_file room f ≡ refused (number_of r.why) r.second

@@ -1,5 +1,5 @@
 // Lists of elements that the caller lends: a file read into one, and one written as a file.
-#![tactic(auto)]
+#![tactic(auto, using(reader::proofs::FileRead::unread))]
 
 mod element;
 
@@ -14,13 +14,7 @@ ghost use Rattle.lists.specs.Listed.{Filled, Listed};
 pub use element::kind_at;
 use elements::Elements;
 use meaning::{Answer, Element};
-
-// A file's elements by value, and the answer for a list of so many places; no elements where it is a refusal.
-#[derive(Clone, Copy)]
-pub struct Listing {
-    pub answer: Answer,
-    pub elements: Elements,
-}
+use refusals::{Refusal, Refused};
 
 // The elements of a file that was read.
 fn all_elements(file: &[u8], table: &[u16], places: &[usize], n: usize) -> Elements
@@ -34,33 +28,20 @@ fn all_elements(file: &[u8], table: &[u16], places: &[usize], n: usize) -> Eleme
     all
 }
 
-// Reads a file for a list of `room` places.
-pub fn read_elements(file: &[u8], room: usize) -> Listing
+// Reads a file for a list of `room` places: its elements by value, or the refusal.
+pub fn read_elements(file: &[u8], room: usize) -> Result<Elements, Refused>
     ensures { Listed file.now room result }
 {
     let mut table = [0u16; 512];
     let mut places = [0usize; 384];
-    let reading = reader::read(file, &mut table, &mut places);
-    if reading.number != 0 {
-        let answer = reader::refusal(reading);
-        let elements = Elements::none();
-        return Listing { answer, elements };
-    }
-    let n = reading.elements;
+    let n = reader::read(file, &mut table, &mut places)?.elements;
     if room < n {
-        let answer = Answer {
-            number: 12,
+        return Err(Refused {
+            why: Refusal::ShortList,
             second: n as u32,
-        };
-        let elements = Elements::none();
-        return Listing { answer, elements };
+        });
     }
-    let answer = Answer {
-        number: 0,
-        second: n as u32,
-    };
-    let elements = all_elements(file, &table, &places, n);
-    Listing { answer, elements }
+    Ok(all_elements(file, &table, &places, n))
 }
 
 // The elements go to the start of the list; the places behind them are as they were.
@@ -75,9 +56,16 @@ fn fill(list: &mut [Element], elements: &[Element])
 pub fn read_list(file: &[u8], list: &mut [Element]) -> Answer
     ensures { (result ≡ read_answer file.now list.old) × (list.new ≡ read_lent file.now list.old) }
 {
-    let listing = read_elements(file, list.len());
-    fill(list, listing.elements.as_slice());
-    listing.answer
+    match read_elements(file, list.len()) {
+        Ok(elements) => {
+            fill(list, elements.as_slice());
+            Answer {
+                number: 0,
+                second: elements.len as u32,
+            }
+        }
+        Err(refused) => refused.into(),
+    }
 }
 
 // Writes the file of some attribute lines and a list into a buffer. A refusal leaves the buffer as it was. The last part is what the elements' type says: 16 name bytes, six masks and 16 name bytes in each place.

@@ -22,13 +22,11 @@ pub ending : (f table places : List ℕ) (st : State) (end : ℕ) → BeforeLine
 ending f table places st end ready l whole = go (test (eqb st.at end)) (test (eqb st.tree.len 0))
   where
     go : Test (eqb st.at end) → Test (eqb st.tree.len 0) → ReadAs f table places (ended_at st end) (cond (eqb st.at end) (finished (read_sofar f table places st)) (refused 2 st.line))
-    go (failed more) t = rw more (record { is = refl; not_zero = lit≤ tt; low = lit≤ tt; small = l })
-    go (passed e) (passed none) = rw (e, no_elements_lem f table places st.tree.len, none) (record { is = refl; not_zero = lit≤ tt; low = lit≤ tt; small = zero-le })
+    go (failed more) t = rw more (record { is = refl; low = lit≤ tt; small = l })
+    go (passed e) (passed none) = rw (e, no_elements_lem f table places st.tree.len, none) (record { is = refl; low = lit≤ tt; small = zero-le })
     go (passed e) (failed some) =
         let many = eqb-false st.tree.len 0 some in
         rw (e, no_elements_lem f table places st.tree.len, some) (record {
-          number = refl;
-          second = refl;
           attributes = refl;
           elements = refl;
           space_is = ready.in_file.space_is;

@@ -1,45 +1,51 @@
--- A file that was read, or refused with small numbers.
-use mathlib.Core.Path.{◌≡◌, refl, ap, ◌∙◌}
+-- A file that was read, or refused.
+use mathlib.Core.Path.{◌≡◌, refl, sym, ap, ◌∙◌}
+use Rattle.std.specs.Prelude.{Ok, Err}
 use Prim.Native.Nat.{ℕ, ◌+◌, ◌-◌, ◌*◌, ◌≤◌, ◌<◌}
 use native.Mathlib.Omega.{arith}
 use mathlib.Core.List.{List, reverse-reverse}
-use lib.Dec.{leb}
-use lib.ListN.{length, drop, get_or, length-drop, length-reverse}
+use lib.Dec.{leb, lit≤}
+use lib.ListN.{length, drop, get_or, replicate, length-drop, length-reverse}
 use lib.Seq.{length-take-le}
 use borrow.Author.Tests.{leb-true}
 use Rattle.meaning.specs.Model.{Policy, Result, refused, given}
 use Rattle.meaning.specs.Reading.{read}
+use Rattle.refusals.specs.declared.Refused.{Refused}
+use Rattle.refusals.specs.Numbers.{number_of}
 use Rattle.laws.proofs.Bounds.{GoodElement, bounded, all_reverse, named}
 use Rattle.laws.proofs.Bools.{and_true}
-use Rattle.layout.specs.Places.{start_of, name_in, element_in, elements_to, Naming}
+use Rattle.table.specs.Rows.{Rows}
+use Rattle.layout.specs.Places.{Clear, FewValues, start_of, name_in, element_in, elements_to, Naming}
+use Rattle.layout.proofs.Slots.{zeros_clear}
 use Rattle.layout.proofs.Laws.{elements_length, of_each}
-use Rattle.reader.specs.declared.Reading.{Reading}
-use Rattle.reader.specs.Told.{ReadPolicy, ReadAs}
+use Rattle.reader.specs.declared.Policy.{Policy as PolicyRead}
+use Rattle.reader.specs.Told.{ReadPolicy, ReadAs, ReadIs}
 
-module _ (f table places : List ℕ) (r : Reading) (is_read : ReadAs f table places r (read f)) where
-  pub small_numbers : (r.number ≡ 0 → ⊥) → (r.number ≤ 14) × (r.second ≤ 16385)
-  small_numbers h = go (read f) is_read
-    where
-      go : (x : Result Policy) → ReadAs f table places r x → (r.number ≤ 14) × (r.second ≤ 16385)
-      go (refused n m) t = rw t.is (t.low, t.small)
-      go (given p) t = absurd (h t.number)
+-- what reading asks of the memory that it is lent, where all of it is 0
+pub unread : let zeros : ℕ → List ℕ = λ n. replicate n 0 in Rows (zeros 512) 64 × (384 ≤ length (zeros 384)) × Clear (zeros 384) 0
+unread = (lit≤ tt, lit≤ tt, zeros_clear 384)
 
-  pub file_refused : (r.number ≡ 0 → ⊥) → read f ≡ refused r.number r.second
-  file_refused h = go (read f) refl is_read
+module _ {f table₀ places₀ table places : List ℕ} where
+  pub file_refused : {x : Refused} → ReadIs f table₀ places₀ table places (Err x) → read f ≡ refused (number_of x.why) x.second
+  file_refused {x} is_read = go (read f) refl is_read.answer
     where
-      go : (x : Result Policy) → read f ≡ x → ReadAs f table places r x → read f ≡ refused r.number r.second
-      go (refused n m) e t = rw t.is e
-      go (given p) e t = absurd (h t.number)
+      go : (y : Result Policy) → read f ≡ y → ReadAs f table places (Err x) y → read f ≡ refused (number_of x.why) x.second
+      go (given p) h t = elim t [ ]
+      go (refused n m) h t = h ∙ λ i. refused (sym t.is i).number (sym t.is i).second
 
-  pub file_read : r.number ≡ 0 → (p : Policy) × (read f ≡ given p) × ReadPolicy f table places r p
-  file_read z = go (read f) refl is_read
+  pub file_read : {x : PolicyRead} → ReadIs f table₀ places₀ table places (Ok x) → (p : Policy) × (read f ≡ given p) × ReadPolicy f table places x p
+  file_read {x} is_read = go (read f) refl is_read.answer
     where
-      go : (x : Result Policy) → read f ≡ x → ReadAs f table places r x → (p : Policy) × (read f ≡ given p) × ReadPolicy f table places r p
-      go (refused n m) e t = absurd (omega (arith, ap (λ x. x.number) t.is, t.not_zero))
-      go (given p) e t = (p, e, t)
+      go : (y : Result Policy) → read f ≡ y → ReadAs f table places (Ok x) y → (p : Policy) × (read f ≡ given p) × ReadPolicy f table places x p
+      go (refused n m) h t = elim t [ ]
+      go (given p) h t = (p, h, t)
+
+  -- what its shape asks of the policy
+  pub sizable : {x : PolicyRead} → ReadIs f table₀ places₀ table places (Ok x) → (x.attributes.len ≤ 6) × FewValues x.attributes
+  sizable is_read = let spaced = (file_read is_read).2.spaced in (spaced.standing.few, spaced.few_values)
 
 -- The elements of a file that was read
-module _ (f table places : List ℕ) (r : Reading) (p : Policy) (h : read f ≡ given p) (holds : ReadPolicy f table places r p) where
+module _ (f table places : List ℕ) (r : PolicyRead) (p : Policy) (h : read f ≡ given p) (holds : ReadPolicy f table places r p) where
   pub elements_are : length p.elements ≡ r.elements
   elements_are = ap length holds.elements ∙ length-reverse (elements_to f table places r.elements) ∙ elements_length f table places r.elements
 

@@ -1,5 +1,4 @@
 -- Reading line by line: what is left of a file, read behind what was read so far.
-use Rattle.std.specs.Prelude.{Ok, Err}
 use mathlib.Core.Path.{◌≡◌, refl, sym, ap, ◌∙◌, subst⁻¹}
 use Prim.Native.Nat.{ℕ, ◌+◌, ◌≤◌, ◌<◌, zero-le}
 use native.Mathlib.Omega.{arith}
@@ -8,21 +7,24 @@ use mathlib.Core.List.{List, [], ◌∷◌}
 use lib.Dec.{eqb, lit≤}
 use lib.ListN.{length, get_or, drop}
 use borrow.Author.Tests.{le-ltb, lt-ltb, eq-eqb, ne_eqb}
+use Rattle.std.specs.Prelude.{Result as Told, Ok, Err}
 use Rattle.meaning.specs.Text.{Bytes, cut, newline, tab}
 use Rattle.meaning.specs.Model.{Policy, Result, refused, given, ◌then◌}
 use Rattle.meaning.specs.Reading.{Line, attribute_line, tree_line, obligation_line, other_line, line_of, Sofar, wrong_fields, line_tests, extended, nothing, finished, read}
 use Rattle.meaning.specs.Claims.Texts.{All}
+use Rattle.refusals.specs.declared.Refused.{Refused}
 use Rattle.refusals.specs.declared.Refusal.{Refusal}
-use Rattle.refusals.specs.Numbers.{number_of}
-use Rattle.refusals.proofs.Numbers.{from_one, not_zero}
+use Rattle.refusals.specs.declared.Refusal.TheVariants.{LongFile}
+use Rattle.refusals.specs.Numbers.{number_of, answer_of}
+use Rattle.refusals.proofs.Numbers.{not_zero}
 use Rattle.layout.specs.Places.{part}
 use Rattle.attribute_lines.specs.declared.State.{State}
-use Rattle.reader.specs.declared.Reading.{Reading}
+use Rattle.reader.specs.declared.Policy.{Policy as PolicyRead}
 use Rattle.attribute_lines.specs.Sofar.{refusal_by, refusal_of}
 use Rattle.attribute_lines.specs.Laid.{Laid, with_line}
 use Rattle.reader.specs.Laid.{laid_by, laid_in}
 use Rattle.attribute_lines.specs.Steps.{BeforeLine, beginning, read_sofar, laid_at, StepIs}
-use Rattle.reader.specs.Told.{refused_with, ended_at, ReadAs, ReadIs}
+use Rattle.reader.specs.Told.{ended_at, ReadAs, ReadIs}
 use Rattle.attribute_lines.proofs.Parts.{part_length}
 use Rattle.reader.proofs.Ends.{ending}
 use Rattle.attribute_lines.proofs.Remaining.{lines_at, lines_from, no_line, first_line, none_left, one_refused, one_read, lowest_within}
@@ -96,39 +98,40 @@ pub keeps_first : (f table places : List ℕ) → length f ≤ 16384 → read_so
 keeps_first f table places l e = record { reads = all_remains f l ∙ sym (rw e); lays = rw (le-ltb 16384 (length f) l, ← e) }
 
 -- what is told of a file, and what it laid down
-told : {f table₀ places₀ table places : List ℕ} {s : Sofar} {r : Reading} → ReadAs f table places r (read f) → laid_in f table₀ places₀ ≡ record { sofar = s; table = table; places = places } → ReadIs f table₀ places₀ table places r
+told : {f table₀ places₀ table places : List ℕ} {s : Sofar} {r : Told PolicyRead Refused} → ReadAs f table places r (read f) → laid_in f table₀ places₀ ≡ record { sofar = s; table = table; places = places } → ReadIs f table₀ places₀ table places r
 told is lays = record { answer = is; table_is = sym (ap (λ x. x.table) lays); places_are = sym (ap (λ x. x.places) lays) }
 
-refusal_told : (f table places : List ℕ) (r : Reading) (n m : ℕ) → read f ≡ refused n m → r ≡ refused_with n m → 1 ≤ n → n ≤ 14 → m ≤ 16385 → ReadAs f table places r (read f)
-refusal_told f table places r n m e is p low l = subst⁻¹ (ReadAs f table places r) e (record { is = is; not_zero = p; low = low; small = l })
+-- a refusal of numbers as small as these
+refusal_told : (f table places : List ℕ) (r : Refused) (n m : ℕ) → read f ≡ refused n m → answer_of r ≡ record { number = n; second = m } → n ≤ 14 → m ≤ 16385 → ReadAs f table places (Err r) (read f)
+refusal_told f table places r n m e is low l = subst⁻¹ (ReadAs f table places (Err r)) e (record { is = is; low = low; small = l })
 
-pub long_told : (f table places : List ℕ) (r : Reading) → 16384 < length f → r ≡ refused_with 1 0 → ReadIs f table places table places r
-long_told f table places r l is = told {s = nothing} (refusal_told f table places r 1 0 (too_long f l) is (lit≤ tt) (lit≤ tt) zero-le) (rw (lt-ltb 16384 (length f) l))
+pub long_told : (f table places : List ℕ) → 16384 < length f → ReadIs f table places table places (Err (record { why = LongFile; second = 0 }))
+long_told f table places l = told {s = nothing} (refusal_told f table places _ 1 0 (too_long f l) refl (lit≤ tt) zero-le) (rw (lt-ltb 16384 (length f) l))
 
 module _ (f table₀ places₀ table places : List ℕ) (st : State) (ready : BeforeLine f table places st) (size : length f ≤ 16384) (keeps : Keeps f table₀ places₀ table places st)
     (end : ℕ) (ends : end ≡ st.at + length (get_or (cut newline (drop st.at f)) 0 [])) where
-  few_lines : st.line ≤ 16385
+  pub few_lines : st.line ≤ 16385
   few_lines = omega (arith, ready.in_file.inside, ready.in_file.lines_passed)
 
   -- the end of the file
-  pub ended : end ≡ length f → {r : Reading} → r ≡ ended_at st end → ReadIs f table₀ places₀ table places r
+  pub ended : end ≡ length f → {r : Told PolicyRead Refused} → r ≡ ended_at st end → ReadIs f table₀ places₀ table places r
   ended e is =
       let reads = keeps.reads ∙ no_more f st.at st.line (read_sofar f table places st) end ends ready.in_file.inside e in
       told (rw is (subst⁻¹ (ReadAs f table places (ended_at st end)) reads (ending f table places st end ready few_lines e))) (keeps.lays ∙ none_laid f st.at end (laid_at f table places st) ends e)
 
   -- a line that is refused, and one that is not
   module _ (inside : end < length f) {t p : List ℕ} where
-    pub refused_here : (why : Refusal) → StepIs f table places t p st end (Err why) → {r : Reading} → r ≡ refused_with (number_of why) st.line → ReadIs f table₀ places₀ t p r
-    refused_here why is-step {r} is =
+    pub refused_here : {why : Refusal} → StepIs f table places t p st end (Err why) → ReadIs f table₀ places₀ t p (Err (record { why = why; second = st.line }))
+    refused_here {why} is-step =
         let s = read_sofar f table places st in
         let fs = cut tab (part f st.at end) in
         let other : (refusal_of s fs ≡ 0 → ⊥) = λ z. not_zero why (is-step.refusal ∙ z) in
         let reads = keeps.reads ∙ line_refused f st.at st.line s end ends inside other ∙ ap (λ k. refused k st.line) (sym is-step.refusal) in
         let same = is-step.stays in
-        rw (same.table_is, same.places_are) (told (refusal_told f table places r (number_of why) st.line reads is (from_one why) (omega (arith, is-step.refusal, refusal_low s fs)) few_lines) (keeps.lays ∙ stop_laid f st.at end (laid_at f table places st) ends inside other))
+        rw (same.table_is, same.places_are) (told (refusal_told f table places _ (number_of why) st.line reads refl (omega (arith, is-step.refusal, refusal_low s fs)) few_lines) (keeps.lays ∙ stop_laid f st.at end (laid_at f table places st) ends inside other))
 
-    pub keeps_next : (next : State) → StepIs f table places t p st end (Ok next) → Keeps f table₀ places₀ t p next
-    keeps_next next is-step =
+    pub keeps_next : {next : State} → StepIs f table places t p st end (Ok next) → Keeps f table₀ places₀ t p next
+    keeps_next is-step =
         let n = is-step.next in
         let none = sym is-step.refusal in
         record {

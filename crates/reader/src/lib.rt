@@ -7,24 +7,38 @@ ghost use Rattle.table.specs.Rows.{Rows};
 ghost use Rattle.layout.specs.Places.{part, FewValues, Clear};
 ghost use Rattle.attribute_lines.specs.Sofar.{CountIs};
 ghost use Rattle.attribute_lines.specs.Steps.{BeforeLine, EndedLine, StepIs};
-ghost use Rattle.reader.specs.Told.{LineAt, refused_with, policy_shape, ended_at, ReadIs};
+ghost use Rattle.reader.specs.Told.{LineAt, policy_shape, ended_at, ReadIs};
 
 use attribute_lines::State;
 use layout::Attributes;
-use meaning::Answer;
-use refusals::Refusal;
+use refusals::{Refusal, Refused};
 use syntax::LineKind;
 use table::Shape;
 use text::Counted;
 
-// A file as it was read: a refusal's two numbers and nothing read, or 0, 0 and what was read.
+// A policy that was read from a file: its attributes, how many requests they make, and how many elements there are.
 #[derive(Clone, Copy)]
-pub struct Reading {
-    pub number: usize,
-    pub second: usize,
+pub struct Policy {
     pub attributes: Attributes,
     pub space: usize,
     pub elements: usize,
+}
+
+impl Policy {
+    // Its shape.
+    pub fn shape(self) -> Shape
+        requires { (self.attributes.len ≤ 6) × FewValues self.attributes }
+        ensures { result ≡ policy_shape self }
+    {
+        let attributes = self.attributes;
+        Shape {
+            n: self.elements,
+            several: attributes.severals(),
+            counts: attributes.sizes(),
+            len: attributes.len,
+            space: self.space,
+        }
+    }
 }
 
 // The line at a place: where it ends, and how many fields it has.
@@ -64,89 +78,59 @@ fn read_line(
     }
 }
 
-// A file that is refused: nothing of it counts as read.
-fn refuse(number: usize, second: usize) -> Reading
-    ensures { result ≡ refused_with number second }
-{
-    let attributes = Attributes::none();
-    Reading {
-        number,
-        second,
-        attributes,
-        space: 1,
-        elements: 0,
-    }
-}
-
 // What stands behind the last newline, and the end of the file.
-fn finish(st: State, end: usize) -> Reading
+fn finish(st: State, end: usize) -> Result<Policy, Refused>
+    requires { st.line ≤ 16385 }
     ensures { result ≡ ended_at st end }
 {
-    let attributes = st.attributes;
-    let tree = st.tree;
-    let elements = tree.len;
-    let space = st.space;
     if st.at != end {
-        return refuse(2, st.line);
+        return Err(Refused {
+            why: Refusal::BadLine,
+            second: st.line as u32,
+        });
     }
+    let elements = st.tree.len;
     if elements == 0 {
-        return refuse(9, 0);
+        return Err(Refused {
+            why: Refusal::NoElement,
+            second: 0,
+        });
     }
-    Reading {
-        number: 0,
-        second: 0,
+    let attributes = st.attributes;
+    let space = st.space;
+    Ok(Policy {
         attributes,
         space,
         elements,
-    }
+    })
 }
 
 // Reads a file into the table and the places, which have no obligation before; a refused one up to the line that is refused.
-pub fn read(file: &[u8], table: &mut [u16], places: &mut [usize]) -> Reading
+pub fn read(file: &[u8], table: &mut [u16], places: &mut [usize]) -> Result<Policy, Refused>
     requires { Rows table.old 64 × (384 ≤ length places.old) × Clear places.old 0 }
     ensures { ReadIs file.now table.old places.old table.new places.new result }
 {
-    let mut st = attribute_lines::start();
     if 16384 < file.len() {
-        return refuse(1, 0);
+        return Err(Refused {
+            why: Refusal::LongFile,
+            second: 0,
+        });
     }
+    let mut st = attribute_lines::start();
     loop {
-        let at = st.at;
-        let line = st.line;
-        let found = line_at(file, at);
+        let found = line_at(file, st.at);
         let end = found.end;
         if end == file.len() {
             return finish(st, end);
         }
         match read_line(file, st, end, found.fields, table, places) {
             Ok(next) => st = next,
-            Err(why) => return refuse(why.number() as usize, line),
+            Err(why) => {
+                return Err(Refused {
+                    why,
+                    second: st.line as u32,
+                });
+            }
         }
-    }
-}
-
-// The answer of a file that was refused.
-pub fn refusal(reading: Reading) -> Answer
-    requires { (reading.number ≤ 14) × (reading.second ≤ 16385) }
-    ensures { result ≡ record { number = reading.number; second = reading.second } }
-{
-    Answer {
-        number: reading.number as u32,
-        second: reading.second as u32,
-    }
-}
-
-// The shape of the policy that was read.
-pub fn policy_shape(reading: Reading) -> Shape
-    requires { (reading.attributes.len ≤ 6) × FewValues reading.attributes }
-    ensures { result ≡ policy_shape reading }
-{
-    let attributes = reading.attributes;
-    Shape {
-        n: reading.elements,
-        several: attributes.severals(),
-        counts: attributes.sizes(),
-        len: attributes.len,
-        space: reading.space,
     }
 }

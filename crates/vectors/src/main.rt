@@ -1,5 +1,5 @@
 // Prints what the program prints of each file that the arguments name, behind the file's name. An accepted file is read into elements and written again, and each of its requests is stepped to; a line says so if other bytes or decisions come out. Of the file `lists` it prints what the writer answers for each of its lists.
-#![tactic(auto)]
+#![tactic(auto, using(reader::proofs::FileRead::unread))]
 
 mod encoded;
 mod lending;
@@ -47,14 +47,10 @@ fn attribute_lines_end(file: &[u8]) -> usize
 
 // Whether a file comes out of the writer as it went into the reader; refused ones count.
 fn written_again(file: &[u8]) -> bool {
-    let read = lists::read_elements(file, 64).answer;
-    if read.number != 0 {
-        return true;
-    }
-    let n = read.second as usize;
-    if 66 < n {
-        return false;
-    }
+    let n = match lists::read_elements(file, 64) {
+        Ok(elements) => elements.len,
+        Err(_) => return true,
+    };
     let all = lending::listed(file);
     let list = Lent { all, len: n };
     let header = attribute_lines_end(file);

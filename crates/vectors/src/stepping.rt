@@ -144,11 +144,10 @@ fn step_all(table: &[u16], struck: &[u8], shape: Shape, told: &[u8], shown: bool
 pub(crate) fn stepped(file: &[u8], report: &[u8]) -> bool {
     let mut table = [0u16; 512];
     let mut places = [0usize; 384];
-    let reading = reader::read(file, &mut table, &mut places);
-    if reading.number != 0 {
-        return true;
-    }
-    let shape = reader::policy_shape(reading);
+    let shape = match reader::read(file, &mut table, &mut places) {
+        Ok(policy) => policy.shape(),
+        Err(_) => return true,
+    };
     let struck = [0u8; 64];
     let mut told = [4u8; 4096];
     lay_decisions(report, &mut told);

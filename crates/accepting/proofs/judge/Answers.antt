@@ -10,15 +10,15 @@ use Rattle.accepting.proofs.judge.Goals as goal
 pub any_obligations-obliged-requires : goal.any_obligations-obliged-requires
 any_obligations-obliged-requires c = obligation_room c.requires.0.obliged c.requires.1
 
-pub overflow_cast-result : goal.overflow_cast-result
-overflow_cast-result c =
+pub overflow_cast-refused : goal.overflow_cast-refused
+overflow_cast-refused c =
     let a = c.args in
     omega (arith, request_below a.file.now a.places.now a.table.now a.shape a.struck.now _ (found_some _ (sym c.in-Some.ensures)), c.requires.1.small)
 
 pub returns-in-Some : goal.returns-in-Some
 returns-in-Some c =
     let a = c.args in
-    (told_request a.file.now a.places.now a.table.now a.shape a.struck.now _ (found_some _ (sym c.in-Some.ensures)), refl)
+    (c.into.ensures ∙ told_request a.file.now a.places.now a.table.now a.shape a.struck.now _ (found_some _ (sym c.in-Some.ensures)), refl)
 
 pub first_needless-requires : goal.first_needless-requires
 first_needless-requires c =
@@ -47,4 +47,4 @@ returns c =
     let a = c.args in
     let none = found_none _ (sym c.first_difference.ensures ∙ c.in_default.is) in
     let (rule, same) = c.in-Some-first_needless.ensures in
-    (told_rule a.file.now a.places.now a.table.now a.shape a.struck.now none _ (found_some _ (sym rule)) _ same _ c.line_of.ensures.0, same)
+    (c.into-2.ensures ∙ told_rule a.file.now a.places.now a.table.now a.shape a.struck.now none _ (found_some _ (sym rule)) _ same _ c.line_of.ensures.0, same)

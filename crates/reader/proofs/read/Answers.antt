@@ -1,17 +1,16 @@
 -- `read` meets its contract. The loop keeps that the lines left, read behind what was read so far, are the whole file, and
 -- that they lay down the rest of it. The measure is the bytes left.
 use Prim.Native.Nat.{◌≤◌, ◌<◌}
-use mathlib.Core.Path.{refl, ap, ◌∙◌}
+use mathlib.Core.Path.{refl}
 use native.Mathlib.Omega.{arith}
 use borrow.Author.Rules.{rules}
 use lib.ListN.{length}
 use Rattle.attribute_lines.proofs.Beginning.{beginning_ready}
-use Rattle.reader.specs.Told.{refused_with}
 use Rattle.reader.proofs.Loop.{keeps_first, long_told, ended, refused_here, keeps_next}
 use Rattle.reader.proofs.read.Goals as goal
 
 pub returns-then-file-gt16384 : goal.returns-then-file-gt16384
-returns-then-file-gt16384 c = long_told _ _ _ _ c.if-file-gt16384.true c.refuse.ensures
+returns-then-file-gt16384 c = long_told _ _ _ c.if-file-gt16384.true
 
 pub loop-found-init : goal.loop-found-init
 loop-found-init c =
@@ -39,7 +38,7 @@ pub returns-in-Err : goal.returns-in-Err
 returns-in-Err c =
     let inv = c.loop-found.invariant in
     let here = c.line_at-found.ensures in
-    refused_here _ _ _ _ _ _ inv.2 inv.3 inv.4 _ here.all_of_it (omega (arith, here.inside, c.if-end-file.false)) c.in-Err.why c.in-Err.ensures (c.refuse-in-Err.ensures ∙ ap (λ n. refused_with n c.loop-found.st.line) c.number.ensures)
+    refused_here _ _ _ _ _ _ inv.2 inv.3 inv.4 _ here.all_of_it (omega (arith, here.inside, c.if-end-file.false)) c.in-Err.ensures
 
 pub loop-found-smaller : goal.loop-found-smaller
 loop-found-smaller c =
@@ -51,4 +50,4 @@ loop-found-preserved c =
     let inv = c.loop-found.invariant in
     let here = c.line_at-found.ensures in
     let step = c.in-Ok.ensures in
-    (search rules, search rules, step.next.ready, inv.3, keeps_next _ _ _ _ _ _ inv.2 inv.3 inv.4 _ here.all_of_it (omega (arith, here.inside, c.if-end-file.false)) c.in-Ok.next step)
+    (search rules, search rules, step.next.ready, inv.3, keeps_next _ _ _ _ _ _ inv.2 inv.3 inv.4 _ here.all_of_it (omega (arith, here.inside, c.if-end-file.false)) step)

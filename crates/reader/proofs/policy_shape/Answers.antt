@@ -1,5 +1,0 @@
--- `policy_shape`: the choices of the attributes are the layout's. Assumes nothing.
-use Rattle.reader.proofs.policy_shape.Goals as goal
-
-pub returns : goal.returns
-returns c = rw (c.severals.ensures, c.sizes.ensures)
