@@ -28,14 +28,11 @@ fn line_of(places: &[usize], struck: &[u8], attributes: usize, i: usize) -> usiz
     ensures { (result ≡ suc (attributes + lines_from places.now struck.now 0 i)) × (result ≤ 199) }
 {
     let mut line = attributes + 1;
-    let mut j = 0;
-    while j < i {
+    for j in 0..i {
         if struck[j] != 0 {
-            j += 1;
             continue;
         }
         line += 1 + layout::obligation_count(places, j);
-        j += 1;
     }
     line
 }

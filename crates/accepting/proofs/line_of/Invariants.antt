@@ -6,7 +6,4 @@ use Rattle.accepting.proofs.line_of.Given as goal
 
 abbrev pub invariant-loop-j : goal.invariant-loop-j
 invariant-loop-j l =
-    (l.j ≤ l.i) × (l.line ≤ l.attributes + 1 + 3 * l.j) × (l.line + lines_from l.places l.struck l.j (l.i - l.j) ≡ suc (l.attributes + lines_from l.places l.struck 0 l.i))
-
-abbrev pub decreases-loop-j : goal.decreases-loop-j
-decreases-loop-j l = l.i - l.j
+    (l.line ≤ l.attributes + 1 + 3 * l.j) × (l.line + lines_from l.places l.struck l.j (l.i - l.j) ≡ suc (l.attributes + lines_from l.places l.struck 0 l.i))
