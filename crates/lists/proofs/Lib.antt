@@ -2,4 +2,5 @@
 mod Laying
 mod Parts
 mod Reading
+mod Shapes
 mod Demand2
