@@ -1,14 +1,18 @@
 // The report of a policy that was read: everything is found once, then the same code counts the text and writes it.
 #![tactic(auto)]
 
-ghost use Rattle.std.specs.Prelude.{◌≡◌, ◌≤◌, length};
+ghost use Rattle.std.specs.Prelude.{◌++◌, ◌≡◌, ◌≤◌, ◌<◌, length};
 ghost use Rattle.meaning.specs.Operations.{report_answer, report_lent};
 ghost use Rattle.table.specs.Shape.{hit_of};
+ghost use Rattle.layout.specs.Places.{Naming};
 ghost use Rattle.matching.specs.Hits.{HitsLaid};
 ghost use Rattle.outcomes.specs.PolicyTable.{PolicyTable, OutcomesLaid};
 ghost use Rattle.outcomes.specs.Decided.{none_struck};
+ghost use Rattle.printing.specs.Wrote.{Wrote};
 ghost use Rattle.trials.specs.Trial.{Laid};
 ghost use Rattle.trimmed_text.specs.Held.{PolicyHeld};
+ghost use Rattle.report_lines.specs.Lines.{segment_text, conflict_text, struck_text, kept_text};
+ghost use Rattle.report_lines.specs.Ready.{Ordered};
 ghost use Rattle.reporting.specs.Found.{SegmentsFound, ConflictsFound, RulesFound};
 
 use differences::{PolicyFile, PolicyOutcomes};
@@ -25,118 +29,142 @@ fn find_decisions(table: &[u16], shape: Shape, hits: &mut [u64], outcomes: &mut 
     outcomes::find_outcomes(table, &struck, shape, hits, outcomes);
 }
 
-// Lays down each element's parent, and the conflicts of siblings. The rows of the elements that apply lie in `rows`.
-fn find_conflicts(
-    table: &[u16],
-    hits: &[u64],
-    shape: Shape,
-    rows: &mut [u64],
-    parents: &mut [usize],
-    pairs: &mut [u16],
-)
-    requires { PolicyTable table.now none_struck shape × HitsLaid table.now hits.now shape × (4096 ≤ length hits.now) × (4096 ≤ length rows.old) × (64 ≤ length parents.old) × (4096 ≤ length pairs.old) }
-    ensures { ConflictsFound table.now shape.n (hit_of shape) shape.space parents.new pairs.new }
-{
-    let n = shape.n;
-    let space = shape.space;
-    let struck = [0u8; 64];
-    let mut permits = [0u64; 4096];
-    let mut denies = [0u64; 4096];
-    rows::apply_all(table, hits, shape, rows);
-    rows::give_all(table, &struck, hits, shape, &mut permits, &mut denies);
-    rows::parent_all(table, n, parents);
-    conflicts::pair_all(parents, rows, &permits, &denies, n, space, pairs);
+// What is found of each request: the word of the elements that apply to it, the size of the segment that it starts, else 0, and its decision.
+#[derive(Drop)]
+struct Segments {
+    words: [u64; 4096],
+    sizes: [u16; 4096],
+    decided: [Decision; 4096],
 }
 
-// Lays down each request's decision, and the segments.
-fn find_segments(
-    table: &[u16],
-    hits: &[u64],
-    shape: Shape,
-    outcomes: &[u64],
-    words: &mut [u64],
-    sizes: &mut [u16],
-    decided: &mut [Decision],
-)
-    requires { PolicyTable table.now none_struck shape × HitsLaid table.now hits.now shape × (4096 ≤ length hits.now) × OutcomesLaid table.now none_struck outcomes.now shape × (4096 ≤ length words.old) × (4096 ≤ length sizes.old) × (4096 ≤ length decided.old) }
-    ensures { SegmentsFound table.now shape.n (hit_of shape) shape.space words.new sizes.new decided.new }
-{
-    let n = shape.n;
-    let space = shape.space;
-    outcomes::tell_all(outcomes, space, decided);
-    let mut applied = [0u64; 4096];
-    rows::apply_all(table, hits, shape, &mut applied);
-    segments::words_all(&applied, n, space, words);
-    segments::size_all(words, space, sizes);
+impl Segments {
+    fn find(&mut self, o: &PolicyOutcomes)
+        requires { let p = o.now.policy in Laid p.file.now p.places.now p.table.now none_struck o.now.hits.now o.now.outcomes.now p.shape × (4096 ≤ length o.now.hits.now) }
+        ensures { let p = o.now.policy in SegmentsFound p.table.now p.shape.n (hit_of p.shape) p.shape.space self.new.words self.new.sizes self.new.decided }
+    {
+        let shape = o.policy.shape;
+        let n = shape.n;
+        let space = shape.space;
+        outcomes::tell_all(o.outcomes, space, &mut self.decided);
+        let mut applied = [0u64; 4096];
+        rows::apply_all(o.policy.table, o.hits, shape, &mut applied);
+        segments::words_all(&applied, n, space, &mut self.words);
+        segments::size_all(&self.words, space, &mut self.sizes);
+    }
 }
 
-// Lays down the rules struck, in order, and for each rule kept the request that needs it. How many are struck, is the result.
-fn find_rules(o: &PolicyOutcomes, order: &mut [u8], shown: &mut [usize]) -> usize
-    requires { let p = o.now.policy in Laid p.file.now p.places.now p.table.now none_struck o.now.hits.now o.now.outcomes.now p.shape × (64 ≤ length order.old) × (64 ≤ length shown.old) }
-    ensures { let p = o.now.policy in RulesFound p.file.now p.places.now p.table.now p.shape.n (hit_of p.shape) p.shape.space order.new shown.new result }
-{
-    let mut struck = [0u8; 64];
-    let count = trimming::trim_flags(o, &mut struck, order);
-    trials::needed_all(o, &mut struck, shown);
-    count
+// Each element's parent, and for each pair of siblings the request that shows their conflict.
+#[derive(Drop)]
+struct Conflicts {
+    parents: [usize; 64],
+    pairs: [u16; 4096],
 }
 
-// Finds what there is to report besides decisions. The lines are counted first: where each kind starts is then known, and the same code writes them.
-fn write_lines(
-    file: &[u8],
-    table: &[u16],
-    places: &[usize],
-    shape: Shape,
-    hits: &[u64],
-    outcomes: &[u64],
+impl Conflicts {
+    // The rows of the elements that apply lie in `rows`.
+    fn find(&mut self, o: &PolicyOutcomes, rows: &mut [u64; 4096])
+        requires { let p = o.now.policy in Laid p.file.now p.places.now p.table.now none_struck o.now.hits.now o.now.outcomes.now p.shape × (4096 ≤ length o.now.hits.now) }
+        ensures { let p = o.now.policy in ConflictsFound p.table.now p.shape.n (hit_of p.shape) p.shape.space self.new.parents self.new.pairs }
+    {
+        let table = o.policy.table;
+        let shape = o.policy.shape;
+        let n = shape.n;
+        let space = shape.space;
+        let struck = [0u8; 64];
+        let mut permits = [0u64; 4096];
+        let mut denies = [0u64; 4096];
+        rows::apply_all(table, o.hits, shape, rows);
+        rows::give_all(table, &struck, o.hits, shape, &mut permits, &mut denies);
+        rows::parent_all(table, n, &mut self.parents);
+        conflicts::pair_all(
+            &self.parents,
+            rows,
+            &permits,
+            &denies,
+            n,
+            space,
+            &mut self.pairs,
+        );
+    }
+}
+
+// The rules struck, in order, how many they are, and for each rule kept the request that needs it.
+#[derive(Drop)]
+struct Rules {
+    order: [u8; 64],
+    count: usize,
+    shown: [usize; 64],
+}
+
+impl Rules {
+    fn find(&mut self, o: &PolicyOutcomes)
+        requires { let p = o.now.policy in Laid p.file.now p.places.now p.table.now none_struck o.now.hits.now o.now.outcomes.now p.shape }
+        ensures { let p = o.now.policy in RulesFound p.file.now p.places.now p.table.now p.shape.n (hit_of p.shape) p.shape.space self.new.order self.new.shown self.new.count }
+    {
+        let mut struck = [0u8; 64];
+        self.count = trimming::trim_flags(o, &mut struck, &mut self.order);
+        trials::needed_all(o, &mut struck, &mut self.shown);
+    }
+}
+
+// The lines of all that was found, one kind behind the other: where they end is the result. With an empty buffer it counts.
+fn put_lines(
+    policy: &PolicyFile,
+    segments: &Segments,
+    conflicts: &Conflicts,
+    rules: &Rules,
     out: &mut [u8],
-) -> Answer
-    requires { PolicyHeld file.now table.now places.now shape × HitsLaid table.now hits.now shape × (4096 ≤ length hits.now) × OutcomesLaid table.now none_struck outcomes.now shape }
-    ensures value { result ≡ report_answer file.now out.old }
-    ensures out_after { out.new ≡ report_lent file.now out.old }
+) -> usize
+    requires { Naming policy.now.file.now policy.now.places.now policy.now.shape.n × (policy.now.shape.space ≤ 4096) × Ordered policy.now.file.now policy.now.places.now rules.now.order rules.now.count }
+    ensures { let f = policy.now.file.now in let places = policy.now.places.now in let n = policy.now.shape.n in let space = policy.now.shape.space in Wrote out.old 0 (segment_text f places n segments.now.words segments.now.sizes segments.now.decided space ++ (conflict_text f places n conflicts.now.parents conflicts.now.pairs space ++ (struck_text f places rules.now.order rules.now.count ++ kept_text f places n rules.now.shown space))) out.new result × (result < 4294967296) }
 {
-    let mut words = [0u64; 4096];
-    let mut sizes = [0u16; 4096];
-    let mut decided = [Decision::Permit; 4096];
-    let mut parents = [0usize; 64];
-    let mut pairs = [0u16; 4096];
-    find_conflicts(table, hits, shape, &mut words, &mut parents, &mut pairs);
-    find_segments(
-        table,
-        hits,
-        shape,
-        outcomes,
-        &mut words,
-        &mut sizes,
-        &mut decided,
-    );
-    let mut order = [0u8; 64];
-    let mut shown = [0usize; 64];
-    let obliged = obligations::any_obligations(places, shape.n);
-    let policy = PolicyFile {
-        file,
-        places,
-        table,
-        shape,
-    };
-    let o = PolicyOutcomes {
+    let conflicts_from = put_segments(
         policy,
-        hits,
-        outcomes,
-        obliged,
+        &segments.words,
+        &segments.sizes,
+        &segments.decided,
+        out,
+        0,
+    );
+    let struck_from = put_conflicts(
+        policy,
+        &conflicts.parents,
+        &conflicts.pairs,
+        out,
+        conflicts_from,
+    );
+    let kept_from = put_struck(policy, &rules.order, rules.count, out, struck_from);
+    put_kept(policy, &rules.shown, out, kept_from)
+}
+
+// Finds what there is to report besides decisions. The lines are counted first, and then the same code writes them.
+fn write_lines(o: &PolicyOutcomes, out: &mut [u8]) -> Answer
+    requires { let p = o.now.policy in PolicyHeld p.file.now p.table.now p.places.now p.shape × HitsLaid p.table.now o.now.hits.now p.shape × (4096 ≤ length o.now.hits.now) × OutcomesLaid p.table.now none_struck o.now.outcomes.now p.shape }
+    ensures value { result ≡ report_answer o.now.policy.file.now out.old }
+    ensures out_after { out.new ≡ report_lent o.now.policy.file.now out.old }
+{
+    let mut segments = Segments {
+        words: [0; 4096],
+        sizes: [0; 4096],
+        decided: [Decision::Permit; 4096],
     };
-    let count = find_rules(&o, &mut order, &mut shown);
+    let mut conflicts = Conflicts {
+        parents: [0; 64],
+        pairs: [0; 4096],
+    };
+    conflicts.find(o, &mut segments.words);
+    segments.find(o);
+    let mut rules = Rules {
+        order: [0; 64],
+        count: 0,
+        shown: [0; 64],
+    };
+    rules.find(o);
     let mut none = [0u8; 0];
-    let conflicts = put_segments(&policy, &words, &sizes, &decided, &mut none, 0);
-    let struck = put_conflicts(&policy, &parents, &pairs, &mut none, conflicts);
-    let kept = put_struck(&policy, &order, count, &mut none, struck);
-    let needed = put_kept(&policy, &shown, &mut none, kept);
+    let needed = put_lines(&o.policy, &segments, &conflicts, &rules, &mut none);
     let room = out.len();
     let lent = &mut out[..printing::lend(needed, room)];
-    put_segments(&policy, &words, &sizes, &decided, lent, 0);
-    put_conflicts(&policy, &parents, &pairs, lent, conflicts);
-    put_struck(&policy, &order, count, lent, struck);
-    put_kept(&policy, &shown, lent, kept);
+    put_lines(&o.policy, &segments, &conflicts, &rules, lent);
     printing::text_answer(needed, room)
 }
 
@@ -149,5 +177,17 @@ pub fn report(file: &[u8], table: &[u16], places: &[usize], shape: Shape, out: &
     let mut hits = [0u64; 4096];
     let mut outcomes = [0u64; 128];
     find_decisions(table, shape, &mut hits, &mut outcomes);
-    write_lines(file, table, places, shape, &hits, &outcomes, out)
+    let policy = PolicyFile {
+        file,
+        places,
+        table,
+        shape,
+    };
+    let o = PolicyOutcomes {
+        policy,
+        hits: &hits,
+        outcomes: &outcomes,
+        obliged: obligations::any_obligations(places, shape.n),
+    };
+    write_lines(&o, out)
 }

@@ -1,6 +1,6 @@
--- `find_conflicts`: what the functions that it calls lay down. Assumes nothing.
+-- `Conflicts::find`: what the functions that it calls lay down. Assumes nothing.
 use Rattle.reporting.proofs.Finding.{conflicts_found}
-use Rattle.reporting.proofs.find_conflicts.Goals as goal
+use Rattle.reporting.proofs.Conflicts.find.Goals as goal
 
 pub returns : goal.returns
 returns c =

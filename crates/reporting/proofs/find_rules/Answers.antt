@@ -1,5 +1,0 @@
-use Rattle.reporting.proofs.Finding.{rules_found}
-use Rattle.reporting.proofs.find_rules.Goals as goal
-
-pub returns : goal.returns
-returns c = rules_found _ _ _ _ _ _ _ _ _ _ _ c.trim_flags-count.ensures c.needed_all.ensures.0
