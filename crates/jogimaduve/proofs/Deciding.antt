@@ -1,8 +1,8 @@
 -- The answer to a request, from what was read of the file and of the request line.
+use Rattle.std.specs.Prelude.{Result as Told, Ok, Err}
 use mathlib.Core.Path.{◌≡◌, refl, sym, ap, ap₂, ◌∙◌, subst}
 use Prim.Native.Nat.{ℕ, ◌≤◌}
 use native.Mathlib.Omega.{arith}
-use mathlib.Core.Bool.{true, false}
 use mathlib.Core.List.{List}
 use lib.ListN.{length, take, replicate, get_or-replicate}
 use Rattle.meaning.specs.declared.Decided.{Decided}
@@ -11,15 +11,16 @@ use Rattle.meaning.specs.Model.{Policy, severals, Result, refused, given, ◌the
 use Rattle.meaning.specs.Reading.{read}
 use Rattle.meaning.specs.Deciding.{Request, request_line, Outcome, matches, decide, decide_file}
 use Rattle.meaning.specs.Operations.{lent, decided_by, decide_answer, decide_lent}
-use Rattle.laws.proofs.Bools.{contradiction}
 use Rattle.requests.specs.Values.{values_of, severals_of}
 use Rattle.requests.proofs.Laid.{values_with}
 use Rattle.table.specs.Rows.{depth_of}
 use Rattle.layout.specs.Places.{attributes_of, severals_at}
 use Rattle.obligations.specs.Given.{outcome_left}
 use Rattle.obligations.proofs.Left.{outcome_whole}
-use Rattle.deciding.specs.Told.{outcome_on, outcome_for, Told, Asking}
-use Rattle.request_lines.specs.declared.Asked.{Asked}
+use Rattle.deciding.specs.Told.{outcome_on, outcome_for, Told as ToldAs, Asking}
+use Rattle.requests.specs.declared.Request.{Request as Asked}
+use Rattle.refusals.specs.declared.Refused.{Refused}
+use Rattle.refusals.specs.Numbers.{number_of}
 use Rattle.request_lines.specs.Asked.{AskedAs}
 use Rattle.reader.specs.declared.Policy.{Policy as PolicyRead}
 use Rattle.reader.specs.Told.{ReadPolicy}
@@ -40,57 +41,50 @@ unfolding decide_file
 refusal_answered f h request out = (rw h, rw h)
 
 module _ (f table places : List ℕ) (r : PolicyRead) (p : Policy) (h : read f ≡ given p) (holds : ReadPolicy f table places r p) (request out : Bytes) where
-  module _ (a : Asked) (asks : AskedAs r.attributes a (request_line (attributes_of f r.attributes) request)) where
-    -- what a request of the policy gets, for this buffer
-    abbrev gets : Request → Result Outcome
-    gets q = outcome_for (length out) (decide p q)
+  -- what a request of the policy gets, for this buffer
+  abbrev gets : Request → Result Outcome
+  gets q = outcome_for (length out) (decide p q)
 
-    -- the same of the policy's attributes
-    asked_policy : AskedAs r.attributes a (request_line p.attributes request)
-    asked_policy = subst (λ attrs. AskedAs r.attributes a (request_line attrs request)) (sym holds.attributes) asks
+  decides_so : decide_file (length out) f request ≡ (request_line p.attributes request then gets)
+  unfolding decide_file
+  decides_so = rw h
 
-    decides_so : decide_file (length out) f request ≡ (request_line p.attributes request then gets)
-    unfolding decide_file
-    decides_so = rw h
+  answered_so : (new : Bytes) (d : Decided) → Answers out new d (request_line p.attributes request then gets) → (d ≡ decide_answer f request out) × (new ≡ decide_lent f request out)
+  answered_so new d x = (x.0 ∙ ap decided_by (sym decides_so), x.1 ∙ ap (λ y. lent out (y then λ o. given o.obligations)) (sym decides_so))
 
-    answered_so : (new : Bytes) (d : Decided) → Answers out new d (request_line p.attributes request then gets) → (d ≡ decide_answer f request out) × (new ≡ decide_lent f request out)
-    answered_so new d x = (x.0 ∙ ap decided_by (sym decides_so), x.1 ∙ ap (λ y. lent out (y then λ o. given o.obligations)) (sym decides_so))
+  -- the line asks the same of the policy's attributes
+  asked_policy : (x : Told Asked Refused) → AskedAs r.attributes x (request_line (attributes_of f r.attributes) request) → AskedAs r.attributes x (request_line p.attributes request)
+  asked_policy x asks = subst (λ attrs. AskedAs r.attributes x (request_line attrs request)) (sym holds.attributes) asks
 
-    -- a request line that is refused
-    pub request_refused : a.good ≡ false → (refused_by 10 a.place ≡ decide_answer f request out) × (out ≡ decide_lent f request out)
-    request_refused b = answered_so out (refused_by 10 a.place) (go (request_line p.attributes request) asked_policy)
-      where
-        go : (x : Result Request) → AskedAs r.attributes a x → Answers out out (refused_by 10 a.place) (x then gets)
-        go (refused n m) t = (λ i. refused_by (sym t.number i) (t.is i).place, refl)
-        go (given q) t = contradiction (ap (λ x. x.good) t.is) b
+  -- a request line that is refused
+  pub request_refused : (x : Refused) → AskedAs r.attributes (Err x) (request_line (attributes_of f r.attributes) request)
+      → (refused_by (number_of x.why) x.second ≡ decide_answer f request out) × (out ≡ decide_lent f request out)
+  request_refused x asks = answered_so out (refused_by (number_of x.why) x.second) (go (request_line p.attributes request) (asked_policy (Err x) asks))
+    where
+      go : (y : Result Request) → AskedAs r.attributes (Err x) y → Answers out out (refused_by (number_of x.why) x.second) (y then gets)
+      go (given q) t = elim t [ ]
+      go (refused n m) t = (ap (λ z. refused_by (number_of z.why) z.second) t.is ∙ ap (λ k. refused_by k m) (sym t.number), refl)
 
-    pub small_place : a.good ≡ false → a.place ≤ 6
-    small_place b = go (request_line p.attributes request) asked_policy
-      where
-        go : (x : Result Request) → AskedAs r.attributes a x → a.place ≤ 6
-        go (refused n m) t = rw t.is t.low
-        go (given q) t = contradiction (ap (λ x. x.good) t.is) b
-
-    -- a request that is decided
-    pub asking : a.good ≡ true → Asking f table places r.elements a.request
-    asking g =
+  -- a request that is decided
+  module _ (a : Asked) (asks : AskedAs r.attributes (Ok a) (request_line (attributes_of f r.attributes) request)) where
+    pub asking : Asking f table places r.elements a
+    asking =
         let small = few f table places r p h holds in
-        record { rows = omega (arith, holds.rooms.rows, small); some = holds.some; few = small; each = holds.obliged; values = go (request_line p.attributes request) asked_policy }
+        record { rows = omega (arith, holds.rooms.rows, small); some = holds.some; few = small; each = holds.obliged; values = go (request_line p.attributes request) (asked_policy (Ok a) asks) }
       where
-        go : (x : Result Request) → AskedAs r.attributes a x → a.request.len ≤ 6
-        go (refused n m) t = contradiction g (ap (λ x. x.good) t.is)
+        go : (x : Result Request) → AskedAs r.attributes (Ok a) x → a.len ≤ 6
+        go (refused n m) t = elim t [ ]
         go (given q) t = rw (t.is, t.count) holds.spaced.standing.few
 
-    pub request_decided : a.good ≡ true → depth_of table 0 ≡ 0 → (new : Bytes) (d : Decided) → Told out new (outcome_on f table places r.elements a.request) d
-        → (d ≡ decide_answer f request out) × (new ≡ decide_lent f request out)
-    request_decided g top new d told = answered_so new d (go (request_line p.attributes request) asked_policy)
+    pub request_decided : depth_of table 0 ≡ 0 → (new : Bytes) (d : Decided) → ToldAs out new (outcome_on f table places r.elements a) d → (d ≡ decide_answer f request out) × (new ≡ decide_lent f request out)
+    request_decided top new d told = answered_so new d (go (request_line p.attributes request) (asked_policy (Ok a) asks))
       where
-        go : (x : Result Request) → AskedAs r.attributes a x → Answers out new d (x then gets)
-        go (refused k m) t = contradiction g (ap (λ x. x.good) t.is)
+        go : (x : Result Request) → AskedAs r.attributes (Ok a) x → Answers out new d (x then gets)
+        go (refused k m) t = elim t [ ]
         go (given q) t =
-            let letters : severals_of a.request ≡ severals p.attributes = ap (λ x. severals_of x.request) t.is ∙ ap (λ k. take k (severals_at r.attributes)) t.count ∙ letters_are f table places r p h holds in
-            let values : values_of a.request ≡ q = ap (λ x. values_of x.request) t.is ∙ values_with (severals_at r.attributes) q in
-            let same : outcome_on f table places r.elements a.request ≡ decide p q =
+            let letters : severals_of a ≡ severals p.attributes = ap severals_of t.is ∙ ap (λ k. take k (severals_at r.attributes)) t.count ∙ letters_are f table places r p h holds in
+            let values : values_of a ≡ q = ap values_of t.is ∙ values_with (severals_at r.attributes) q in
+            let same : outcome_on f table places r.elements a ≡ decide p q =
             ap₂ (λ bs vs. outcome_left (matches bs vs) f table places (replicate 64 0) r.elements) letters values
             ∙ sym (outcome_whole f table places (replicate 64 0) r.elements p q holds.elements (λ k l. get_or-replicate 64 k 0 0 (omega (arith, l, few f table places r p h holds))) holds.some top) in
             (told.answers ∙ ap (λ o. decided_by (outcome_for (length out) o)) same, told.lends ∙ ap (λ o. lent out (outcome_for (length out) o then λ x. given x.obligations)) same)

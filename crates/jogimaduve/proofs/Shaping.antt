@@ -1,10 +1,9 @@
 -- What a file that was read gives to trimming: the shape of its policy, and where its lines start.
-use mathlib.Core.Path.{◌≡◌, refl, sym, ap, ap₂, ◌∙◌, subst}
-use Prim.Native.Nat.{ℕ, zero, suc, ◌≤◌, ◌<◌}
+use mathlib.Core.Path.{◌≡◌, sym, ap, ap₂, ◌∙◌, subst}
+use Prim.Native.Nat.{ℕ, ◌≤◌, ◌<◌}
 use native.Mathlib.Omega.{arith}
 use mathlib.Core.List.{List}
-use lib.ListN.{length, get_or, replicate, get_or-replicate, length-set}
-use Rattle.meaning.specs.Text.{Bytes}
+use lib.ListN.{length, get_or, replicate, get_or-replicate}
 use Rattle.meaning.specs.Model.{Policy, sizes, severals, product, given, space}
 use Rattle.meaning.specs.Reading.{read}
 use Rattle.meaning.specs.Deciding.{request_of, matches, first_decision, hits, decision_on}

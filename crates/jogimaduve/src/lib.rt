@@ -7,7 +7,7 @@ ghost use Rattle.refusals.specs.Numbers.{number_of};
 
 use differences::PolicyFile;
 use meaning::{Answer, Decided, Stepped};
-use refusals::{Refusal, Refused};
+use refusals::Refused;
 
 // The answer of a request that is not decided.
 fn undecided(refused: Refused) -> Decided
@@ -31,15 +31,10 @@ pub fn jogimaduve_decide(file: &[u8], request: &[u8], out: &mut [u8]) -> Decided
         Ok(policy) => policy,
         Err(refused) => return undecided(refused),
     };
-    let asked = request_lines::request_line(file, policy.attributes, request);
-    if !asked.good {
-        return undecided(Refused {
-            why: Refusal::BadRequest,
-            second: asked.place as u32,
-        });
+    match request_lines::request_line(file, policy.attributes, request) {
+        Ok(q) => deciding::answer(file, &table, &places, policy.elements, q, out),
+        Err(refused) => undecided(refused),
     }
-    let q = asked.request;
-    deciding::answer(file, &table, &places, policy.elements, q, out)
 }
 
 // The trimmed text of a policy file, in a lent buffer.

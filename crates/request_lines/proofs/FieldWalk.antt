@@ -2,10 +2,10 @@
 use Prim.Native.Nat.{ℕ, suc, ◌+◌, ◌-◌, ◌≤◌, ◌<◌, zero-le}
 use mathlib.Core.Path.{◌≡◌, refl, sym, ap, ◌∙◌, subst}
 use mathlib.Core.Logic.{◌≢◌, ⊎_elim}
-use mathlib.Core.Bool.{Bool, true}
+use mathlib.Core.Bool.{Bool}
 use mathlib.Core.List.{List, [], ◌∷◌, ◌++◌, map, append_assoc, append-nil}
 use mathlib.Core.Option.{Option as Maybe, none, some}
-use Rattle.std.specs.Prelude.{Option, Some, None}
+use Rattle.std.specs.Prelude.{Option, Some, None, Ok, Err}
 use native.Mathlib.Nat.{sub-zero, eq-or-lt_of_le}
 use native.Mathlib.Numerals.{add-one}
 use native.Mathlib.Omega.{arith}
@@ -26,8 +26,8 @@ use Rattle.requests.specs.Values.{request_with}
 use Rattle.layout.specs.declared.Attributes.{Attributes}
 use Rattle.layout.specs.Places.{place_at, values_in, severals_at, attribute_at, attributes_from, attributes_of}
 use Rattle.layout.proofs.Laws.{attributes_walk, attributes_length}
-use Rattle.request_lines.specs.declared.Asked.{Asked}
-use Rattle.request_lines.specs.Asked.{Refused, AskedAs}
+use Rattle.refusals.specs.declared.Refusal.TheVariants.{BadRequest}
+use Rattle.request_lines.specs.Asked.{AskedAs}
 
 -- A place that was found, or not
 found_at : (o : Maybe ℕ) {r : Option ℕ} {v : ℕ} → r ≡ found o → r ≡ Some v → o ≡ some v
@@ -92,7 +92,7 @@ pub record Walked (f : Bytes) (a : Attributes) (line : Bytes) (values : List ℕ
 some_piece : {ps : List Bytes} → OneOrMore ps → 1 ≤ length ps
 some_piece (one_or_more p ps) = omega arith
 
-pub walk_starts : {f : Bytes} {a : Attributes} {line : Bytes} → length (cut tab line) ≡ a.len → a.len ≤ 6 → Walked f a line (replicate 6 0) 0 0
+walk_starts : {f : Bytes} {a : Attributes} {line : Bytes} → length (cut tab line) ≡ a.len → a.len ≤ 6 → Walked f a line (replicate 6 0) 0 0
 walk_starts {f} {a} {line} count few =
     record {
       here = omega (arith, some_piece (cut_some tab line));
@@ -103,6 +103,21 @@ walk_starts {f} {a} {line} count few =
       clear = refl;
       so_far = rw sub-zero (after_none (values_of 1 (attributes_of f a) (cut tab line)));
     }
+
+-- the request of these values is what the line asks
+abbrev pub Whole : Bytes → Attributes → Bytes → List ℕ → Type 0
+Whole f a line values =
+    (severals : List Bool) → severals ≡ severals_at a → AskedAs a (Ok (record { several = severals; values = values; len = a.len })) (values_of 1 (attributes_of f a) (cut tab line))
+
+-- What the loop keeps: fields are left, or all values are there
+pub record Walking (f : Bytes) (a : Attributes) (line : Bytes) (values : List ℕ) (at i : ℕ) : Type 0 where
+  pub left : i < a.len → Walked f a line values at i
+  pub done : i ≡ a.len → Whole f a line values
+
+pub walking_starts : {f : Bytes} {a : Attributes} {line : Bytes} → length (cut tab line) ≡ a.len → a.len ≤ 6 → Walking f a line (replicate 6 0) 0 0
+walking_starts {f} {a} {line} count few =
+    let first = walk_starts {f = f} {a = a} {line = line} count few in
+    record { left = λ l. first; done = λ e severals letters. absurd (omega (arith, first.here, e)) }
 
 -- the field that starts at `at` ends at e, and this was found for it
 module _ {f : Bytes} {a : Attributes} {line : Bytes} {values : List ℕ} {at i e : ℕ} {r : Option ℕ} {those : Bytes} (w : Walked f a line values at i)
@@ -132,12 +147,13 @@ module _ {f : Bytes} {a : Attributes} {line : Bytes} {values : List ℕ} {at i e
       (eq-or-lt_of_le q)
 
   -- a field that is no value
-  pub walk_refused : {answer : Asked} → r ≡ None → Refused answer 10 (i + 1) → AskedAs a answer (values_of 1 (attributes_of f a) (cut tab line))
-  walk_refused {answer} nothing refuses =
+  pub walk_refused : r ≡ None → AskedAs a (Err (record { why = BadRequest; second = i + 1 })) (values_of 1 (attributes_of f a) (cut tab line))
+  walk_refused nothing =
       let no_value = found_nothing (chosen (attribute_at f a i) piece) is_found nothing in
       let here-refused : after (take i values) (values_of (suc i) (rest f a i) (cut tab (drop at line))) ≡ refused 10 (suc i) =
       rw (this_attribute, this_field) (first_refused (suc i) (attribute_at f a i) (rest f a (i + 1)) piece (behind tab line e) (take i values) no_value) in
-      subst (AskedAs a answer) (sym here-refused ∙ w.so_far) (rw add-one at refuses)
+      subst (AskedAs a (Err (record { why = BadRequest; second = i + 1 }))) (sym here-refused ∙ w.so_far)
+      (record { is = ap (λ m. record { why = BadRequest; second = m }) (add-one i); number = refl; low = omega (arith, w.here, w.few) })
 
   -- a field that is value v
   module _ {v : ℕ} (is_at : r ≡ Some v) where
@@ -156,7 +172,7 @@ module _ {f : Bytes} {a : Attributes} {line : Bytes} {values : List ℕ} {at i e
     clear_still : drop a.len (set values i v) ≡ drop a.len (replicate 6 0)
     clear_still = drop-set-lt a.len values i v w.here ∙ w.clear
 
-    pub walk_on : i + 1 ≢ a.len → Walked f a line (set values i v) (e + 1) (i + 1)
+    walk_on : i + 1 ≢ a.len → Walked f a line (set values i v) (e + 1) (i + 1)
     walk_on n =
         let fields-here = piece_more tab line at e p (more_after n) in
         record {
@@ -169,22 +185,24 @@ module _ {f : Bytes} {a : Attributes} {line : Bytes} {values : List ℕ} {at i e
           so_far = one_more (cut tab (drop (e + 1) line)) fields-here;
         }
 
-    pub walk_ends : {severals : List Bool} → severals ≡ severals_at a → i + 1 ≡ a.len
-        → AskedAs a (record { good = true; place = 0; request = record { several = severals; values = set values i v; len = a.len } }) (values_of 1 (attributes_of f a) (cut tab line))
-    walk_ends {severals} letters l =
+    walk_ends : i + 1 ≡ a.len → Whole f a line (set values i v)
+    walk_ends l severals letters =
         let last_found = rw (none_after l, append-nil) at (one_more (behind tab line e) this_field) in
         let all_found : given (take a.len (set values i v)) ≡ values_of 1 (attributes_of f a) (cut tab line) =
         ap (λ n. given (take n (set values i v))) (sym l) ∙ last_found in
         let enough : a.len ≤ length (set values i v) = omega (arith, length-set values i v, w.room, w.few) in
         let whole = laid severals a.len (set values i v) (take a.len (set values i v)) enough refl clear_still ∙ ap (λ bs. request_with bs (take a.len (set values i v))) letters in
-        subst (AskedAs a _) all_found (record { is = λ k. record { good = true; place = 0; request = whole k }; count = length-take-le a.len (set values i v) enough })
+        subst (AskedAs a (Ok (record { several = severals; values = set values i v; len = a.len }))) all_found (record { is = whole; count = length-take-le a.len (set values i v) enough })
+
+    pub walking_on : Walking f a line (set values i v) (e + 1) (i + 1)
+    walking_on = record { left = λ l. walk_on (λ z. absurd (omega (arith, z, l))); done = walk_ends }
 
 -- A line by its count of fields
 module _ (f : Bytes) (a : Attributes) (line : Bytes) {pieces : ℕ} (counted : pieces ≡ length (cut tab line)) where
-  pub wrong_count_lem : pieces ≢ a.len → refused 10 0 ≡ request_line (attributes_of f a) line
+  pub wrong_count_lem : pieces ≢ a.len → AskedAs a (Err (record { why = BadRequest; second = 0 })) (request_line (attributes_of f a) line)
   wrong_count_lem n =
       let unequal : length (cut tab line) ≢ length (attributes_of f a) = λ e. n (counted ∙ e ∙ attributes_length f a) in
-      rw (ne_eqb (length (cut tab line)) (length (attributes_of f a)) unequal)
+      rw (ne_eqb (length (cut tab line)) (length (attributes_of f a)) unequal) (record { is = refl; number = refl; low = zero-le })
 
   pub right_count : pieces ≡ a.len → values_of 1 (attributes_of f a) (cut tab line) ≡ request_line (attributes_of f a) line
   right_count e = rw (eq-eqb (length (cut tab line)) (length (attributes_of f a)) (sym counted ∙ e ∙ sym (attributes_length f a)))

@@ -6,34 +6,11 @@ ghost use Rattle.meaning.specs.Text.{cut, tab};
 ghost use Rattle.meaning.specs.Deciding.{value_of, set_of, values_of, request_line};
 ghost use Rattle.laws.specs.Found.{found};
 ghost use Rattle.layout.specs.Places.{attributes_of, AllStanding, FewValues};
-ghost use Rattle.request_lines.specs.Asked.{Refused, AskedAs};
+ghost use Rattle.request_lines.specs.Asked.{AskedAs};
 
 use layout::Attributes;
+use refusals::{Refusal, Refused};
 use requests::Request;
-
-// The request, or the place of the field that refuses the line: 0 for a wrong count of fields.
-#[derive(Clone, Copy)]
-pub struct Asked {
-    pub good: bool,
-    pub place: usize,
-    pub request: Request,
-}
-
-fn refuse(place: usize) -> Asked
-    requires { place ≤ 6 }
-    ensures { Refused result 10 place }
-{
-    let request = Request {
-        several: [false; 6],
-        values: [0; 6],
-        len: 0,
-    };
-    Asked {
-        good: false,
-        place,
-        request,
-    }
-}
 
 // What a field has of an attribute: the number of a value, or where it may have several, of a set of them.
 fn choose(several: bool, values: &[u8], field: &[u8]) -> Option<usize>
@@ -51,43 +28,41 @@ fn choose(several: bool, values: &[u8], field: &[u8]) -> Option<usize>
 }
 
 // The request of a line that has a field for each attribute, or the place of the first field that is no value and no set.
-fn read_fields(file: &[u8], a: Attributes, line: &[u8]) -> Asked
+fn read_fields(file: &[u8], a: Attributes, line: &[u8]) -> Result<Request, Refused>
     requires { AllStanding file.now a × FewValues a × (length (cut tab line.now) ≡ a.len) }
     ensures { AskedAs a result (values_of 1 (attributes_of file.now a) (cut tab line.now)) }
 {
     let mut values = [0usize; 6];
     let mut at = 0;
-    let mut i = 0;
-    loop {
+    for i in 0..a.len {
         let end = text::end_of(line, at, b'\t');
         let Some(v) = choose(a.all[i].several, a.values(file, i), &line[at..end]) else {
-            return refuse(i + 1);
+            return Err(Refused {
+                why: Refusal::BadRequest,
+                second: (i + 1) as u32,
+            });
         };
         values[i] = v;
-        i += 1;
-        if i == a.len {
-            let request = Request {
-                several: a.severals(),
-                values,
-                len: a.len,
-            };
-            return Asked {
-                good: true,
-                place: 0,
-                request,
-            };
-        }
         at = end + 1;
     }
+    Ok(Request {
+        several: a.severals(),
+        values,
+        len: a.len,
+    })
 }
 
-// What a request line asks of a file with these attributes. The fields are counted first.
-pub fn request_line(file: &[u8], a: Attributes, line: &[u8]) -> Asked
+// What a request line asks of a file with these attributes; or the place of the field that refuses it, 0 for a wrong count
+// of fields. The fields are counted first.
+pub fn request_line(file: &[u8], a: Attributes, line: &[u8]) -> Result<Request, Refused>
     requires { AllStanding file.now a × FewValues a }
     ensures { AskedAs a result (request_line (attributes_of file.now a) line.now) }
 {
     if text::count_pieces(line, b'\t') != a.len {
-        return refuse(0);
+        return Err(Refused {
+            why: Refusal::BadRequest,
+            second: 0,
+        });
     }
     read_fields(file, a, line)
 }

@@ -5,10 +5,7 @@ use Rattle.request_lines.proofs.FieldWalk.{wrong_count_lem, right_count}
 use Rattle.request_lines.proofs.request_line.Goals as goal
 
 pub returns-then-count_pieces-a : goal.returns-then-count_pieces-a
-returns-then-count_pieces-a c =
-    let args = c.args in
-    let wrong = wrong_count_lem args.file.now args.a args.line.now c.count_pieces.ensures c.if-count_pieces-a.true in
-    subst (AskedAs args.a c.refuse.result) wrong c.refuse.ensures
+returns-then-count_pieces-a c = wrong_count_lem c.args.file.now c.args.a c.args.line.now c.count_pieces.ensures c.if-count_pieces-a.true
 
 pub returns : goal.returns
 returns c =
