@@ -1,19 +1,12 @@
-// Lends a list by value to the operations on a lent list.
-ghost use Rattle.std.specs.Prelude.{◌≡◌, ◌≤◌, take, replicate};
-ghost use Rattle.meaning.specs.Operations.{read_lent, write_answer, write_lent};
+// Places for elements, lent to the operations on a lent list.
+ghost use Rattle.std.specs.Prelude.{◌≡◌, replicate};
+ghost use Rattle.meaning.specs.Operations.{read_lent};
 ghost use Rattle.elements.specs.Listed.{blank};
 
 use elements::Elements;
-use meaning::{Answer, Element};
+use meaning::Element;
 
-// The first `len` elements are the list. The writer looks at 65, so there may be one more.
-#[derive(Clone, Copy)]
-pub(crate) struct Lent {
-    pub(crate) all: [Element; 66],
-    pub(crate) len: usize,
-}
-
-// Places that hold no element.
+// Places that hold no element. The writer looks at 65, so there may be one more.
 pub(crate) fn blanks() -> [Element; 66]
     ensures { result ≡ replicate 66 blank }
 {
@@ -30,21 +23,4 @@ pub(crate) fn listed(file: &[u8]) -> [Element; 66]
     let mut list = blanks();
     lists::read_list(file, &mut list);
     list
-}
-
-// All places of a list.
-fn all_places(list: Lent) -> [Element; 66]
-    ensures { result ≡ list.all }
-{
-    list.all
-}
-
-// Writes a list, lent to `lists::write_list`.
-pub(crate) fn written(header: &[u8], list: Lent, out: &mut [u8]) -> Answer
-    requires { list.len ≤ 66 }
-    ensures { (result ≡ write_answer header.now (take list.len list.all) out.old) × (out.new ≡ write_lent header.now (take list.len list.all) out.old) }
-{
-    let all = all_places(list);
-    let n = list.len;
-    lists::write_list(header, &all[..n], out)
 }

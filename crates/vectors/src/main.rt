@@ -3,14 +3,11 @@
 
 mod encoded;
 mod lending;
-mod reading;
 mod stepping;
 
 ghost use Rattle.std.specs.Prelude.{◌≤◌, length};
 
 use failures::fail;
-use lending::Lent;
-use reading::read_full;
 use std::env::FillError;
 use std::io::Read;
 use std::rt::{Env, Files};
@@ -21,10 +18,7 @@ const NAME_TOO_LONG: i32 = 36;
 
 // Whether a line that starts with this byte is an attribute line.
 fn is_attribute(first: u8) -> bool {
-    if first == b'A' {
-        return true;
-    }
-    first == b'M'
+    first == b'A' || first == b'M'
 }
 
 // Where the attribute lines end: at the first line that is none.
@@ -52,10 +46,9 @@ fn written_again(file: &[u8]) -> bool {
         Err(_) => return true,
     };
     let all = lending::listed(file);
-    let list = Lent { all, len: n };
     let header = attribute_lines_end(file);
     let mut out = [0u8; 16384];
-    let written = lending::written(&file[0..header], list, &mut out);
+    let written = lists::write_list(&file[..header], &all[..n], &mut out);
     if written.number != 0 {
         return false;
     }
@@ -63,20 +56,20 @@ fn written_again(file: &[u8]) -> bool {
     if 16384 < length {
         return false;
     }
-    comparing::same(file, &out[0..length])
+    comparing::same(file, &out[..length])
 }
 
 // What is to be printed of a policy file.
 fn print_report<P: Print, R: Read>(rt: &P, source: &mut R) -> io::Result<()> {
     let mut file = [0u8; 16385];
-    let n = read_full(source, &mut file);
+    let n = input::read_all(source, &mut file).length;
     let mut out = [0u8; 65536];
     let printed = program::print(&file[..n], &mut out);
-    rt.write_all(&out[0..printed])?;
+    rt.write_all(&out[..printed])?;
     if !written_again(&file[..n]) {
         rt.write_all(b"written otherwise\n")?;
     }
-    if !stepping::stepped(&file[..n], &out[0..printed]) {
+    if !stepping::stepped(&file[..n], &out[..printed]) {
         rt.write_all(b"stepped otherwise\n")?;
     }
     Ok(())

@@ -1,26 +1,27 @@
 // Steps through every request of a policy file: each has its number, and the decision that the report gives its segment.
-ghost use Rattle.std.specs.Prelude.{◌*◌, ◌≤◌, ◌<◌, length};
+ghost use Rattle.std.specs.Prelude.{◌*◌, ◌≤◌, ◌<◌};
 ghost use Rattle.table.specs.Rows.{Rows};
 ghost use Rattle.outcomes.specs.PolicyTable.{PolicyTable};
 
+use meaning::Decision;
 use requests::Request;
 use table::Shape;
 
-// The number of a decision by its word, 4 for another word.
-fn decision_of(word: &[u8]) -> u8 {
+// The decision of a word, if it is one's.
+fn decision_of(word: &[u8]) -> Option<Decision> {
     if comparing::same(word, b"permit") {
-        return 0;
+        return Some(Decision::Permit);
     }
     if comparing::same(word, b"deny") {
-        return 1;
+        return Some(Decision::Deny);
     }
     if comparing::same(word, b"not-applicable") {
-        return 2;
+        return Some(Decision::NotApplicable);
     }
     if comparing::same(word, b"indeterminate") {
-        return 3;
+        return Some(Decision::Indeterminate);
     }
-    4
+    None
 }
 
 fn digit(b: u8) -> usize
@@ -32,19 +33,17 @@ fn digit(b: u8) -> usize
 // A request's number in decimal; 4,096 or more for one that is none.
 fn number_of(digits: &[u8]) -> usize {
     let mut number = 0;
-    let mut i = 0;
-    while i < digits.len() {
+    for b in digits {
         if 4096 <= number {
             return number;
         }
-        number = 10 * number + digit(digits[i]);
-        i += 1;
+        number = 10 * number + digit(*b);
     }
     number
 }
 
 // Lays down what a `G` line says: the decision of its segment, at the segment's first request.
-fn lay_decision(line: &[u8], told: &mut [u8]) {
+fn lay_decision(line: &[u8], told: &mut [Option<Decision>]) {
     if !comparing::same(fields::field(line, 0), b"G") {
         return;
     }
@@ -55,7 +54,7 @@ fn lay_decision(line: &[u8], told: &mut [u8]) {
 }
 
 // The same for each line of a report.
-fn lay_decisions(report: &[u8], told: &mut [u8]) {
+fn lay_decisions(report: &[u8], told: &mut [Option<Decision>]) {
     let mut at = 0;
     while at < report.len() {
         let end = text::end_of(report, at, b'\n');
@@ -85,12 +84,10 @@ fn applying(table: &[u16], n: usize, q: Request) -> u64
     requires { Rows table.now n × (n ≤ 64) × (q.len ≤ 6) }
 {
     let mut word: u64 = 0;
-    let mut i = 0;
-    while i < n {
+    for i in 0..n {
         if applies(table, n, q, word, i) {
             word |= 1u64 << i;
         }
-        i += 1;
     }
     word
 }
@@ -100,42 +97,40 @@ fn first_alike(words: &[u64; 4096], m: usize) -> usize
     requires { m < 4096 }
     ensures { result ≤ m }
 {
-    let mut k = 0;
-    while k < m {
+    for k in 0..m {
         if words[k] == words[m] {
             return k;
         }
-        k += 1;
     }
     m
 }
 
 // Goes from request 0 to the last one and back to the first, and holds each to its number; where the decisions are told, to that of its segment, too.
-fn step_all(table: &[u16], struck: &[u8], shape: Shape, told: &[u8], shown: bool) -> bool
-    requires { PolicyTable table.now struck.now shape × (4096 ≤ length told.now) }
+fn step_all(
+    table: &[u16],
+    struck: &[u8],
+    shape: Shape,
+    told: Option<&[Option<Decision>; 4096]>,
+) -> bool
+    requires { PolicyTable table.now struck.now shape }
 {
     let n = shape.n;
-    let several = shape.several;
     let counts = shape.counts;
-    let space = shape.space;
     let mut words = [0u64; 4096];
-    let mut q = requests::request_of(0, several, counts, shape.len);
-    let mut m = 0;
-    while m < space {
+    let mut q = requests::request_of(0, shape.several, counts, shape.len);
+    for m in 0..shape.space {
         if q.number(counts) != m {
             return false;
         }
         words[m] = applying(table, n, q);
         let first = first_alike(&words, m);
         let decision = decisions::decide(table, struck, n, q);
-        let number = decisions::decision_number(decision) as u8;
-        if shown {
-            if told[first] != number {
+        if let Some(told) = told {
+            if told[first] != Some(decision) {
                 return false;
             }
         }
         q = q.next(counts);
-        m += 1;
     }
     q.number(counts) == 0
 }
@@ -149,8 +144,9 @@ pub(crate) fn stepped(file: &[u8], report: &[u8]) -> bool {
         Err(_) => return true,
     };
     let struck = [0u8; 64];
-    let mut told = [4u8; 4096];
-    lay_decisions(report, &mut told);
-    let shown = !comparing::same(fields::field(report, 0), b"E");
-    step_all(&table, &struck, shape, &told, shown)
+    let mut laid = [None; 4096];
+    lay_decisions(report, &mut laid);
+    let refused = comparing::same(fields::field(report, 0), b"E");
+    let told = if refused { None } else { Some(&laid) };
+    step_all(&table, &struck, shape, told)
 }

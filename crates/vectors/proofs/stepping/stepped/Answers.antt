@@ -10,4 +10,4 @@ shape-shape-requires c = sizable c.in-Ok.ensures
 pub step_all-requires : goal.step_all-requires
 step_all-requires c =
     let (p, h, holds) = file_read c.in-Ok.ensures in
-    (ready _ _ _ _ p h holds _ c.shape-shape.ensures _ (omega arith) refl, omega arith)
+    ready _ _ _ _ p h holds _ c.shape-shape.ensures _ (omega arith) refl
