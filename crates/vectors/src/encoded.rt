@@ -20,7 +20,7 @@ fn pair(high: u8, low: u8) -> usize
     256 * wide(high) + wide(low)
 }
 
-// The table's own is of its rows' numbers and stays there.
+// The numbers are the file's, as make_lists.c stores them: `table` has its own, which may change apart from them.
 fn word_of(number: u8) -> Word {
     match number {
         0 => Word::Permit,
