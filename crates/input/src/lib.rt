@@ -7,29 +7,11 @@ ghost use Rattle.std.specs.Io.KnownBytes.{Consumes, IsAtEnd};
 use std::io;
 use std::io::Read;
 
-// How many bytes were read, and the failure behind them, if a read failed.
+// How many bytes were read, and the failure behind them, if a read failed: no Result, as the bytes before a failure count too.
 #[derive(Clone, Copy)]
 pub struct Input {
     pub length: usize,
     pub failure: Option<io::Error>,
-}
-
-// One read: no byte at the end of the input.
-fn read_some<R: Read>(reader: &mut R, part: &mut [u8]) -> Input
-    ensures within { result.length ≤ length part.old }
-    ensures bytes { Consumes (R.remaining reader.old) (R.remaining reader.new) (take result.length part.new) }
-    ensures end { result.length ≡ 0 → IsNone result.failure → 0 < length part.old → IsAtEnd (R.remaining reader.new) }
-{
-    match reader.read(part) {
-        Ok(length) => Input {
-            length,
-            failure: None,
-        },
-        Err(failure) => Input {
-            length: 0,
-            failure: Some(failure),
-        },
-    }
 }
 
 // Reads until nothing more comes.
@@ -39,18 +21,20 @@ pub fn read_all<R: Read>(reader: &mut R, file: &mut [u8]) -> Input
     ensures end { IsNone result.failure → result.length < length file.old → IsAtEnd (R.remaining reader.new) }
 {
     let mut done = 0;
-    let mut failure = None;
     while done < file.len() {
-        let read = read_some(reader, &mut file[done..]);
-        let more = read.length;
-        if more == 0 {
-            failure = read.failure;
-            break;
+        match reader.read(&mut file[done..]) {
+            Ok(0) => break,
+            Ok(more) => done += more,
+            Err(failure) => {
+                return Input {
+                    length: done,
+                    failure: Some(failure),
+                };
+            }
         }
-        done += more;
     }
     Input {
         length: done,
-        failure,
+        failure: None,
     }
 }

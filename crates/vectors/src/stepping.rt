@@ -97,12 +97,8 @@ fn first_alike(words: &[u64; 4096], m: usize) -> usize
     requires { m < 4096 }
     ensures { result ≤ m }
 {
-    for k in 0..m {
-        if words[k] == words[m] {
-            return k;
-        }
-    }
-    m
+    let word = words[m];
+    words[..m].iter().position(|w| *w == word).unwrap_or(m)
 }
 
 // Goes from request 0 to the last one and back to the first, and holds each to its number; where the decisions are told, to that of its segment, too.

@@ -16,9 +16,8 @@ filled d k n xs ys within fits =
 
 pub loop-done-preserved : goal.loop-done-preserved
 loop-done-preserved g c =
-    let from = c.loop-done.done in
-    let read = c.read_some-read in (
+    let from = c.loop-done.done in (
       search rules,
-      subst (Consumes _ _) (sym (filled from (length c.loop-done.file - from) read.result.length c.loop-done.file read.new.part c.loop-done.invariant.0 (search rules)))
-          (Consumes-trans _ _ _ _ _ c.loop-done.invariant.1 read.ensures.bytes),
+      subst (Consumes _ _) (sym (filled from (length c.loop-done.file - from) c.in-Ok.more c.loop-done.file c.read.new.buf c.loop-done.invariant.0 (search rules)))
+          (Consumes-trans _ _ _ _ _ c.loop-done.invariant.1 c.in-Ok.ensures.bytes.0),
     )
