@@ -18,6 +18,7 @@ use Rattle.meaning.specs.Operations.{answered, accept_answer}
 use Rattle.laws.proofs.Search.{first_some, first_none}
 use Rattle.laws.proofs.Outcomes.{same_outcome_lem}
 use Rattle.laws.proofs.OtherLines.{none_other}
+use Rattle.table.specs.declared.Row.{Row}
 use Rattle.table.specs.declared.Shape.{Shape}
 use Rattle.table.specs.Shape.{hit_of}
 use Rattle.outcomes.specs.Decided.{none_struck, decided_at}
@@ -51,7 +52,7 @@ module _ (test : ℕ → Bool) (n i : ℕ) where
   first_nowhere l = let none_left : n - i ≡ 0 = omega arith in rw none_left
 
 -- Flags, by which requests and rules are looked at
-module _ (f : Bytes) (places table : List ℕ) (s : Shape) (struck : List ℕ) where
+module _ (f : Bytes) (places : List ℕ) (table : List Row) (s : Shape) (struck : List ℕ) where
   abbrev differs : ℕ → Bool
   differs = apart f places table s.n (hit_of s) none_struck struck
 
@@ -91,7 +92,7 @@ module _ (f : Bytes) (places table : List ℕ) (s : Shape) (struck : List ℕ) w
   unfolding judged_at
   told_rule a i b after same line is = let told = is ∙ ap (λ flags. suc (s.len + lines_from places flags 0 i)) same in rw (a, b) (λ j. record { number = 18; second = told j })
 
-module _ (f table places : List ℕ) (s : Shape) (held : PolicyHeld f table places s) (g : Bytes) (flags : List ℕ) (left : RulesLeft f table places s held flags) (text : g ≡ text_left f held.policy flags) where
+module _ (f : List ℕ) (table : List Row) (places : List ℕ) (s : Shape) (held : PolicyHeld f table places s) (g : Bytes) (flags : List ℕ) (left : RulesLeft f table places s held flags) (text : g ≡ text_left f held.policy flags) where
   abbrev p : Policy
   p = held.policy
 
@@ -142,7 +143,7 @@ module _ (f table places : List ℕ) (s : Shape) (held : PolicyHeld f table plac
           le i e = omega (arith, rule_below f places table s flags i e)
 
 -- The flags that a proposal leaves, which is matched to its end
-module _ (f table places : List ℕ) (s : Shape) (held : PolicyHeld f table places s) (g : Bytes) (flags : List ℕ) (are : flags ≡ (leaving f places table s.n g none_struck).flags) where
+module _ (f : List ℕ) (table : List Row) (places : List ℕ) (s : Shape) (held : PolicyHeld f table places s) (g : Bytes) (flags : List ℕ) (are : flags ≡ (leaving f places table s.n g none_struck).flags) where
   left_so : RulesLeft f table places s held flags
   left_so = subst (RulesLeft f table places s held) (sym are) (flags_left f table places s held g)
 

@@ -9,6 +9,7 @@ use borrow.Author.Tests.{eq-eqb, ne_eqb}
 use Rattle.laws.proofs.Types.{Element}
 use Rattle.laws.proofs.Bools.{Test, passed, failed, test}
 use Rattle.laws.proofs.Places.{lines_in}
+use Rattle.table.specs.declared.Row.{Row}
 use Rattle.layout.specs.Places.{obligation_count}
 use Rattle.table.specs.declared.Shape.{Shape}
 use Rattle.outcomes.specs.Decided.{none_struck}
@@ -58,7 +59,7 @@ lines_kept places struck i (e ∷ es) (suc m) l each =
     go (failed x) later = rw x (later ∙ sym (zero-add (lines_from places struck (i + 1) m)))
 
 -- and so the line of an element is told
-module _ (f table places : List ℕ) (s : Shape) (held : PolicyHeld f table places s) (struck : List ℕ) where
+module _ (f : List ℕ) (table : List Row) (places : List ℕ) (s : Shape) (held : PolicyHeld f table places s) (struck : List ℕ) where
   pub line_is : (i : ℕ) → i ≤ s.n → line_at held.policy struck i ≡ s.len + lines_from places struck 0 i
   line_is i l =
       let p = held.policy in

@@ -8,6 +8,7 @@ use Rattle.meaning.specs.Trimming.{file_lines}
 use Rattle.meaning.specs.declared.Answer.{Answer}
 use Rattle.meaning.specs.Claims.Accepting.{LeavesOut}
 use Rattle.text.specs.Ended.{Ended}
+use Rattle.table.specs.declared.Row.{Row}
 use Rattle.table.specs.declared.Shape.{Shape}
 use Rattle.table.specs.Shape.{hit_of}
 use Rattle.outcomes.specs.Decided.{none_struck}
@@ -28,7 +29,7 @@ told_by places struck attributes none (some i) = record { number = 18; second = 
 told_by places struck attributes none none = record { number = 0; second = 0 }
 
 -- the first request that gets something else under the flags, and the topmost needless rule of those left
-unfoldable pub judged_at : Bytes → (places t : List ℕ) → Shape → List ℕ → Answer
+unfoldable pub judged_at : Bytes → (places : List ℕ) (t : List Row) → Shape → List ℕ → Answer
 judged_at f places t s struck =
     told_by places struck s.len
     (first_from (apart f places t s.n (hit_of s) none_struck struck) 0 s.space)

@@ -19,7 +19,7 @@ ghost use Rattle.accepting.specs.Judged.{lines_from, judged_at, LeavesOthersOut}
 use differences::{PolicyFile, PolicyOutcomes};
 use meaning::Answer;
 use refusals::{Refusal, Refused};
-use table::Shape;
+use table::{Row, Shape};
 use trials::Tried;
 
 // The line of element i, from 1, in what the flags leave behind so many attribute lines.
@@ -54,7 +54,7 @@ fn first_needless(o: &PolicyOutcomes, struck: &mut [u8]) -> Option<usize>
 }
 
 // What a proposal gets that is the file's lines without those of the rules struck. The decisions of the file are laid down once; where the proposal gives the same, they are its own.
-fn judge(file: &[u8], table: &[u16], places: &[usize], shape: Shape, struck: &mut [u8]) -> Answer
+fn judge(file: &[u8], table: &[Row], places: &[usize], shape: Shape, struck: &mut [u8]) -> Answer
     requires { Steady file.now places.now table.now shape × PolicyTable table.now none_struck shape × PolicyTable table.now struck.old shape × Untouched file.now places.now table.now none_struck struck.old shape }
     ensures { (result ≡ judged_at file.now places.now table.now shape struck.old) × (struck.new ≡ struck.old) }
 {
@@ -99,7 +99,7 @@ fn refuse(file: &[u8], proposal: &[u8]) -> Refused
     requires { LeavesOthersOut file.now proposal.now }
     ensures { answer_of result ≡ accept_answer file.now proposal.now }
 {
-    let mut table = [0u16; 512];
+    let mut table = [Row::NONE; 64];
     let mut places = [0usize; 384];
     match reader::read(proposal, &mut table, &mut places) {
         Ok(_) => Refused {
@@ -111,7 +111,7 @@ fn refuse(file: &[u8], proposal: &[u8]) -> Refused
 }
 
 // The answer to a proposal beside the file. One that is the file's lines without those of some rules is a policy file, so it is not read: the flags of these rules stand for it.
-pub fn accept(file: &[u8], table: &[u16], places: &[usize], shape: Shape, proposal: &[u8]) -> Answer
+pub fn accept(file: &[u8], table: &[Row], places: &[usize], shape: Shape, proposal: &[u8]) -> Answer
     requires { PolicyHeld file.now table.now places.now shape }
     ensures { result ≡ accept_answer file.now proposal.now }
 {

@@ -3,20 +3,20 @@ use Rattle.std.specs.Prelude.{ℕ, ◌+◌, ◌*◌, ◌-◌, List, [], ◌∷�
 use Rattle.std.proofs.lemmas.List.Edits.{sets}
 use Rattle.meaning.specs.Model.{padded}
 use Rattle.meaning.specs.Reading.{Line, attribute_line, tree_line, obligation_line, other_line, depth_of, word_of, masks_of, Sofar, nearest_obligations, extended}
-use Rattle.syntax.specs.Fields.{number_of_word}
-use Rattle.table.specs.Rows.{with_row}
+use Rattle.table.specs.declared.Row.{Row}
+use Rattle.table.specs.Rows.{row_of, with_row}
 use Rattle.layout.specs.Places.{obligation_place}
 
 -- what was read so far, and the table and the places with it
 pub record Laid : Type 0 where
   pub sofar : Sofar
-  pub table : List ℕ
+  pub table : List Row
   pub places : List ℕ
 
 -- a tree line's element has its word, its depth and its masks in the table; its places are where its line starts, which
 -- is `at`, and where its name ends. Those of an obligation are where its name starts and ends
-abbrev pub table_with : Sofar → Line → List ℕ → List ℕ
-table_with s (tree_line k d n w ts) table = with_row table (length s.before) (number_of_word (word_of k w)) (depth_of d) (padded 6 (masks_of s.attributes ts))
+abbrev pub table_with : Sofar → Line → List Row → List Row
+table_with s (tree_line k d n w ts) table = with_row table (length s.before) (row_of (word_of k w) (depth_of d) (padded 6 (masks_of s.attributes ts)))
 table_with s (attribute_line a) table = table
 table_with s (obligation_line n w) table = table
 table_with s other_line table = table

@@ -10,6 +10,7 @@ use Rattle.meaning.specs.declared.Word.TheVariants.{Permit, Deny}
 use Rattle.meaning.specs.declared.Element.{Element}
 use Rattle.meaning.specs.Deciding.{bit, combined}
 use Rattle.laws.proofs.Bits.{bit_and_lem, bit_zero}
+use Rattle.table.specs.declared.Row.{Row}
 use Rattle.table.specs.Rows.{word_at, algorithm_number, algorithm_of, depth_of, element_at, word_number}
 use Rattle.decisions.specs.Replies.{replies_from, reply_at}
 use Rattle.decisions.proofs.Combining.{Settled, start}
@@ -23,7 +24,7 @@ pub none_reply : (v : ℕ) → reply_bit (record { matched = 0; given = record {
 none_reply v = rw (bit_zero v)
 
 -- Element `at`, whose word is w in this block
-module _ (t struck hits : List ℕ) (n block at w v : ℕ) (hit : Element → Bool) (answers : Answers t hits n block v hit) (l : at < n) (is : w ≡ get_or hits (64 * at + block) 0) where
+module _ (t : List Row) (struck hits : List ℕ) (n block at w v : ℕ) (hit : Element → Bool) (answers : Answers t hits n block v hit) (l : at < n) (is : w ≡ get_or hits (64 * at + block) 0) where
   hit_is : (b : Bool) → bit w v ≡ b → hit (element_at t at) ≡ b
   hit_is b e = sym (answers at l) ∙ ap (λ x. bit x v) (sym is) ∙ e
 
@@ -55,7 +56,7 @@ module _ (t struck hits : List ℕ) (n block at w v : ℕ) (hit : Element → Bo
       go false e = rw (bit_and_lem w given.permits v, bit_and_lem w given.denies v, e, reply_off hit t struck n at (hit_is false e))
 
 -- For each bit and the test that it answers: the replies so far, by an algorithm, stand for the children from one place up to another
-abbrev pub Folded : (t struck hits : List ℕ) (n block from depth : ℕ) → Word → Replies → ℕ → Type 0
+abbrev pub Folded : (t : List Row) (struck hits : List ℕ) (n block from depth : ℕ) → Word → Replies → ℕ → Type 0
 Folded t struck hits n block from depth w so at =
     ((v : ℕ) → Settled (algorithm_number w) (reply_bit so v))
     × ((v : ℕ) (hit : Element → Bool) → Answers t hits n block v hit

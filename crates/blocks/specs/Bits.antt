@@ -4,6 +4,7 @@ use Rattle.meaning.specs.declared.Decision.{Decision}
 use Rattle.meaning.specs.declared.Decision.TheVariants.{Permit, Deny, NotApplicable, Indeterminate}
 use Rattle.meaning.specs.declared.Element.{Element}
 use Rattle.meaning.specs.Deciding.{Reply as ChildReply, bit}
+use Rattle.table.specs.declared.Row.{Row}
 use Rattle.table.specs.Rows.{element_at, Rows}
 use Rattle.blocks.specs.declared.Effects.{Effects}
 use Rattle.blocks.specs.declared.Replies.{Replies}
@@ -22,11 +23,11 @@ abbrev pub reply_bit : Replies → ℕ → ChildReply
 reply_bit r v = record { matched = bit r.matched v; decision = decision_bit r.given v }
 
 -- bit v of the block's words, one for each element, answers this test of targets
-abbrev pub Answers : List ℕ → List ℕ → ℕ → ℕ → ℕ → (Element → Bool) → Type 0
+abbrev pub Answers : List Row → List ℕ → ℕ → ℕ → ℕ → (Element → Bool) → Type 0
 Answers t hits n block v hit = (i : ℕ) → i < n → bit (get_or hits (64 * i + block) 0) v ≡ hit (element_at t i)
 
 -- a table of n elements, a flag and 64 words for each, and one of at most 64 blocks
-pub record Fits (t struck hits : List ℕ) (n block : ℕ) : Type 0 where
+pub record Fits (t : List Row) (struck hits : List ℕ) (n block : ℕ) : Type 0 where
   pub rows : Rows t n
   pub flags : n ≤ length struck
   pub words : 64 * n ≤ length hits

@@ -10,6 +10,7 @@ ghost use Rattle.decisions.specs.Replies.{next_of, step_of, replies_from, reply_
 ghost use Rattle.blocks.specs.Bits.{decision_bit, reply_bit, Answers, Fits, Lowest};
 
 use meaning::{Decision, Word};
+use table::Row;
 
 // Which requests are permitted and which denied: both is indeterminate, none not-applicable.
 #[derive(Clone, Copy)]
@@ -43,7 +44,7 @@ impl Replies {
 // One of at most 64 blocks of requests, over the first `n` elements of a table: a flag for each, and 64 words for each, of which one tells which of the block's requests match its own target.
 #[derive(Clone, Copy)]
 pub struct Block<'a> {
-    pub table: &'a [u16],
+    pub table: &'a [Row],
     pub struck: &'a [u8],
     pub hits: &'a [u64],
     pub n: usize,

@@ -12,6 +12,7 @@ use Rattle.meaning.specs.Deciding.{Reply, reply, child_replies, asked}
 use Rattle.laws.proofs.Types.{Word, Decision, Element}
 use Rattle.laws.proofs.Bools.{Test, passed, failed, test, and_true}
 use Rattle.laws.proofs.Chains.{nones, either, chain_from}
+use Rattle.table.specs.declared.Row.{Row}
 use Rattle.table.specs.Rows.{word_at, word_number, depth_of, element_at}
 use Rattle.table.specs.Tree.{left}
 use Rattle.table.proofs.Children.{left_here}
@@ -26,7 +27,7 @@ marks_left f s i zero = []
 marks_left f s i (suc m) = let later = marks_left f s (i + 1) m in cond (eqb (get_or s i 0) 0) (f i ∷ later) later
 
 module _ (s : List ℕ) where
-  marks_none : (t : List ℕ) (f : ℕ → Bool) (i m : ℕ) → ((j : ℕ) → f j ≡ false) → marks_left f s i m ≡ nones (left t s i m)
+  marks_none : (t : List Row) (f : ℕ → Bool) (i m : ℕ) → ((j : ℕ) → f j ≡ false) → marks_left f s i m ≡ nones (left t s i m)
   unfolding left
   marks_none t f i zero none = refl
   marks_none t f i (suc m) none = go (test (eqb (get_or s i 0) 0)) (marks_none t f (i + 1) m none)
@@ -63,7 +64,7 @@ equal : (k : ℕ) → compare k k ≡ Ordering.eq
 equal zero = compare.zero-zero
 equal (suc k) = compare.suc-suc k k ∙ equal k
 
-module _ (hit : Element → Bool) (d : Decision) (t s : List ℕ) (n : ℕ) where
+module _ (hit : Element → Bool) (d : Decision) (t : List Row) (s : List ℕ) (n : ℕ) where
   -- the meaning's marks, and those of the places
   abbrev Same : Word → ℕ → Bool → List Bool → (i m : ℕ) → Type 0
   Same w k b bs i m = chain_from hit d k bs (left t s i m) ≡ marks_left (λ j. chained_in hit d t s n w k b j i m) s i m
@@ -121,7 +122,7 @@ module _ (hit : Element → Bool) (d : Decision) (t s : List ℕ) (n : ℕ) wher
           rw (x, c) (ap₂ (λ y ys. y ∷ ys) (sym (none_before hit d t s n w k b i (i + 1) m (omega arith))) (later w k b bs (rw (x, c) at fits) ∙ marks_same s _ (λ j. chained_in hit d t s n w k b j i (suc m)) (i + 1) m (λ j l. rw (x, c))))
 
 -- Of n elements, with the decision that the first gives
-module _ (hit : Element → Bool) (t s : List ℕ) (n : ℕ) where
+module _ (hit : Element → Bool) (t : List Row) (s : List ℕ) (n : ℕ) where
   abbrev first : Decision
   first = (reply_at hit t s n 0).decision
 

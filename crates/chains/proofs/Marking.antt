@@ -16,6 +16,7 @@ use Rattle.meaning.specs.Deciding.{bit}
 use Rattle.laws.proofs.Bits.{bit_and_lem, bit_or_lem, bit_zero}
 use Rattle.laws.specs.Found.{found}
 use Rattle.laws.proofs.Bools.{Test, passed, failed, test}
+use Rattle.table.specs.declared.Row.{Row}
 use Rattle.table.specs.Rows.{word_at, word_number, depth_of}
 use Rattle.table.specs.Tree.{next_child}
 use Rattle.decisions.specs.Replies.{reply_at}
@@ -38,7 +39,7 @@ regrouped false true q r = refl
 regrouped false false q r = refl
 
 -- The children at depth k of a parent with the word w, asked from place `from` on, on the requests of `on`
-module _ (t s hits : List ℕ) (n block from k : ℕ) (w : Word) (on : ℕ) (first : Effects) where
+module _ (t : List Row) (s hits : List ℕ) (n block from k : ℕ) (w : Word) (on : ℕ) (first : Effects) where
   -- what `old` and all children come to, `given` and the children from place `at` on come to, which are asked on those of `left`
   abbrev pub Marking : (old given : List ℕ) (left at : ℕ) → Type 0
   Marking old given left at =
@@ -98,7 +99,7 @@ module _ (t s hits : List ℕ) (n block from k : ℕ) (w : Word) (on : ℕ) (fir
           marking v hit answers j ∙ ap (λ x. bit (get_or given j 0) v || x) (one_child hit d t s n w k (bit left v) j at low child is) ∙ one
 
 -- the first element is asked where it gives permit or deny, over words that are 0
-pub root_asked : (t s hits : List ℕ) (n block depth on : ℕ) (first : Effects) (zeros new : List ℕ)
+pub root_asked : (t : List Row) (s hits : List ℕ) (n block depth on : ℕ) (first : Effects) (zeros new : List ℕ)
     → ((v : ℕ) (hit : Element → Bool) → Answers t hits n block v hit → decision_bit first v ≡ (reply_at hit t s n 0).decision)
     → ((v : ℕ) → bit on v ≡ alike (decision_bit first v) (decision_bit first v))
     → depth ≡ depth_of t 0

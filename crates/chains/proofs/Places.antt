@@ -16,6 +16,7 @@ use Rattle.laws.proofs.Bools.{Test, passed, failed, test}
 use Rattle.laws.proofs.Found.{found_some, found_none}
 use mathlib.Core.Option.{Option, none, some}
 use Rattle.std.specs.Prelude.{Some, None}
+use Rattle.table.specs.declared.Row.{Row}
 use Rattle.table.specs.Rows.{word_at, word_number, depth_of}
 use Rattle.table.specs.Tree.{next_child}
 use Rattle.table.proofs.Children.{child_none, passes_struck, passes_deeper, child_here, child_behind}
@@ -33,7 +34,7 @@ idle true true a e = e
 idle true false a e = refl
 idle false x a e = refl
 
-module _ (hit : Element → Bool) (d : Decision) (t s : List ℕ) (n : ℕ) where
+module _ (hit : Element → Bool) (d : Decision) (t : List Row) (s : List ℕ) (n : ℕ) where
   abbrev Gives : Word → Bool → ℕ → Bool
   Gives = gives_asked hit d t s n
 

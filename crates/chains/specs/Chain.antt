@@ -5,6 +5,7 @@ use Rattle.meaning.specs.declared.Word.{Word}
 use Rattle.meaning.specs.declared.Decision.{Decision}
 use Rattle.meaning.specs.declared.Element.{Element}
 use Rattle.meaning.specs.Deciding.{is, bit, by_order}
+use Rattle.table.specs.declared.Row.{Row}
 use Rattle.table.specs.Rows.{word_at, word_number, depth_of}
 use Rattle.decisions.specs.Replies.{reply_at}
 use Rattle.blocks.specs.declared.Effects.{Effects}
@@ -33,7 +34,7 @@ settles Word.FirstApplicable e = not (is Decision.NotApplicable e)
 settles Word.OnlyOneApplicable e = false
 
 -- The elements of a table that flags leave, of n places, and the decision that is given
-module _ (hit : Element → Bool) (d : Decision) (t struck : List ℕ) (n : ℕ) where
+module _ (hit : Element → Bool) (d : Decision) (t : List Row) (struck : List ℕ) (n : ℕ) where
   -- element i gives it, and is asked: by a parent of word w whose next child is asked if b holds
   abbrev pub gives_asked : Word → Bool → ℕ → Bool
   gives_asked w b i = (b && asks w) && alike d (reply_at hit t struck n i).decision
@@ -56,18 +57,18 @@ module _ (hit : Element → Bool) (d : Decision) (t struck : List ℕ) (n : ℕ)
   chained_from w k b j i = chained_in w k b j i (n - i)
 
 -- The first element gives permit or deny, and element j, with every element above it, is asked and gives the same; no element behind the first is asked beside it
-unfoldable pub chained : (Element → Bool) → List ℕ → List ℕ → ℕ → ℕ → Bool
+unfoldable pub chained : (Element → Bool) → List Row → List ℕ → ℕ → ℕ → Bool
 chained hit t struck n j =
     let d = (reply_at hit t struck n 0).decision in
     chained_from hit d t struck n Word.FirstApplicable (depth_of t 0) (alike d d) j 0
 
 -- to the bits that the words of n elements had come those of the chained children, for each bit and the test that it answers
-pub record Marks (t struck hits : List ℕ) (n block from depth : ℕ) (word : Word) (on : ℕ) (first : Effects) (old new : List ℕ) : Type 0 where
+pub record Marks (t : List Row) (struck hits : List ℕ) (n block from depth : ℕ) (word : Word) (on : ℕ) (first : Effects) (old new : List ℕ) : Type 0 where
   pub bits : (v : ℕ) (hit : Element → Bool) → Answers t hits n block v hit → (j : ℕ)
       → bit (get_or new j 0) v ≡ (bit (get_or old j 0) v || chained_from hit (decision_bit first v) t struck n word depth (bit on v) j from)
   pub behind : drop n new ≡ drop n old
 
 -- each bit of the words of n elements says whether the element is chained; the words behind them stay
-pub record ChainLaid (t struck hits : List ℕ) (n block : ℕ) (old new : List ℕ) : Type 0 where
+pub record ChainLaid (t : List Row) (struck hits : List ℕ) (n block : ℕ) (old new : List ℕ) : Type 0 where
   pub bits : (v : ℕ) (hit : Element → Bool) → Answers t hits n block v hit → (i : ℕ) → i < n → bit (get_or new i 0) v ≡ chained hit t struck n i
   pub behind : drop n new ≡ drop n old

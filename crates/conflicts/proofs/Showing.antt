@@ -18,6 +18,7 @@ use Rattle.laws.specs.Found.{found}
 use Rattle.laws.proofs.Bits.{bit_and_lem, bit_or_lem, bit_zero}
 use Rattle.laws.proofs.Bools.{Test, passed, failed, test}
 use Rattle.laws.proofs.Search.{first_some, first_is, first_absent}
+use Rattle.table.specs.declared.Row.{Row}
 use Rattle.table.specs.Tree.{place_or}
 use Rattle.outcomes.proofs.Searching.{first_alike}
 use Rattle.blocks.specs.Bits.{Lowest}
@@ -96,7 +97,7 @@ module _ (applied permits denies : List ℕ) (i j k : ℕ) where
     shown_none space past = first_absent shown 0 space (λ m l u. so_far m (omega arith))
 
 -- The rows of a table show what the table does
-module _ (t struck : List ℕ) (n : ℕ) (hit : ℕ → Element → Bool) (space : ℕ) (applied permits denies : List ℕ)
+module _ (t : List Row) (struck : List ℕ) (n : ℕ) (hit : ℕ → Element → Bool) (space : ℕ) (applied permits denies : List ℕ)
     (applying : Applied t n hit space applied) (permitting : Given Decision.Permit t struck n hit space permits) (denying : Given Decision.Deny t struck n hit space denies) where
   shown_alike : (i j k m : ℕ) → i < n → j < n → k < n → m < space → shown_by applied permits denies i j k m ≡ shows_at t struck n hit i j k m
   unfolding shown_by shows_at

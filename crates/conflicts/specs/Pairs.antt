@@ -3,12 +3,13 @@ use Rattle.std.specs.Prelude.{ℕ, ◌+◌, ◌*◌, ◌/◌, ◌%◌, ◌≤◌
 use Rattle.meaning.specs.declared.Decision.{Decision}
 use Rattle.meaning.specs.Text.{first_from}
 use Rattle.meaning.specs.declared.Element.{Element}
+use Rattle.table.specs.declared.Row.{Row}
 use Rattle.table.specs.Tree.{place_or}
 use Rattle.matching.specs.Hits.{bit_of}
 use Rattle.rows.specs.Words.{applies_at, gives_at}
 
 -- on request m element i applies, and of j and k one permits and the other denies: by a table, and by rows
-unfoldable pub shows_at : (t struck : List ℕ) (n : ℕ) (hit : ℕ → Element → Bool) → (i j k m : ℕ) → Bool
+unfoldable pub shows_at : (t : List Row) (struck : List ℕ) (n : ℕ) (hit : ℕ → Element → Bool) → (i j k m : ℕ) → Bool
 shows_at t struck n hit i j k m =
     let permits = gives_at Decision.Permit t struck n (hit m) in
     let denies = gives_at Decision.Deny t struck n (hit m) in

@@ -13,6 +13,7 @@ use blocks::Block;
 use meaning::{Answer, Decided, Decision};
 use obligations::Marks;
 use requests::Request;
+use table::Row;
 
 // The word whose lowest bit says this.
 fn bit_of(told: bool) -> u64
@@ -22,7 +23,7 @@ fn bit_of(told: bool) -> u64
 }
 
 // Lays down for each element whether the request matches its own target: in bit 0 of its first word.
-fn match_one(table: &[u16], n: usize, q: Request, hits: &mut [u64])
+fn match_one(table: &[Row], n: usize, q: Request, hits: &mut [u64])
     requires { Rows table.now n × (64 * n ≤ length hits.old) × (q.len ≤ 6) }
     ensures { Answers table.now hits.new n 0 0 (matches (severals_of q) (values_of q)) × (length hits.new ≡ length hits.old) }
 {
@@ -32,7 +33,7 @@ fn match_one(table: &[u16], n: usize, q: Request, hits: &mut [u64])
 }
 
 // Lays down which elements gave the request's decision: in bit 0 of a word for each.
-fn ask_one(table: &[u16], n: usize, q: Request, given: &mut [u64])
+fn ask_one(table: &[Row], n: usize, q: Request, given: &mut [u64])
     requires { Rows table.now n × (1 ≤ n) × (n ≤ 64) × (q.len ≤ 6) × (n ≤ length given.old) }
     ensures { ((i : ℕ) → i < n → bit (get_or given.new i 0) 0 ≡ chained (matches (severals_of q) (values_of q)) table.now (replicate 64 0) n i) × (length given.new ≡ length given.old) }
 {
@@ -70,7 +71,7 @@ fn with_decision(told: Answer, decision: Decision) -> Decided
 // The answer of a request that is permitted or denied.
 fn give(
     file: &[u8],
-    table: &[u16],
+    table: &[Row],
     places: &[usize],
     n: usize,
     q: Request,
@@ -100,7 +101,7 @@ fn give(
 // The answer of a request: its decision, and how many bytes of obligations stand in the buffer.
 pub fn answer(
     file: &[u8],
-    table: &[u16],
+    table: &[Row],
     places: &[usize],
     n: usize,
     q: Request,

@@ -16,6 +16,7 @@ use Rattle.meaning.specs.Deciding.{Reply as ChildReply, combined, child_replies,
 use Rattle.laws.specs.Found.{found}
 use Rattle.laws.proofs.Bools.{Test, passed, failed, test}
 use Rattle.laws.proofs.Found.{found_some, found_none}
+use Rattle.table.specs.declared.Row.{Row}
 use Rattle.table.specs.Rows.{word_at, algorithm_at, algorithm_of, depth_of, element_at, word_number}
 use Rattle.table.specs.Tree.{left, next_child}
 use Rattle.table.proofs.Children.{left_struck, left_here, child_none, passes_struck, passes_deeper, child_here, child_behind}
@@ -49,7 +50,7 @@ module _ (m n : ℕ) where
       go Ordering.gt e = refl
 
 -- What element i gives, by the test of its own target
-module _ (hit : Element → Bool) (t s : List ℕ) (n i : ℕ) where
+module _ (hit : Element → Bool) (t : List Row) (s : List ℕ) (n i : ℕ) where
   pub reply_off : hit (element_at t i) ≡ false → reply_at hit t s n i ≡ start
   unfolding reply_at
   reply_off e = rw e
@@ -60,7 +61,7 @@ module _ (hit : Element → Bool) (t s : List ℕ) (n i : ℕ) where
   reply_on e = rw e
 
 -- What the children of depth d give, of n places
-module _ (hit : Element → Bool) (t s : List ℕ) (n d : ℕ) where
+module _ (hit : Element → Bool) (t : List Row) (s : List ℕ) (n d : ℕ) where
   -- from a child on that was found, or from the end
   abbrev from_child : Option ℕ → List ChildReply
   from_child none = []
@@ -139,7 +140,7 @@ module _ (hit : Element → Bool) (t s : List ℕ) (n d : ℕ) where
           ∙ ap (λ c. combined (algorithm_at a) (c ∷ replies_from hit t s n d (r + 1))) (sym stepped)
 
 -- The same, one element after the other: element i, which is struck, or is not and has the depth r
-module _ (hit : Element → Bool) (t s : List ℕ) (n d i : ℕ) (l : i < n) where
+module _ (hit : Element → Bool) (t : List Row) (s : List ℕ) (n d i : ℕ) (l : i < n) where
   pub replies_struck : (get_or s i 0 ≡ 0 → ⊥) → replies_from hit t s n d i ≡ replies_from hit t s n d (i + 1)
   replies_struck = struck_one hit t s n d i l
 
@@ -171,6 +172,6 @@ algorithm_word FirstApplicable permit deny = refl
 algorithm_word OnlyOneApplicable permit deny = refl
 
 -- The first element that is left from place i on
-pub first_left : (hit : Element → Bool) (t s : List ℕ) (n i : ℕ) → i < n → get_or s i 0 ≡ 0 → first_decision hit (left t s i (n - i)) ≡ (reply_at hit t s n i).decision
+pub first_left : (hit : Element → Bool) (t : List Row) (s : List ℕ) (n i : ℕ) → i < n → get_or s i 0 ≡ 0 → first_decision hit (left t s i (n - i)) ≡ (reply_at hit t s n i).decision
 unfolding reply_at replies_from element_at
 first_left hit t s n i l live = rw (left_here t s n i l live)

@@ -12,6 +12,7 @@ use borrow.Author.Tests.{eqb-true, eqb-false}
 use Rattle.meaning.specs.declared.Element.{Element}
 use Rattle.meaning.specs.Deciding.{reply, child_replies}
 use Rattle.laws.proofs.Bools.{Test, passed, failed, test}
+use Rattle.table.specs.declared.Row.{Row}
 use Rattle.table.specs.Rows.{depth_of, element_at, word_number}
 use Rattle.table.specs.Tree.{left, Leaves, RulesStruck}
 use Rattle.decisions.specs.Replies.{replies_from, reply_at}
@@ -19,7 +20,7 @@ use Rattle.decisions.proofs.Children.{below}
 use Rattle.decisions.proofs.Leaves.{none_within, first_within, left_behind}
 
 -- Rule i, which is left under the flags `struck`
-module _ (hit : Element → Bool) (t struck : List ℕ) (n i : ℕ) (leaves : Leaves t n) (rules : RulesStruck t struck n) where
+module _ (hit : Element → Bool) (t : List Row) (struck : List ℕ) (n i : ℕ) (leaves : Leaves t n) (rules : RulesStruck t struck n) where
   abbrev without : List ℕ
   without = set struck i 1
 

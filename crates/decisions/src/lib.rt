@@ -12,6 +12,7 @@ ghost use Rattle.decisions.specs.Replies.{reply_of, next_of, step_of, replies_fr
 use meaning::Decision::{Deny, Indeterminate, NotApplicable, Permit};
 use meaning::{Decision, Word};
 use requests::Request;
+use table::Row;
 
 // Whether an element's own target matches, and its decision.
 #[derive(Clone, Copy)]
@@ -100,7 +101,7 @@ fn step(algorithm: Word, so_far: Reply, child: Reply) -> Reply
 
 // Decides element `at`: behind it stand its children, and what comes after them.
 #[cycle(decide_at_fold)]
-fn decide_at(table: &[u16], struck: &[u8], n: usize, at: usize, q: Request) -> Reply
+fn decide_at(table: &[Row], struck: &[u8], n: usize, at: usize, q: Request) -> Reply
     requires { Room table.now struck.now n (at + 1) × (q.len ≤ 6) }
     ensures { reply_of result ≡ reply_at (matches (severals_of q) (values_of q)) table.now struck.now n at }
 {
@@ -124,7 +125,7 @@ fn decide_at(table: &[u16], struck: &[u8], n: usize, at: usize, q: Request) -> R
 // What the algorithm gives of the children at the depth from `from` on, up to the first element of a lower depth.
 #[cycle(decide_at_fold)]
 fn fold(
-    table: &[u16],
+    table: &[Row],
     struck: &[u8],
     n: usize,
     from: usize,
@@ -146,7 +147,7 @@ fn fold(
 }
 
 // The decision of the policy: of its first element, which is not struck.
-pub fn decide(table: &[u16], struck: &[u8], n: usize, q: Request) -> Decision
+pub fn decide(table: &[Row], struck: &[u8], n: usize, q: Request) -> Decision
     requires { Room table.now struck.now n 1 × (q.len ≤ 6) × (get_or struck.now 0 0 ≡ 0) }
     ensures { result ≡ first_decision (matches (severals_of q) (values_of q)) (left table.now struck.now 0 n) }
 {

@@ -19,6 +19,7 @@ use Rattle.laws.proofs.Lists.{gathered_alike}
 use Rattle.laws.proofs.Search.{counting_only}
 use Rattle.laws.proofs.Text.{same_refl}
 use Rattle.laws.proofs.Outcomes.{same_decision, decision_same}
+use Rattle.table.specs.declared.Row.{Row}
 use Rattle.table.specs.declared.Shape.{Shape}
 use Rattle.table.specs.Shape.{hit_of}
 use Rattle.blocks.specs.Bits.{decision_by, Answers}
@@ -62,7 +63,7 @@ effect_is false true e = refl
 effect_is false false e = contradiction e refl
 
 -- Requests that are compared under two lists of flags
-module _ (f : Bytes) (places t before struck hits outcomes : List ℕ) (s : Shape) (compared : Compared f places t before struck hits outcomes s) where
+module _ (f : Bytes) (places : List ℕ) (t : List Row) (before struck hits outcomes : List ℕ) (s : Shape) (compared : Compared f places t before struck hits outcomes s) where
   abbrev parted : ℕ → Bool
   parted = apart f places t s.n (hit_of s) before struck
 

@@ -14,14 +14,14 @@ ghost use Rattle.differences.specs.Marks.{Marked, LikeMarks, others_given, Among
 
 use blocks::Block;
 use obligations::Marks;
-use table::Shape;
+use table::{Row, Shape};
 
 // A policy file that was read: its bytes, where its elements and their obligations stand there, the table of the elements, and the policy's shape.
 #[derive(Clone, Copy)]
 pub struct PolicyFile<'a> {
     pub file: &'a [u8],
     pub places: &'a [usize],
-    pub table: &'a [u16],
+    pub table: &'a [Row],
     pub shape: Shape,
 }
 

@@ -20,9 +20,9 @@ use Rattle.meaning.specs.Reading.{depth_of, word_of, or_permit, masks_of, Sofar,
 use Rattle.laws.proofs.Bools.{Test, passed, failed, test, or_false}
 use Rattle.laws.proofs.Reading.{Passes, Numbered, lowest_zero}
 use Rattle.laws.proofs.Bounds.{placed_depth, length_padded, masks_count}
-use Rattle.table.specs.Rows.{word_at, with_row}
+use Rattle.table.specs.declared.Row.{Row}
+use Rattle.table.specs.Rows.{word_at, number_of_word, row_of, with_row}
 use Rattle.table.proofs.Rows.{row_length}
-use Rattle.syntax.specs.Fields.{number_of_word}
 use Rattle.layout.specs.Places.{part, kind_at, elements_to, Clear, line_start, lines_to}
 use Rattle.layout.specs.Nearest.{Stands}
 use Rattle.layout.proofs.Placing.{stands_more}
@@ -76,8 +76,8 @@ module _ (s : Sofar) (fs : List Bytes) (k : Kind) (n : ℕ) (line : TreeLine fs 
         (leb-false 64 (length s.before) f5, placed_depth k (depth_of (get_or fs 1 [])) s.before (not-false (well_placed k (depth_of (get_or fs 1 [])) s.before) placed), f7)
 
 -- equal rows and places, laid
-pub same_row : (table : List ℕ) (i : ℕ) {w w' d d' : ℕ} → w ≡ w' → d ≡ d' → (masks : List ℕ) → with_row table i w d masks ≡ with_row table i w' d' masks
-same_row table i e g masks = ap₂ (λ w d. with_row table i w d masks) e g
+pub same_row : (table : List Row) (i : ℕ) {w w' : Option Word} {d d' : ℕ} → w ≡ w' → d ≡ d' → (masks : List ℕ) → with_row table i (row_of w d masks) ≡ with_row table i (row_of w' d' masks)
+same_row table i e g masks = ap₂ (λ w d. with_row table i (row_of w d masks)) e g
 
 pub same_end : (places : List ℕ) (i at : ℕ) {name name' : Bytes} → name ≡ name' → sets places i (at ∷ (at + 4 + length name) ∷ []) ≡ sets places i (at ∷ (at + 4 + length name') ∷ [])
 same_end places i at e = ap (λ n. sets places i (at ∷ (at + 4 + length n) ∷ [])) e
@@ -127,7 +127,7 @@ word_number_lem (some Word.FirstApplicable) h = refl
 word_number_lem (some Word.OnlyOneApplicable) h = refl
 
 -- The element of a tree line is that of the row and the places that are laid for it
-module _ (f table places : List ℕ) (st : State) (end : ℕ) (k : Kind) (n : ℕ) (ready : BeforeLine f table places st) (at : EndedLine f st end) where
+module _ (f : List ℕ) (table : List Row) (places : List ℕ) (st : State) (end : ℕ) (k : Kind) (n : ℕ) (ready : BeforeLine f table places st) (at : EndedLine f st end) where
   abbrev fs : List Bytes
   fs = cut tab (part f st.at end)
 
@@ -140,14 +140,14 @@ module _ (f table places : List ℕ) (st : State) (end : ℕ) (k : Kind) (n : �
   abbrev name_end : ℕ
   name_end = st.at + 4 + length (get_or fs 2 [])
 
-  abbrev word : ℕ
-  word = number_of_word (word_of k (get_or fs 3 []))
-
   abbrev masks : List ℕ
   masks = padded 6 (masks_of s.attributes (drop 4 fs))
 
-  abbrev table' : List ℕ
-  table' = with_row table size word (depth_of (get_or fs 1 [])) masks
+  abbrev row : Row
+  row = row_of (word_of k (get_or fs 3 [])) (depth_of (get_or fs 1 [])) masks
+
+  abbrev table' : List Row
+  table' = with_row table size row
 
   abbrev places' : List ℕ
   places' = sets places (2 * size) (st.at ∷ name_end ∷ [])
@@ -177,14 +177,9 @@ module _ (f table places : List ℕ) (st : State) (end : ℕ) (k : Kind) (n : �
     pair_room : 2 * size + 2 ≤ length places
     pair_room = omega (arith, ready.rooms.pairs, few)
 
-    six : length masks ≡ 6
-    six =
-        let few-masks = masks_count s.attributes (drop 4 fs) in
-        length_padded 6 (masks_of s.attributes (drop 4 fs)) (omega (arith, few-masks, attributes_length f st.attributes, ready.in_file.attributes.standing.few))
-
     added : elements_to f table' places' (suc size) ≡ el s fs k n line ∷ s.before
     added =
-        elements_more f table places size st.at name_end word (depth_of (get_or fs 1 [])) masks (omega (arith, ready.rooms.rows, few)) pair_room six few ready.clear
+        elements_more f table places size st.at name_end row (omega (arith, ready.rooms.rows, few)) pair_room few ready.clear
         ∙ ap (λ x. x ∷ s.before) (λ i. record {
           kind = named.letter i;
           depth = depth_of (get_or fs 1 []);
@@ -214,7 +209,7 @@ module _ (f table places : List ℕ) (st : State) (end : ℕ) (k : Kind) (n : �
               few = omega (arith, few);
             };
             rooms = subst⁻¹ (Rooms f table' places') (add-one size) (record {
-              rows = omega (arith, row_length table size word (depth_of (get_or fs 1 [])) masks, ready.rooms.rows);
+              rows = omega (arith, row_length table size row, ready.rooms.rows);
               pairs = omega (arith, length-sets places (2 * size) (st.at ∷ name_end ∷ []), ready.rooms.pairs);
               named = named_more f places size st.at name_end pair_room (omega arith) (omega (arith, named.within, at.ends)) ready.rooms.named;
             });

@@ -5,6 +5,7 @@ use Rattle.meaning.specs.declared.Element.{Element}
 use Rattle.meaning.specs.Text.{Bytes, empty, is_none, among_names}
 use Rattle.meaning.specs.Model.{Attribute, name_of}
 use Rattle.meaning.specs.Reading.{word_of, element_of, Sofar, well_placed, Tests, bad_name, bad_unused, depth_of}
+use Rattle.table.specs.declared.Row.{Row}
 use Rattle.table.specs.Rows.{Rows}
 use Rattle.layout.specs.declared.Attributes.{Attributes}
 use Rattle.layout.specs.declared.Tree.{Tree}
@@ -33,7 +34,7 @@ earlier_tests s w e =
     ∷ []
 
 -- room for the element of a tree line of these fields, and the state behind it
-pub record Fits (table places : List ℕ) (st : State) (end : ℕ) (fs : List Bytes) : Type 0 where
+pub record Fits (table : List Row) (places : List ℕ) (st : State) (end : ℕ) (fs : List Bytes) : Type 0 where
   pub row : Rows table (st.tree.len + 1)
   pub pair : 2 * st.tree.len + 2 ≤ length places
   pub few : st.tree.len < 64

@@ -7,8 +7,7 @@ ghost use Rattle.std.proofs.lemmas.List.Edits.{sets};
 ghost use Rattle.meaning.specs.Text.{cut, tab};
 ghost use Rattle.meaning.specs.Reading.{depth_of, word_of, Sofar, lowest};
 ghost use Rattle.refusals.specs.Numbers.{number_in};
-ghost use Rattle.table.specs.Rows.{with_row};
-ghost use Rattle.syntax.specs.Fields.{number_of_word};
+ghost use Rattle.table.specs.Rows.{row_of, with_row};
 ghost use Rattle.layout.specs.Places.{part, Named};
 ghost use Rattle.tree_fields.specs.Headed.{Headed};
 ghost use Rattle.element_lines.specs.Elements.{element_from, Behind, earlier_tests, Fits, behind_tree};
@@ -57,20 +56,6 @@ fn element_word(
     syntax::word_of(kind, tree_fields::word_field(line, e)).ok_or(Refusal::BadWord)
 }
 
-// The number of a word in the table.
-fn number_of(word: Word) -> u16
-    ensures { result ≡ number_of_word (some word) }
-{
-    match word {
-        Word::Permit => 0,
-        Word::Deny => 1,
-        Word::DenyOverrides => 2,
-        Word::PermitOverrides => 3,
-        Word::FirstApplicable => 4,
-        Word::OnlyOneApplicable => 5,
-    }
-}
-
 // Lays the element of a tree line down behind the others.
 fn lay_line(
     st: State,
@@ -80,12 +65,12 @@ fn lay_line(
     line: &[u8],
     e: FieldEnds,
     masks: [u16; 6],
-    table: &mut [u16],
+    table: &mut [Row],
     places: &mut [usize],
 ) -> State
     requires { Fits table.old places.old st end (cut tab line.now) × Headed line.now e }
     ensures value { result ≡ behind_tree st end kind (cut tab line.now) }
-    ensures table_after { table.new ≡ with_row table.old st.tree.len (number_of_word (some word)) (depth_of (get_or (cut tab line.now) 1 [])) masks }
+    ensures table_after { table.new ≡ with_row table.old st.tree.len (row_of (some word) (depth_of (get_or (cut tab line.now) 1 [])) masks) }
     ensures places_after { places.new ≡ sets places.old (2 * st.tree.len) (st.at ∷ (st.at + 4 + length (get_or (cut tab line.now) 2 [])) ∷ []) }
 {
     let at = st.at;
@@ -93,11 +78,7 @@ fn lay_line(
     let attributes = st.attributes;
     let depth = syntax::depth_of(tree_fields::depth_field(line, e));
     let name = tree_fields::name_field(line, e);
-    let row = Row {
-        word: number_of(word),
-        depth: depth as u16,
-        masks,
-    };
+    let row = Row::new(word, depth as u16, masks);
     layout::put_element(table, places, tree.len, row, at, at + 4 + name.len());
     let tree = layout::with_element(tree, kind, depth);
     State {
@@ -116,7 +97,7 @@ pub fn tree_line(
     end: usize,
     kind: Kind,
     fields: usize,
-    table: &mut [u16],
+    table: &mut [Row],
     places: &mut [usize],
 ) -> Result<State, Refusal>
     requires { BeforeLine file.now table.old places.old st × EndedLine file.now st end × TreeLine (cut tab (part file.now st.at end)) kind fields }

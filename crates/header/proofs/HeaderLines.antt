@@ -25,7 +25,7 @@ use Rattle.attribute_lines.proofs.LineKinds.{wrong_refused}
 use Rattle.attribute_lines.proofs.AttributeLines.{line_is}
 use Rattle.attribute_lines.proofs.TreeShape.{wrong_count_lem, by_tests}
 use Rattle.attribute_lines.proofs.ObligationShape.{not_three, by_obligation_tests}
-use Rattle.header.specs.Among.{blank, sofar_at, Among, Past}
+use Rattle.header.specs.Among.{no_rows, blank, sofar_at, Among, Past}
 
 -- The writer's tests of an attribute line are those of a file
 attribute_alike : {several : Bool} (s : Sofar) (fs : List Bytes) {n : ℕ} → AttributeLine several fs n → refusal_by header_tests s fs ≡ refusal_of s fs
@@ -59,7 +59,7 @@ module _ (h : Bytes) (st : State) (end : ℕ) where
   abbrev fields : List Bytes
   fields = cut tab (part h st.at end)
 
-  pub past_attribute : {several : Bool} {n : ℕ} (r : Result State Refusal) → AttributeLine several fields n → StepIs h blank blank blank blank st end r → Past h st end r
+  pub past_attribute : {several : Bool} {n : ℕ} (r : Result State Refusal) → AttributeLine several fields n → StepIs h no_rows blank no_rows blank st end r → Past h st end r
   past_attribute r line step = record { refusal = step.refusal ∙ sym (attribute_alike (sofar_at h st) fields line); next = step.next }
 
   pub past_tree : (a : ℕ) (why : Refusal) → a ≡ st.attributes.len → ((s : Sofar) → length s.attributes ≡ a → number_of why ≡ refusal_by header_tests s fields) → Past h st end (Err why)
@@ -72,7 +72,7 @@ module _ (h : Bytes) (st : State) (end : ℕ) where
   past_other wrong = record { refusal = sym (wrong_refused header_tests (sofar_at h st) fields wrong); next = tt }
 
   -- behind a line that is not refused
-  pub among_next : (next : State) → Among h st → refusal_by header_tests (sofar_at h st) fields ≡ 0 → Next h blank blank blank blank st end next → Among h next
+  pub among_next : (next : State) → Among h st → refusal_by header_tests (sofar_at h st) fields ≡ 0 → Next h no_rows blank no_rows blank st end next → Among h next
   unfolding refusal_by
   among_next next among z n =
       record {

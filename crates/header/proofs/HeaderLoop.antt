@@ -17,7 +17,8 @@ use Rattle.refusals.specs.declared.Refusal.{Refusal}
 use Rattle.refusals.specs.declared.Refusal.TheVariants.{LongFile, BadLine}
 use Rattle.refusals.specs.Numbers.{number_of}
 use Rattle.refusals.proofs.Numbers.{not_zero}
-use Rattle.table.specs.Rows.{Rows}
+use Rattle.table.specs.declared.Row.{Row}
+use Rattle.table.specs.Rows.{Rows, no_row}
 use Rattle.layout.specs.Places.{part, Clear}
 use Rattle.layout.proofs.Slots.{zeros_clear}
 use Rattle.attribute_lines.specs.declared.State.{State}
@@ -25,7 +26,7 @@ use Rattle.attribute_lines.specs.Sofar.{refusal_by}
 use Rattle.attribute_lines.specs.Steps.{beginning}
 use Rattle.attribute_lines.proofs.Beginning.{beginning_ready}
 use Rattle.attribute_lines.proofs.Remaining.{lines_from, none_left, one_refused, one_read, lowest_within}
-use Rattle.header.specs.Among.{blank, sofar_at, Among, Past}
+use Rattle.header.specs.Among.{no_rows, blank, sofar_at, Among, Past}
 use Rattle.header.specs.Told.{HeaderAs}
 use Rattle.header.proofs.HeaderLines.{among_next}
 
@@ -33,7 +34,11 @@ use Rattle.header.proofs.HeaderLines.{among_next}
 abbrev pub read_header : Bytes → Result Sofar
 read_header h = short h then (read_text header_tests)
 
-blank_room : Rows blank 64
+rows_room : Rows no_rows 64
+unfolding no_rows
+rows_room = omega (arith, length-replicate {A = Row} 64 no_row)
+
+blank_room : 384 ≤ length blank
 unfolding blank
 blank_room = omega (arith, length-replicate {A = ℕ} 512 0)
 
@@ -53,7 +58,7 @@ pub record Keeps (h : Bytes) (st : State) : Type 0 where
 
 pub keeps_first : (h : Bytes) {st : State} → length h ≤ 16384 → st ≡ beginning → Keeps h st
 keeps_first h l is =
-    let (ready, none) = beginning_ready h blank blank blank_room (omega (arith, blank_room)) blank_clear in
+    let (ready, none) = beginning_ready h no_rows blank rows_room blank_room blank_clear in
     subst⁻¹ (Keeps h) is (record { among = record { ready = ready; no_element = ap (λ s. s.before) none }; size = l; reads = rw (le-ltb 16384 (length h) l, none) })
 
 -- a line's refusal is 14 at most

@@ -5,23 +5,28 @@ use Rattle.meaning.specs.Reading.{Sofar}
 use Rattle.meaning.specs.Writing.{header_tests}
 use Rattle.refusals.specs.declared.Refusal.{Refusal}
 use Rattle.refusals.specs.Numbers.{number_in}
+use Rattle.table.specs.declared.Row.{Row}
+use Rattle.table.specs.Rows.{no_row}
 use Rattle.layout.specs.Places.{part}
 use Rattle.attribute_lines.specs.declared.State.{State}
 use Rattle.attribute_lines.specs.Sofar.{refusal_by}
 use Rattle.attribute_lines.specs.Steps.{BeforeLine, Next, read_sofar}
 
 -- the table and the places of no element: any with room will do
+unfoldable pub no_rows : List Row
+no_rows = replicate 64 no_row
+
 unfoldable pub blank : List ℕ
 blank = replicate 512 0
 
 abbrev pub sofar_at : Bytes → State → Sofar
-sofar_at h st = read_sofar h blank blank st
+sofar_at h st = read_sofar h no_rows blank st
 
 pub record Among (h : Bytes) (st : State) : Type 0 where
-  pub ready : BeforeLine h blank blank st
+  pub ready : BeforeLine h no_rows blank st
   pub no_element : (sofar_at h st).before ≡ []
 
 -- One line, which a newline at `end` ends: the state behind it, or its refusal
 pub record Past (h : Bytes) (st : State) (end : ℕ) (r : Result State Refusal) : Type 0 where
   pub refusal : number_in r ≡ refusal_by header_tests (sofar_at h st) (cut tab (part h st.at end))
-  pub next : IfOk r (Next h blank blank blank blank st end)
+  pub next : IfOk r (Next h no_rows blank no_rows blank st end)

@@ -8,7 +8,7 @@ ghost use Rattle.held_state.specs.Closed.{closed};
 
 use differences::PolicyFile;
 use meaning::Stepped;
-use table::Shape;
+use table::{Row, Shape};
 
 // Moves the bytes from `end` on down to `start`. What then lies behind them stays as it was.
 fn close_gap(text: &mut [u8], start: usize, end: usize)
@@ -19,7 +19,7 @@ fn close_gap(text: &mut [u8], start: usize, end: usize)
 }
 
 // Strikes the rule that trimming would strike next, in place; where no rule is needless the text stays.
-pub fn step(text: &mut [u8], table: &[u16], places: &[usize], shape: Shape) -> Stepped
+pub fn step(text: &mut [u8], table: &[Row], places: &[usize], shape: Shape) -> Stepped
     requires { PolicyHeld text.old table.now places.now shape }
     ensures value { result ≡ step_answer text.old }
     ensures text_after { text.new ≡ step_lent text.old }

@@ -13,6 +13,7 @@ use Rattle.meaning.specs.Deciding.{Request, request_line, Outcome, matches, deci
 use Rattle.meaning.specs.Operations.{lent, decided_by, decide_answer, decide_lent}
 use Rattle.requests.specs.Values.{values_of, severals_of}
 use Rattle.requests.proofs.Laid.{values_with}
+use Rattle.table.specs.declared.Row.{Row}
 use Rattle.table.specs.Rows.{depth_of}
 use Rattle.layout.specs.Places.{attributes_of, severals_at}
 use Rattle.obligations.specs.Given.{outcome_left}
@@ -40,7 +41,7 @@ pub refusal_answered : (f : Bytes) {n m : ℕ} → read f ≡ refused n m → (r
 unfolding decide_file
 refusal_answered f h request out = (rw h, rw h)
 
-module _ (f table places : List ℕ) (r : PolicyRead) (p : Policy) (h : read f ≡ given p) (holds : ReadPolicy f table places r p) (request out : Bytes) where
+module _ (f : List ℕ) (table : List Row) (places : List ℕ) (r : PolicyRead) (p : Policy) (h : read f ≡ given p) (holds : ReadPolicy f table places r p) (request out : Bytes) where
   -- what a request of the policy gets, for this buffer
   abbrev gets : Request → Result Outcome
   gets q = outcome_for (length out) (decide p q)

@@ -6,6 +6,7 @@ use mathlib.Core.List.{List}
 use Rattle.std.specs.Prelude.{Ok}
 use Rattle.meaning.specs.Model.{Policy, given}
 use Rattle.meaning.specs.Reading.{read}
+use Rattle.table.specs.declared.Row.{Row}
 use Rattle.table.specs.declared.Shape.{Shape}
 use Rattle.outcomes.specs.Decided.{none_struck}
 use Rattle.value_pairs.specs.Held.{PolicyDecided}
@@ -14,7 +15,7 @@ use Rattle.reader.specs.Told.{policy_shape, ReadPolicy, ReadIs}
 use Rattle.reader.proofs.FileRead.{file_read}
 use Rattle.jogimaduve.proofs.Shaping.{ready, counts_are, decided_are}
 
-held : (f table places : List ℕ) (r : PolicyRead) (p : Policy) (h : read f ≡ given p) (holds : ReadPolicy f table places r p) (s : Shape) → s ≡ policy_shape r → PolicyDecided f r.attributes table s
+held : (f : List ℕ) (table : List Row) (places : List ℕ) (r : PolicyRead) (p : Policy) (h : read f ≡ given p) (holds : ReadPolicy f table places r p) (s : Shape) → s ≡ policy_shape r → PolicyDecided f r.attributes table s
 held f table places r p h holds s shaped = subst (PolicyDecided f r.attributes table) (sym shaped)
     (record {
       policy = p;
@@ -28,5 +29,5 @@ held f table places r p h holds s shaped = subst (PolicyDecided f r.attributes t
     })
 
 -- and of what reading it told
-pub held_read : {f table₀ places₀ table places : List ℕ} {x : PolicyRead} → ReadIs f table₀ places₀ table places (Ok x) → {s : Shape} → s ≡ policy_shape x → PolicyDecided f x.attributes table s
+pub held_read : {f : List ℕ} {table₀ : List Row} {places₀ : List ℕ} {table : List Row} {places : List ℕ} {x : PolicyRead} → ReadIs f table₀ places₀ table places (Ok x) → {s : Shape} → s ≡ policy_shape x → PolicyDecided f x.attributes table s
 held_read is_read shaped = let (p, h, holds) = file_read is_read in held _ _ _ _ p h holds _ shaped

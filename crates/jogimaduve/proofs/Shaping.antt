@@ -10,6 +10,7 @@ use Rattle.meaning.specs.Deciding.{request_of, matches, first_decision, hits, de
 use Rattle.laws.proofs.Bounds.{bounded}
 use Rattle.laws.proofs.Requests.{product_pos}
 use Rattle.laws.proofs.Answers.{positive}
+use Rattle.table.specs.declared.Row.{Row}
 use Rattle.table.specs.Tree.{left}
 use Rattle.table.specs.declared.Shape.{Shape}
 use Rattle.table.specs.Shape.{counts_of, severals_of, hit_of}
@@ -29,7 +30,7 @@ use Rattle.trimmed_text.proofs.Placed.{copies_lined}
 use Rattle.trimmed_text.proofs.ByPlace.{root_word, leaves}
 use Rattle.trimmed_text.proofs.Steadying.{steady}
 
-module _ (f table places : List ℕ) (r : PolicyRead) (p : Policy) (h : read f ≡ given p) (holds : ReadPolicy f table places r p) where
+module _ (f : List ℕ) (table : List Row) (places : List ℕ) (r : PolicyRead) (p : Policy) (h : read f ≡ given p) (holds : ReadPolicy f table places r p) where
   pub attributes_are : length p.attributes ≡ r.attributes.len
   attributes_are = ap length holds.attributes ∙ attributes_length f r.attributes
 

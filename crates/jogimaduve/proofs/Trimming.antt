@@ -12,6 +12,7 @@ use Rattle.meaning.specs.Trimming.{trimmed}
 use Rattle.meaning.specs.Report.{trim_file}
 use Rattle.meaning.specs.Operations.{trim_answer, trim_lent}
 use Rattle.laws.proofs.Reading.{accepted}
+use Rattle.table.specs.declared.Row.{Row}
 use Rattle.table.specs.declared.Shape.{Shape}
 use Rattle.table.specs.Shape.{hit_of}
 use Rattle.trimming.specs.Decided as table-level
@@ -33,7 +34,7 @@ pub small_text : (f : Bytes) (p : Policy) (h : read f ≡ given p) (needed : ℕ
 small_text f p h needed l = omega (arith, (accepted f p h).size)
 
 -- The flags that striking leaves
-module _ (f table places : List ℕ) (r : PolicyRead) (p : Policy) (h : read f ≡ given p) (holds : ReadPolicy f table places r p) (s : Shape) (shaped : s ≡ policy_shape r)
+module _ (f : List ℕ) (table : List Row) (places : List ℕ) (r : PolicyRead) (p : Policy) (h : read f ≡ given p) (holds : ReadPolicy f table places r p) (s : Shape) (shaped : s ≡ policy_shape r)
     (flags : List ℕ) (struck : flags ≡ (table-level.trimming_at f places table s.n (hit_of s) s.space s.n none_struck).flags) where
   abbrev text : Bytes
   text = copied f places flags r.elements

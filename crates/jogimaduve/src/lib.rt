@@ -8,6 +8,7 @@ ghost use Rattle.refusals.specs.Numbers.{number_of};
 use differences::PolicyFile;
 use meaning::{Answer, Decided, Stepped};
 use refusals::Refused;
+use table::Row;
 
 // The answer of a request that is not decided.
 fn undecided(refused: Refused) -> Decided
@@ -25,7 +26,7 @@ pub fn jogimaduve_decide(file: &[u8], request: &[u8], out: &mut [u8]) -> Decided
     ensures value { result ≡ decide_answer file.now request.now out.old }
     ensures out_after { out.new ≡ decide_lent file.now request.now out.old }
 {
-    let mut table = [0u16; 512];
+    let mut table = [Row::NONE; 64];
     let mut places = [0usize; 384];
     let policy = match reader::read(file, &mut table, &mut places) {
         Ok(policy) => policy,
@@ -42,7 +43,7 @@ pub fn jogimaduve_trim(file: &[u8], out: &mut [u8]) -> Answer
     ensures value { result ≡ trim_answer file.now out.old }
     ensures out_after { out.new ≡ trim_lent file.now out.old }
 {
-    let mut table = [0u16; 512];
+    let mut table = [Row::NONE; 64];
     let mut places = [0usize; 384];
     let policy = match reader::read(file, &mut table, &mut places) {
         Ok(policy) => policy,
@@ -71,7 +72,7 @@ pub fn jogimaduve_next_rule(file: &[u8], out: &mut [u8]) -> Answer
     ensures value { result ≡ next_rule_answer file.now out.old }
     ensures out_after { out.new ≡ next_rule_lent file.now out.old }
 {
-    let mut table = [0u16; 512];
+    let mut table = [Row::NONE; 64];
     let mut places = [0usize; 384];
     match reader::read(file, &mut table, &mut places) {
         Ok(policy) => rule_by_rule::show(file, &table, &places, policy.shape(), out),
@@ -84,7 +85,7 @@ pub fn jogimaduve_strike(file: &[u8], rule: &[u8], out: &mut [u8]) -> Answer
     ensures value { result ≡ strike_answer file.now rule.now out.old }
     ensures out_after { out.new ≡ strike_lent file.now rule.now out.old }
 {
-    let mut table = [0u16; 512];
+    let mut table = [Row::NONE; 64];
     let mut places = [0usize; 384];
     match reader::read(file, &mut table, &mut places) {
         Ok(policy) => rule_by_rule::strike(file, &table, &places, policy.shape(), rule, out),
@@ -97,7 +98,7 @@ pub fn jogimaduve_step(text: &mut [u8]) -> Stepped
     ensures value { result ≡ step_answer text.old }
     ensures text_after { text.new ≡ step_lent text.old }
 {
-    let mut table = [0u16; 512];
+    let mut table = [Row::NONE; 64];
     let mut places = [0usize; 384];
     match reader::read(text, &mut table, &mut places) {
         Ok(policy) => held_state::step(text, &table, &places, policy.shape()),
@@ -113,7 +114,7 @@ pub fn jogimaduve_step(text: &mut [u8]) -> Stepped
 pub fn jogimaduve_accept(original: &[u8], proposal: &[u8]) -> Answer
     ensures { result ≡ accept_answer original.now proposal.now }
 {
-    let mut table = [0u16; 512];
+    let mut table = [Row::NONE; 64];
     let mut places = [0usize; 384];
     match reader::read(original, &mut table, &mut places) {
         Ok(policy) => accepting::accept(original, &table, &places, policy.shape(), proposal),
@@ -126,7 +127,7 @@ pub fn jogimaduve_join(first: &[u8], second: &[u8], word: &[u8], out: &mut [u8])
     ensures value { result ≡ join_answer first.now second.now word.now out.old }
     ensures out_after { out.new ≡ join_lent first.now second.now word.now out.old }
 {
-    let mut table = [0u16; 512];
+    let mut table = [Row::NONE; 64];
     let mut places = [0usize; 384];
     match reader::read(first, &mut table, &mut places) {
         Ok(policy) => joining::join(first, policy.attributes, places[0], second, word, out),
@@ -139,7 +140,7 @@ pub fn jogimaduve_report(file: &[u8], out: &mut [u8]) -> Answer
     ensures value { result ≡ report_answer file.now out.old }
     ensures out_after { out.new ≡ report_lent file.now out.old }
 {
-    let mut table = [0u16; 512];
+    let mut table = [Row::NONE; 64];
     let mut places = [0usize; 384];
     match reader::read(file, &mut table, &mut places) {
         Ok(policy) => reporting::report(file, &table, &places, policy.shape(), out),
@@ -152,7 +153,7 @@ pub fn jogimaduve_value_pairs(file: &[u8], attribute: &[u8], out: &mut [u8]) -> 
     ensures value { result ≡ value_pairs_answer file.now attribute.now out.old }
     ensures out_after { out.new ≡ value_pairs_lent file.now attribute.now out.old }
 {
-    let mut table = [0u16; 512];
+    let mut table = [Row::NONE; 64];
     let mut places = [0usize; 384];
     match reader::read(file, &mut table, &mut places) {
         Ok(policy) => {

@@ -8,13 +8,14 @@ ghost use Rattle.joining.specs.Held.{FileHeld, Accepted};
 use layout::Attributes;
 use meaning::{Answer, Kind};
 use refusals::{Refusal, Refused};
+use table::Row;
 
 // A text: what reading it refuses, or the text in a lent buffer.
 fn accept(text: &[u8], out: &mut [u8]) -> Answer
     requires { length text.now ≤ 16384 }
     ensures { Accepted text.now out.old out.new result }
 {
-    let mut table = [0u16; 512];
+    let mut table = [Row::NONE; 64];
     let mut places = [0usize; 384];
     match reader::read(text, &mut table, &mut places) {
         Ok(_) => {
@@ -85,7 +86,7 @@ pub fn join(
     ensures value { result ≡ join_answer first.now second.now word.now out.old }
     ensures out_after { out.new ≡ join_lent first.now second.now word.now out.old }
 {
-    let mut table = [0u16; 512];
+    let mut table = [Row::NONE; 64];
     let mut places = [0usize; 384];
     match reader::read(second, &mut table, &mut places) {
         Ok(policy) => {

@@ -15,6 +15,7 @@ use Rattle.meaning.specs.Model.{padded, name_of, unused, Policy, severals}
 use Rattle.meaning.specs.Deciding.{matches, child_replies, first_decision, decide}
 use Rattle.meaning.specs.Claims.Texts.{All}
 use Rattle.laws.proofs.Types.{rule, Element}
+use Rattle.table.specs.declared.Row.{Row}
 use Rattle.table.specs.Rows.{word_at, element_at, Rows, with_row}
 use Rattle.table.specs.Tree.{left, before}
 use Rattle.table.proofs.Rows.{row_here, row_other}
@@ -24,16 +25,16 @@ use Rattle.layout.proofs.Slots.{SameSlots, count_alike, obligations_alike, lines
 use Rattle.std.specs.Prelude.{None}
 use Rattle.layout.specs.Nearest.{nearest, Stands}
 
--- The element of a row: its line's start, its name's end, its word's number, its depth and its masks
-abbrev pub row_element : Bytes → (start end word depth : ℕ) → List ℕ → Element
-row_element f start end word depth masks =
+-- The element of a row, of its line's start and its name's end
+abbrev pub element_of : Bytes → (start end : ℕ) → Row → Element
+element_of f start end row =
     record {
       kind = kind_at (get_or f start 0);
-      depth = depth;
+      depth = row.depth;
       name = padded 16 (part f (start + 4) end);
       len = length (part f (start + 4) end);
-      word = word_at word;
-      masks = masks;
+      word = word_at row.word;
+      masks = row.masks;
       obligations = 0;
       first = unused;
       second = unused;
@@ -100,34 +101,34 @@ module _ (f : Bytes) (places : List ℕ) (n start end : ℕ) (room : 2 * n + 2 �
       size = length-sets places (2 * n) (start ∷ end ∷ [])
 
 -- One element more, put where there is room
-module _ (f : Bytes) (table places : List ℕ) (n start end word depth : ℕ) (masks : List ℕ) (rows : Rows table (n + 1)) (room : 2 * n + 2 ≤ length places) (six : length masks ≡ 6) (few : n < 64) (clear : Clear places n) where
-  abbrev new_table : List ℕ
-  new_table = with_row table n word depth masks
+module _ (f : Bytes) (table : List Row) (places : List ℕ) (n start end : ℕ) (row : Row) (rows : Rows table (n + 1)) (room : 2 * n + 2 ≤ length places) (few : n < 64) (clear : Clear places n) where
+  abbrev new_table : List Row
+  new_table = with_row table n row
 
   abbrev new_places : List ℕ
   new_places = sets places (2 * n) (start ∷ end ∷ [])
 
-  element_new : element_in f new_table new_places n ≡ row_element f start end word depth masks
+  element_new : element_in f new_table new_places n ≡ element_of f start end row
   unfolding element_in
   element_new =
       let none = obligations_alike places new_places f n (same_slots f places n start end room few n) ∙ (none_in f places n (clear n 0 (omega arith) (omega arith)).1).0 in
-      rw (none, start_new f places n start end room, end_new f places n start end room, row_here table n word depth masks rows six)
+      rw (none, start_new f places n start end room, end_new f places n start end room, row_here table n row rows)
 
   element_old : (i : ℕ) → i < n → element_in f new_table new_places i ≡ element_in f table places i
   unfolding element_in
-  element_old i l = rw (obligations_alike places new_places f i (same_slots f places n start end room few i), start_old f places n start end room i l, end_old f places n start end room i l, row_other table n word depth masks rows six i l)
+  element_old i l = rw (obligations_alike places new_places f i (same_slots f places n start end room few i), start_old f places n start end room i l, end_old f places n start end room i l, row_other table n row i l)
 
   elements_old : (k : ℕ) → k ≤ n → elements_to f new_table new_places k ≡ elements_to f table places k
   unfolding elements_to
   elements_old zero l = refl
   elements_old (suc k) l = rw (element_old k (omega arith), elements_old k (omega arith))
 
-  pub elements_more : elements_to f new_table new_places (suc n) ≡ row_element f start end word depth masks ∷ elements_to f table places n
+  pub elements_more : elements_to f new_table new_places (suc n) ≡ element_of f start end row ∷ elements_to f table places n
   unfolding elements_to
   elements_more = rw (element_new, elements_old n (omega arith))
 
 -- The elements: how many there are, and what holds of all holds of each
-module _ (f : Bytes) (table places : List ℕ) where
+module _ (f : Bytes) (table : List Row) (places : List ℕ) where
   pub elements_length : (n : ℕ) → length (elements_to f table places n) ≡ n
   unfolding elements_to
   elements_length zero = refl
@@ -142,7 +143,7 @@ module _ (f : Bytes) (table places : List ℕ) where
       last i l = omega arith
 
 -- The names of the elements
-pub element_names : (f : Bytes) (table places : List ℕ) (n : ℕ) → map name_of (elements_to f table places n) ≡ names_to f places n
+pub element_names : (f : Bytes) (table : List Row) (places : List ℕ) (n : ℕ) → map name_of (elements_to f table places n) ≡ names_to f places n
 unfolding elements_to element_in names_to
 element_names f table places zero = refl
 element_names f table places (suc n) = rw (take-append_seam (name_in f places n) (replicate (16 - length (name_in f places n)) 0), element_names f table places n)
@@ -182,13 +183,13 @@ pub map_reverse : {A B : Type 0} (f : A → B) (xs : List A) → map f (reverse 
 map_reverse f [] = refl
 map_reverse f (x ∷ xs) = rw (reverse-cons x xs, reverse-cons (f x) (map f xs), map-append f (reverse xs) (x ∷ []), map_reverse f xs)
 
-pub elements_bare : (f : Bytes) (table places : List ℕ) (n : ℕ) → map bare (elements_to f table places n) ≡ before table n
+pub elements_bare : (f : Bytes) (table : List Row) (places : List ℕ) (n : ℕ) → map bare (elements_to f table places n) ≡ before table n
 unfolding elements_to element_in before element_at
 elements_bare f table places zero = refl
 elements_bare f table places (suc n) = rw (elements_bare f table places n)
 
 -- where no element is struck, all are left
-module _ (table struck : List ℕ) where
+module _ (table : List Row) (struck : List ℕ) where
   left_more : (i n : ℕ) → ((k : ℕ) → k < i + suc n → get_or struck k 0 ≡ 0) → left table struck i (suc n) ≡ left table struck i n ++ (element_at table (i + n) ∷ [])
   unfolding left
   left_more i zero live = let here : i + 0 ≡ i = omega arith in rw (eq-eqb (get_or struck i 0) 0 (live i (omega arith)), here)
@@ -205,7 +206,7 @@ module _ (table struck : List ℕ) where
       left_more 0 n (λ k l. live k (omega arith)) ∙ rw (here, all_left n (λ k l. live k (omega arith)), reverse-cons)
 
 -- The decision on the table is that of the policy of its elements
-pub decided : (f : Bytes) (table places struck : List ℕ) (n : ℕ) (p : Policy) (q : List ℕ) → p.elements ≡ reverse (elements_to f table places n) → ((k : ℕ) → k < n → get_or struck k 0 ≡ 0)
+pub decided : (f : Bytes) (table : List Row) (places struck : List ℕ) (n : ℕ) (p : Policy) (q : List ℕ) → p.elements ≡ reverse (elements_to f table places n) → ((k : ℕ) → k < n → get_or struck k 0 ≡ 0)
     → first_decision (matches (severals p.attributes) q) (left table struck 0 n) ≡ (decide p q).decision
 decided f table places struck n p q is live =
     ap (first_decision (matches (severals p.attributes) q)) (all_left table struck n live ∙ ap reverse (sym (elements_bare f table places n)) ∙ sym (map_reverse bare (elements_to f table places n)))

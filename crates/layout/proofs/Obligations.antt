@@ -13,6 +13,7 @@ use Rattle.meaning.specs.Text.{Bytes, same_name, among_names}
 use Rattle.meaning.specs.Model.{obligation_name, obligations_of}
 use Rattle.laws.proofs.Bools.{or_none_lem}
 use Rattle.laws.proofs.Places.{obligations_with}
+use Rattle.table.specs.declared.Row.{Row}
 use Rattle.layout.specs.Places.{part, obligation_start, obligation_end, obligation_at, obligations_in, obligation_count, element_in}
 use Rattle.layout.proofs.Slots.{count_is}
 
@@ -50,7 +51,7 @@ count_few places i = go (eqb (obligation_end places i 0) 0) (eqb (obligation_end
     go false true = omega arith
     go false false = omega arith
 
-pub obligations_in_lem : (f : Bytes) (table places : List ℕ) (i : ℕ) → obligations_of (element_in f table places i) ≡ obligations_in f places i
+pub obligations_in_lem : (f : Bytes) (table : List Row) (places : List ℕ) (i : ℕ) → obligations_of (element_in f table places i) ≡ obligations_in f places i
 unfolding element_in
 obligations_in_lem f table places i = obligations_with (obligations_in f places i) (element_in f table places i) (omega (arith, count_is f places i, count_few places i))
 

@@ -12,6 +12,7 @@ use Rattle.meaning.specs.Text.{Bytes}
 use Rattle.meaning.specs.Model.{obligations_of, with_obligations}
 use Rattle.meaning.specs.Reading.{nearest_with}
 use Rattle.laws.proofs.Bools.{Test, passed, failed, test}
+use Rattle.table.specs.declared.Row.{Row}
 use Rattle.layout.specs.Places.{start_of, obligation_start, obligation_end, obligation_in, obligations_in, obligation_count, element_in, elements_to, Named, Obliged, lines_to, Lined}
 use Rattle.layout.proofs.Slots.{SameSlots, obligations_alike, lines_alike, obliged_alike, none_in, obliging, obliging_length, start_here, end_here, other_element, other_slot, lines_start, names_end, obligations_more, count_more}
 use Rattle.layout.proofs.Obligations.{obligations_in_lem}
@@ -46,20 +47,20 @@ module _ (f : Bytes) (xs : List ℕ) (m k start end : ℕ) (o : Oblige f xs m k 
   behind : obligations_in f more m ≡ obligations_in f xs m ++ (obligation_in f start end ∷ [])
   behind = obligations_more f xs m start end o.obliged.room some o.obliged.in_order k o.place o.counted
 
-  element_old : (table : List ℕ) (i : ℕ) → i < m → element_in f table more i ≡ element_in f table xs i
+  element_old : (table : List Row) (i : ℕ) → i < m → element_in f table more i ≡ element_in f table xs i
   unfolding element_in
   element_old table i l = rw (obligations_alike xs more f i (below i l), same_start i (omega arith), same_end i (omega arith))
 
-  elements_old : (table : List ℕ) (n : ℕ) → n ≤ m → elements_to f table more n ≡ elements_to f table xs n
+  elements_old : (table : List Row) (n : ℕ) → n ≤ m → elements_to f table more n ≡ elements_to f table xs n
   unfolding elements_to
   elements_old table zero l = refl
   elements_old table (suc n) l = rw (element_old table n (omega arith), elements_old table n (omega arith))
 
-  element_new : (table : List ℕ) → element_in f table more m ≡ with_obligations (obligations_of (element_in f table xs m) ++ (obligation_in f start end ∷ [])) (element_in f table xs m)
+  element_new : (table : List Row) → element_in f table more m ≡ with_obligations (obligations_of (element_in f table xs m) ++ (obligation_in f start end ∷ [])) (element_in f table xs m)
   unfolding element_in
   element_new table = rw (obligations_in_lem f table xs m, behind, same_start m (omega arith), same_end m (omega arith))
 
-  pub elements_obliged : (table : List ℕ) → elements_to f table more (suc m) ≡ nearest_with (obligation_in f start end) (elements_to f table xs (suc m))
+  pub elements_obliged : (table : List Row) → elements_to f table more (suc m) ≡ nearest_with (obligation_in f start end) (elements_to f table xs (suc m))
   unfolding elements_to
   elements_obliged table = rw (element_new table, elements_old table m (omega arith))
 

@@ -14,6 +14,7 @@ use Rattle.meaning.specs.Text.{Bytes}
 use Rattle.meaning.specs.declared.Obligation.{Obligation}
 use Rattle.meaning.specs.Model.{unused, obligations_of}
 use Rattle.laws.proofs.Bools.{Test, passed, failed, test}
+use Rattle.table.specs.declared.Row.{Row}
 use Rattle.layout.specs.Places.{start_of, obligation_place, obligation_start, obligation_end, obligation_in, obligation_at, obligations_in, obligation_count, element_in, Obliged, Clear, lines_to}
 
 -- Element i has the same places for obligations in both
@@ -79,7 +80,7 @@ count_is f places i = go (eqb (obligation_end places i 0) 0) (eqb (obligation_en
     go false false = refl
 
 -- they are the element's
-pub obligations_of_lem : (f : Bytes) (table places : List ℕ) (i : ℕ) → obligations_of (element_in f table places i) ≡ obligations_in f places i
+pub obligations_of_lem : (f : Bytes) (table : List Row) (places : List ℕ) (i : ℕ) → obligations_of (element_in f table places i) ≡ obligations_in f places i
 unfolding element_in obligations_in
 obligations_of_lem f table places i = go (eqb (obligation_end places i 0) 0) (eqb (obligation_end places i 1) 0)
   where

@@ -9,6 +9,7 @@ use Rattle.meaning.specs.declared.Element.{Element}
 use Rattle.meaning.specs.Text.{Bytes, same, same_name, cut, tab, newline}
 use Rattle.meaning.specs.Model.{Attribute, padded, unused, with_obligations, letter_text, choices_of}
 use Rattle.meaning.specs.Joining.{declared, place_in}
+use Rattle.table.specs.declared.Row.{Row}
 use Rattle.table.specs.Rows.{element_at}
 use Rattle.layout.specs.declared.AttributePlace.{AttributePlace}
 use Rattle.layout.specs.declared.Attributes.{Attributes}
@@ -95,7 +96,7 @@ abbrev pub kind_at : ℕ → Kind
 kind_at b = cond (eqb b 83) Set (cond (eqb b 80) Policy Rule)
 
 -- Element i: `places` has a row of two for each, the start of its line and the end of its name, which starts at byte 4 of
--- the line; `table` has a row of eight
+-- the line; `table` has a row
 abbrev pub start_of : List ℕ → ℕ → ℕ
 start_of places i = get_or places (2 * i) 0
 
@@ -133,7 +134,7 @@ obligations_in f places i =
 unfoldable pub obligation_count : List ℕ → ℕ → ℕ
 obligation_count places i = cond (eqb (obligation_end places i 0) 0) 0 (cond (eqb (obligation_end places i 1) 0) 1 2)
 
-unfoldable pub element_in : Bytes → List ℕ → List ℕ → ℕ → Element
+unfoldable pub element_in : Bytes → List Row → List ℕ → ℕ → Element
 element_in f table places i =
     with_obligations (obligations_in f places i)
     (record {
@@ -149,7 +150,7 @@ element_in f table places i =
     })
 
 -- the first n elements and their names, the nearest first
-unfoldable pub elements_to : Bytes → List ℕ → List ℕ → ℕ → List Element
+unfoldable pub elements_to : Bytes → List Row → List ℕ → ℕ → List Element
 elements_to f table places zero = []
 elements_to f table places (suc n) = element_in f table places n ∷ elements_to f table places n
 

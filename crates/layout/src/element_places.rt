@@ -47,7 +47,7 @@ pub fn element_name<'a>(file: &'a [u8], places: &[usize], i: usize) -> &'a [u8]
 
 // Puts an element's row into the table and its places beside it.
 pub fn put_element(
-    table: &mut [u16],
+    table: &mut [Row],
     places: &mut [usize],
     i: usize,
     row: Row,
@@ -55,7 +55,7 @@ pub fn put_element(
     name_end: usize,
 )
     requires { Rows table.old (i + 1) × (2 * i + 2 ≤ length places.old) }
-    ensures table_after { table.new ≡ with_row table.old i row.word row.depth row.masks }
+    ensures table_after { table.new ≡ with_row table.old i row }
     ensures places_after { places.new ≡ sets places.old (2 * i) (start ∷ name_end ∷ []) }
 {
     table::put_row(table, i, row);

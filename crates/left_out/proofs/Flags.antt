@@ -17,6 +17,7 @@ use Rattle.laws.proofs.Bools.{Test, passed, failed, test, contradiction}
 use Rattle.laws.proofs.Reading.{accepted, front_snoc}
 use Rattle.laws.proofs.Outcomes.{outcome_same}
 use Rattle.laws.proofs.Striking.{strike_without}
+use Rattle.table.specs.declared.Row.{Row}
 use Rattle.table.specs.declared.Shape.{Shape}
 use Rattle.table.specs.Rows.{word_number, element_at}
 use Rattle.table.specs.Shape.{hit_of}
@@ -63,7 +64,7 @@ strike_leaves os f p h k r x =
     let left : file_lines (strike k f) ≡ without k (file_lines f) = ap front (strike_without f p h k r ∙ ap (without k) ended ∙ less) ∙ front_snoc (without k (file_lines f)) [] in
     subst (λ ls. LeavesOut os ls []) (sym left) (leaves_more x k rule)
 
-module _ (f table places : List ℕ) (s : Shape) (held : PolicyHeld f table places s) where
+module _ (f : List ℕ) (table : List Row) (places : List ℕ) (s : Shape) (held : PolicyHeld f table places s) where
   abbrev p : Policy
   p = held.policy
 

@@ -9,6 +9,7 @@ ghost use Rattle.trimmed_text.specs.Copied.{Copies};
 ghost use Rattle.left_out.specs.Leaving.{leaving};
 
 use meaning::Word;
+use table::Row;
 
 // Whether the text from `at` on begins with the file's bytes from `start` to `end`.
 fn begins(text: &[u8], at: usize, file: &[u8], start: usize, end: usize) -> bool
@@ -26,7 +27,7 @@ fn begins(text: &[u8], at: usize, file: &[u8], start: usize, end: usize) -> bool
 pub fn leave_out(
     file: &[u8],
     places: &[usize],
-    table: &[u16],
+    table: &[Row],
     n: usize,
     proposal: &[u8],
     struck: &mut [u8],

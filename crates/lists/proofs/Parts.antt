@@ -17,6 +17,7 @@ use Rattle.meaning.specs.declared.Obligation.{Obligation}
 use Rattle.meaning.specs.declared.Element.{Element}
 use Rattle.meaning.specs.Text.{Bytes}
 use Rattle.meaning.specs.Model.{padded, unused}
+use Rattle.table.specs.declared.Row.{Row}
 use Rattle.table.specs.Rows.{word_at, depth_of, element_at, word_number, masks_at}
 use Rattle.layout.specs.Places.{part, kind_at, start_of, name_in, effect_at, obligation_start, obligation_end, obligation_at, obligations_in, obligation_count, element_in, NameAt, Obliged}
 use Rattle.layout.proofs.Slots.{count_is as counted}
@@ -74,7 +75,7 @@ module _ (f : Bytes) (places : List ℕ) (i : ℕ) where
       go (failed some) = sym (rw some (sym (later (eqb (obligation_end places i 1) 0))))
 
 -- the element
-module _ (f : Bytes) (table places : List ℕ) (i : ℕ) (named : NameAt f places i) (obliged : Obliged f places i) where
+module _ (f : Bytes) (table : List Row) (places : List ℕ) (i : ℕ) (named : NameAt f places i) (obliged : Obliged f places i) where
   pub element_made : (k : Kind) → k ≡ kind_at (get_or f (start_of places i) 0) → (depth : ℕ) → depth ≡ depth_of table i → (name : List ℕ) → name ≡ padded 16 (name_in f places i) → (w : Word) → w ≡ word_at (word_number table i)
       → (masks : List ℕ) → masks ≡ masks_at table i → (count : ℕ) → count ≡ obligation_count places i → (first : Obligation) → first ≡ place_in f places i 0 → (second : Obligation) → second ≡ place_in f places i 1
       → ◌≡◌ {A = Element} (record { kind = k; depth = depth; name = name; len = get_or places (2 * i + 1) 0 - (start_of places i + 4); word = w; masks = masks; obligations = count; first = first; second = second }) (element_in f table places i)

@@ -6,6 +6,7 @@ ghost use Rattle.layout.specs.Places.{kind_at, effect_at, element_in, NameAt, Ob
 ghost use Rattle.lists.specs.Listed.{place_in};
 
 use meaning::{Element, Kind, Obligation, Word};
+use table::Row;
 
 // The kind of a line that starts with the byte.
 pub fn kind_at(b: u8) -> Kind
@@ -58,7 +59,7 @@ fn obligation_at(file: &[u8], places: &[usize], i: usize, k: usize) -> Obligatio
 }
 
 // Element i.
-pub(crate) fn element_at(file: &[u8], table: &[u16], places: &[usize], i: usize) -> Element
+pub(crate) fn element_at(file: &[u8], table: &[Row], places: &[usize], i: usize) -> Element
     requires { NameAt file.now places.now i × Obliged file.now places.now i × Rows table.now (i + 1) × (depth_of table.now i ≤ 7) }
     ensures { result ≡ element_in file.now table.now places.now i }
 {

@@ -15,9 +15,10 @@ pub use element::kind_at;
 use elements::Elements;
 use meaning::{Answer, Element};
 use refusals::{Refusal, Refused};
+use table::Row;
 
 // The elements of a file that was read.
-fn all_elements(file: &[u8], table: &[u16], places: &[usize], n: usize) -> Elements
+fn all_elements(file: &[u8], table: &[Row], places: &[usize], n: usize) -> Elements
     requires { Filled file.now table.now places.now n }
     ensures { (elements_of result ≡ reverse (elements_to file.now table.now places.now n)) × (result.len ≡ n) }
 {
@@ -32,7 +33,7 @@ fn all_elements(file: &[u8], table: &[u16], places: &[usize], n: usize) -> Eleme
 pub fn read_elements(file: &[u8], room: usize) -> Result<Elements, Refused>
     ensures { Listed file.now room result }
 {
-    let mut table = [0u16; 512];
+    let mut table = [Row::NONE; 64];
     let mut places = [0usize; 384];
     let n = reader::read(file, &mut table, &mut places)?.elements;
     if room < n {

@@ -16,6 +16,7 @@ use Rattle.laws.proofs.Bools.{Test, passed, failed, test}
 use Rattle.laws.proofs.Requests.{Positive, product_pos}
 use Rattle.requests.proofs.Laws.{rest_cons, rest_none, counts_positive, positive_at}
 use Rattle.requests.proofs.Targets.{letters_cons}
+use Rattle.table.specs.declared.Row.{Row}
 use Rattle.table.specs.Rows.{element_at, masks_at}
 use Rattle.table.specs.declared.Shape.{Shape}
 use Rattle.table.specs.Shape.{counts_of, severals_of, hit_of}
@@ -109,7 +110,7 @@ module _ (bs : List Bool) (masks counts : List ℕ) (len : ℕ) where
               ap (λ b. in_field (get_or bs (a - 1) false) (get_or masks (a - 1) 0) (m / size) && b) (so_far.bits.bits (m % size) (mod-lt m size_some))
               ∙ rw (letters_at, counts_at, masks_at_lem, so_far.all)
 
-module _ (t : List ℕ) (s : Shape) where
+module _ (t : List Row) (s : Shape) where
   pub hits_none : (hits : List ℕ) → Hits t 0 (hit_of s) s.space hits
   hits_none hits i m l k = absurd (omega arith)
 

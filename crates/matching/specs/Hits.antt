@@ -2,6 +2,7 @@
 use Rattle.std.specs.Prelude.{ℕ, ◌+◌, ◌*◌, ◌/◌, ◌%◌, ◌≤◌, ◌<◌, ◌≡◌, Bool, false, List, length, get_or}
 use Rattle.meaning.specs.Deciding.{bit}
 use Rattle.meaning.specs.declared.Element.{Element}
+use Rattle.table.specs.declared.Row.{Row}
 use Rattle.table.specs.Rows.{element_at, Rows}
 use Rattle.table.specs.declared.Shape.{Shape}
 use Rattle.table.specs.Shape.{Counted, hit_of}
@@ -25,11 +26,11 @@ pub record Rest (n space : ℕ) (old new : List ℕ) : Type 0 where
   pub others : (k : ℕ) → (k < 64 * n → words_of space ≤ k % 64) → get_or new k 0 ≡ get_or old k 0
 
 -- element i's bit for request m says whether it matches the element's own target
-abbrev pub Hits : List ℕ → ℕ → (ℕ → Element → Bool) → ℕ → List ℕ → Type 0
+abbrev pub Hits : List Row → ℕ → (ℕ → Element → Bool) → ℕ → List ℕ → Type 0
 Hits t n hit space hits = (i m : ℕ) → i < n → m < space → bit_of hits i m ≡ hit m (element_at t i)
 
 -- a table of at most 64 elements, at most six attributes and 4,096 requests, and room for a bit of each element and request
-pub record Matchable (t : List ℕ) (s : Shape) (hits : List ℕ) : Type 0 where
+pub record Matchable (t : List Row) (s : Shape) (hits : List ℕ) : Type 0 where
   pub rows : Rows t s.n
   pub few : s.n ≤ 64
   pub counted : Counted s
@@ -38,7 +39,7 @@ pub record Matchable (t : List ℕ) (s : Shape) (hits : List ℕ) : Type 0 where
   pub room : 4096 ≤ length hits
 
 -- the words that tell which requests match each element's own target, and nothing else
-pub record HitsLaid (t hits : List ℕ) (s : Shape) : Type 0 where
+pub record HitsLaid (t : List Row) (hits : List ℕ) (s : Shape) : Type 0 where
   pub room : 64 * s.n ≤ length hits
   pub hits_are : Hits t s.n (hit_of s) s.space hits
   pub clear : ClearFrom s.n s.space hits

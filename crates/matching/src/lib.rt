@@ -9,7 +9,7 @@ ghost use Rattle.table.specs.Shape.{CountsSets};
 ghost use Rattle.matching.specs.Planes.{laid, raised, Moved, Clear, Plane};
 ghost use Rattle.matching.specs.Hits.{Rest, Matchable, HitsLaid};
 
-use table::Shape;
+use table::{Row, Shape};
 
 // A word moved up by s bits, the highest bits of the word before it coming in.
 fn moved(word: u64, before: u64, s: usize) -> u64
@@ -149,7 +149,7 @@ pub fn copy_plane(plane: &[u64; 64], words: usize, at: usize, hits: &mut [u64])
 }
 
 // Lays down which requests match each element's own target. All other words stay.
-pub fn match_all(table: &[u16], shape: Shape, hits: &mut [u64])
+pub fn match_all(table: &[Row], shape: Shape, hits: &mut [u64])
     requires { Matchable table.now shape hits.old }
     ensures { HitsLaid table.now hits.new shape × Rest shape.n shape.space hits.old hits.new }
 {

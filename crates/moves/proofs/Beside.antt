@@ -12,6 +12,7 @@ use borrow.Author.Tests.{eqb-true, eqb-false}
 use Rattle.meaning.specs.declared.Element.{Element}
 use Rattle.meaning.specs.Deciding.{Reply as ChildReply, combined}
 use Rattle.laws.proofs.Bools.{Test, passed, failed, test}
+use Rattle.table.specs.declared.Row.{Row}
 use Rattle.table.specs.Rows.{algorithm_at, depth_of, element_at, word_number, word_at, algorithm_number}
 use Rattle.decisions.specs.Replies.{step_of, replies_from, reply_at}
 use Rattle.decisions.proofs.Combining.{same_so_far, still_unchanged}
@@ -21,7 +22,7 @@ use Rattle.decisions.proofs.Siblings.{replies_behind, reply_before}
 use Rattle.moves.specs.Moved.{effect_reply, kept, Child}
 use Rattle.moves.proofs.Rules.{rule_reply}
 
-module _ (hit : Element → Bool) (t struck : List ℕ) (n up rule a : ℕ) (child : Child t struck n up rule) (room : n ≤ length struck) where
+module _ (hit : Element → Bool) (t : List Row) (struck : List ℕ) (n up rule a : ℕ) (child : Child t struck n up rule) (room : n ≤ length struck) where
   -- from a place on, with the rule and without it
   abbrev pub with_rule : ℕ → List ChildReply
   with_rule at = replies_from hit t (kept struck rule) n (depth_of t rule) at

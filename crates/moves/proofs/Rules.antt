@@ -11,6 +11,7 @@ use Rattle.meaning.specs.declared.Word.TheVariants.{Permit, Deny, DenyOverrides,
 use Rattle.meaning.specs.declared.Element.{Element}
 use Rattle.meaning.specs.Deciding.{Reply as ChildReply, bit, is, combined}
 use Rattle.laws.proofs.Bits.{bit_and_lem, bit_zero}
+use Rattle.table.specs.declared.Row.{Row}
 use Rattle.table.specs.Rows.{word_at, algorithm_at, algorithm_number, algorithm_of, element_at, word_number}
 use Rattle.decisions.specs.Replies.{step_of, reply_at}
 use Rattle.decisions.proofs.Combining.{Settled, start}
@@ -23,7 +24,7 @@ effect_alone zero rs l = refl
 effect_alone (suc zero) rs l = refl
 effect_alone (suc (suc w)) rs l = let no : ⊥ = omega arith in absurd no
 
-pub rule_reply : (hit : Element → Bool) (t s : List ℕ) (n i : ℕ) → word_number t i < 2 → reply_at hit t s n i ≡ effect_reply (word_at (word_number t i)) (hit (element_at t i))
+pub rule_reply : (hit : Element → Bool) (t : List Row) (s : List ℕ) (n i : ℕ) → word_number t i < 2 → reply_at hit t s n i ≡ effect_reply (word_at (word_number t i)) (hit (element_at t i))
 unfolding reply_at element_at
 rule_reply hit t s n i l = ap (λ d. record { matched = hit (element_at t i); decision = cond (hit (element_at t i)) d NotApplicable }) (effect_alone (word_number t i) _ l)
 

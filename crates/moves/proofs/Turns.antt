@@ -14,6 +14,7 @@ use Rattle.meaning.specs.declared.Element.{Element}
 use Rattle.meaning.specs.Deciding.{Reply as ChildReply, is, combined}
 use Rattle.laws.proofs.Bools.{Test, passed, failed, test, contradiction}
 use Rattle.laws.proofs.Outcomes.{same_decision, decision_same}
+use Rattle.table.specs.declared.Row.{Row}
 use Rattle.table.specs.Rows.{word_at, algorithm_at, depth_of, element_at, word_number, algorithm_number}
 use Rattle.decisions.specs.Replies.{step_of, replies_from, reply_at}
 use Rattle.decisions.proofs.Combining.{Settled, start, neutral, start_settled, step_settled, same_so_far}
@@ -23,7 +24,7 @@ use Rattle.moves.proofs.Rules.{group_few, group_word, Gives, effect_gives}
 use Rattle.moves.proofs.Beside.{with_rule, without_rule, Turns, behind_same, off_same, rule_struck, rule_kept, skips_struck, skips_deeper, takes_struck, takes_kept, absorbed}
 
 -- what is less deep than the rule stands behind it
-pub behind_rule : {t struck : List ℕ} {n up rule : ℕ} → Child t struck n up rule → (at : ℕ) → up < at → depth_of t at < depth_of t rule → rule < at
+pub behind_rule : {t : List Row} {struck : List ℕ} {n up rule : ℕ} → Child t struck n up rule → (at : ℕ) → up < at → depth_of t at < depth_of t rule → rule < at
 behind_rule {t} {struck} {n} {up} {rule} child at low less = go (test (ltb rule at))
   where
     go : Test (ltb rule at) → rule < at
@@ -33,7 +34,7 @@ behind_rule {t} {struck} {n} {up} {rule} child at low less = go (test (ltb rule 
         let no : ⊥ = omega (arith, child.under.above.deeper at low before, child.under.one_deeper) in
         absurd no
 
-module _ (hit : Element → Bool) (t struck : List ℕ) (n up rule a : ℕ) (child : Child t struck n up rule) (room : n ≤ length struck) (algorithm : a ≡ algorithm_number (word_at (word_number t up))) where
+module _ (hit : Element → Bool) (t : List Row) (struck : List ℕ) (n up rule a : ℕ) (child : Child t struck n up rule) (room : n ≤ length struck) (algorithm : a ≡ algorithm_number (word_at (word_number t up))) where
   abbrev own : ChildReply
   own = effect_reply (word_at (word_number t rule)) true
 

@@ -4,6 +4,7 @@ use Rattle.meaning.specs.declared.Decision.TheVariants.{NotApplicable}
 use Rattle.meaning.specs.declared.Word.{Word}
 use Rattle.meaning.specs.declared.Element.{Element}
 use Rattle.meaning.specs.Deciding.{Reply as ChildReply, bit, is, combined}
+use Rattle.table.specs.declared.Row.{Row}
 use Rattle.table.specs.Rows.{word_at, algorithm_at, depth_of, word_number}
 use Rattle.table.specs.Tree.{Leaves, RulesStruck, Over}
 use Rattle.decisions.specs.Replies.{step_of, reply_at}
@@ -19,11 +20,11 @@ abbrev pub kept : List ℕ → ℕ → List ℕ
 kept struck rule = set struck rule 0
 
 -- element `up` gives another decision with the rule than without it
-unfoldable pub moved_at : (Element → Bool) → List ℕ → List ℕ → ℕ → ℕ → ℕ → Bool
+unfoldable pub moved_at : (Element → Bool) → List Row → List ℕ → ℕ → ℕ → ℕ → Bool
 moved_at hit t struck n up rule = not (is (reply_at hit t (kept struck rule) n up).decision (reply_at hit t struck n up).decision)
 
 -- element `rule` is a child of `up`, which looks at its children's decisions alone
-pub record Under (t : List ℕ) (up rule : ℕ) : Type 0 where
+pub record Under (t : List Row) (up rule : ℕ) : Type 0 where
   pub above : Over t up rule
   pub earlier : up < rule
   pub one_deeper : depth_of t rule ≡ suc (depth_of t up)
@@ -31,7 +32,7 @@ pub record Under (t : List ℕ) (up rule : ℕ) : Type 0 where
   pub decisive : word_number t up < 5
 
 -- and a rule whose flag is set, in a table whose rules have no children and whose other flags are set for rules alone
-pub record Child (t struck : List ℕ) (n up rule : ℕ) : Type 0 where
+pub record Child (t : List Row) (struck : List ℕ) (n up rule : ℕ) : Type 0 where
   pub under : Under t up rule
   pub inside : rule < n
   pub effect : word_number t rule < 2
@@ -40,7 +41,7 @@ pub record Child (t struck : List ℕ) (n up rule : ℕ) : Type 0 where
   pub flag : get_or struck rule 0 ≡ 1
 
 -- `own` is what the rule gives where it and `up` match
-pub record Own (t hits : List ℕ) (n block up rule : ℕ) (own : Replies) : Type 0 where
+pub record Own (t : List Row) (hits : List ℕ) (n block up rule : ℕ) (own : Replies) : Type 0 where
   pub replies : (v : ℕ) → reply_bit own v ≡ effect_reply (word_at (word_number t rule)) (bit own.matched v)
   pub reach : (v : ℕ) → bit own.matched v ≡ (bit (get_or hits (64 * rule + block) 0) v && bit (get_or hits (64 * up + block) 0) v)
 

@@ -13,6 +13,7 @@ use Rattle.meaning.specs.Text.{Bytes, same, newline}
 use Rattle.meaning.specs.Model.{word_text, decision_text}
 use Rattle.laws.proofs.Types.{Word, Decision, not_applicable, indeterminate, Obligation, Element}
 use Rattle.laws.proofs.Bools.{Test, passed, failed, test, contradiction, or_false}
+use Rattle.table.specs.declared.Row.{Row}
 use Rattle.blocks.specs.Bits.{Answers}
 use Rattle.chains.specs.Chain.{alike, chained, ChainLaid}
 use Rattle.layout.specs.Places.{part, obligation_start, obligation_end, effect_at, obligation_at, obligations_in, Obliged}
@@ -74,7 +75,7 @@ module _ (d : Decision) (f : Bytes) (places : List ℕ) where
       ∙ sym (text_last G n)
 
   -- the words that `ask_all` lays down have the chained marks
-  pub text_chained : {t struck hits old new : List ℕ} {n block : ℕ} (v : ℕ) (hit : Element → Bool) → ChainLaid t struck hits n block old new → Answers t hits n block v hit → given_text d (marks_in new v) f places n ≡ given_text d (chained hit t struck n) f places n
+  pub text_chained : {t : List Row} {struck hits old new : List ℕ} {n block : ℕ} (v : ℕ) (hit : Element → Bool) → ChainLaid t struck hits n block old new → Answers t hits n block v hit → given_text d (marks_in new v) f places n ≡ given_text d (chained hit t struck n) f places n
   text_chained {t} {struck} {new = new} {n} v hit laid answers = text_alike (marks_in new v) (chained hit t struck n) n (laid.bits v hit answers)
 
   -- with a decision that is neither permit nor deny there is no text

@@ -6,6 +6,7 @@ use Rattle.meaning.specs.declared.Element.{Element}
 use Rattle.meaning.specs.Text.{Bytes, keep, gathered, counting, same, line}
 use Rattle.meaning.specs.Model.{obligation_name, word_text, decision_text}
 use Rattle.meaning.specs.Deciding.{Outcome, bit, first_decision}
+use Rattle.table.specs.declared.Row.{Row}
 use Rattle.table.specs.Tree.{left}
 use Rattle.chains.specs.Chain.{chained}
 use Rattle.layout.specs.Places.{obligation_end, obligation_at, obligations_in, element_in, Obliged}
@@ -37,14 +38,14 @@ any_obliged places zero = false
 any_obliged places (suc n) = not (eqb (obligation_end places n 0) 0) || any_obliged places n
 
 -- the elements of n places from place i on that flags leave, with their names and obligations
-unfoldable pub left_elements : Bytes → (table places struck : List ℕ) → (i n : ℕ) → List Element
+unfoldable pub left_elements : Bytes → (table : List Row) (places struck : List ℕ) → (i n : ℕ) → List Element
 left_elements f table places struck i zero = []
 left_elements f table places struck i (suc n) =
     let later = left_elements f table places struck (i + 1) n in
     cond (eqb (get_or struck i 0) 0) (element_in f table places i ∷ later) later
 
 -- what a request gets from them, by the test of an element's own target
-abbrev pub outcome_left : (Element → Bool) → Bytes → (table places struck : List ℕ) → ℕ → Outcome
+abbrev pub outcome_left : (Element → Bool) → Bytes → (table : List Row) (places struck : List ℕ) → ℕ → Outcome
 outcome_left hit f table places struck n =
     let d = first_decision hit (left table struck 0 n) in
     record { decision = d; obligations = given_text d (chained hit table struck n) f places n }

@@ -15,6 +15,7 @@ use Rattle.meaning.specs.declared.Decision.{Decision}
 use Rattle.meaning.specs.Deciding.{is}
 use Rattle.laws.proofs.Bools.{Test, passed, failed, test}
 use Rattle.laws.proofs.Outcomes.{same_decision, decision_same}
+use Rattle.table.specs.declared.Row.{Row}
 use Rattle.table.specs.declared.Shape.{Shape}
 use Rattle.table.specs.Shape.{hit_of}
 use Rattle.decisions.specs.Replies.{reply_at}
@@ -28,7 +29,7 @@ use Rattle.outcomes.specs.PolicyTable.{PolicyTable}
 use Rattle.outcomes.specs.Changes.{Other, InBlock}
 
 -- what a call of `reply` says of the first element's replies in the block
-abbrev pub Replied : (t struck hits : List ℕ) (n block : ℕ) → Replies → Type 0
+abbrev pub Replied : (t : List Row) (struck hits : List ℕ) (n block : ℕ) → Replies → Type 0
 Replied t struck hits n block r = (v : ℕ) (hit : Element → Bool) → Answers t hits n block v hit → reply_bit r v ≡ reply_at hit t struck n 0
 
 -- the two words laid down for the block
@@ -36,10 +37,10 @@ abbrev pub block_outcomes : List ℕ → ℕ → Effects
 block_outcomes outcomes block = record { permits = get_or outcomes block 0; denies = get_or outcomes (64 + block) 0 }
 
 -- what the bits of request m are to tell: behind the requests nothing
-abbrev pub outcome_up_to : List ℕ → List ℕ → Shape → ℕ → Decision
+abbrev pub outcome_up_to : List Row → List ℕ → Shape → ℕ → Decision
 outcome_up_to t struck s m = cond (leb s.space m) NotApplicable (decided_at t s.n (hit_of s) struck m)
 
-module _ (t struck hits : List ℕ) (s : Shape) (ready : PolicyTable t struck s) (matched : HitsLaid t hits s) (block : ℕ) where
+module _ (t : List Row) (struck hits : List ℕ) (s : Shape) (ready : PolicyTable t struck s) (matched : HitsLaid t hits s) (block : ℕ) where
   pub block_fits : block < 64 → Fits t struck hits s.n block
   block_fits l = record { rows = ready.rows; flags = ready.flags; words = matched.room; few = ready.few; within = l }
 

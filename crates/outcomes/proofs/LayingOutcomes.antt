@@ -12,6 +12,7 @@ use Rattle.meaning.specs.declared.Decision.TheVariants.{NotApplicable}
 use Rattle.meaning.specs.declared.Decision.{Decision}
 use Rattle.meaning.specs.Deciding.{bit}
 use Rattle.laws.proofs.Bools.{Test, passed, failed, test}
+use Rattle.table.specs.declared.Row.{Row}
 use Rattle.table.specs.declared.Shape.{Shape}
 use Rattle.matching.specs.Hits.{bit_of, words_of, Rest}
 use Rattle.blocks.specs.declared.Effects.{Effects}
@@ -73,7 +74,7 @@ no_bits false true e = (refl, (cc))
 no_bits false false e = (refl, refl)
 
 -- all blocks of a policy
-module _ (t struck : List ℕ) (s : Shape) (old outcomes : List ℕ) (block : ℕ) (all : OutcomesTo (outcome_up_to t struck s) old outcomes block) (end : s.space ≤ 64 * block) (last : 64 * block < s.space + 64) where
+module _ (t : List Row) (struck : List ℕ) (s : Shape) (old outcomes : List ℕ) (block : ℕ) (all : OutcomesTo (outcome_up_to t struck s) old outcomes block) (end : s.space ≤ 64 * block) (last : 64 * block < s.space + 64) where
   pub outcomes_laid : 128 ≤ length outcomes → OutcomesLaid t struck outcomes s
   outcomes_laid room = record { enough = room; outcomes_are = λ m l. all.done m (omega arith) ∙ rw (lt-leb s.space m l) }
 

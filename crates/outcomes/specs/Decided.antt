@@ -3,6 +3,7 @@ use Rattle.std.specs.Prelude.{ℕ, ◌+◌, ◌/◌, ◌%◌, Bool, not, List, g
 use Rattle.meaning.specs.declared.Decision.{Decision}
 use Rattle.meaning.specs.Deciding.{bit, is, first_decision}
 use Rattle.meaning.specs.declared.Element.{Element}
+use Rattle.table.specs.declared.Row.{Row}
 use Rattle.table.specs.Tree.{left}
 use Rattle.blocks.specs.Bits.{decision_by}
 
@@ -15,7 +16,7 @@ abbrev pub outcome_at : List ℕ → ℕ → Decision
 outcome_at outcomes m = decision_by (bit (get_or outcomes (m / 64) 0) (m % 64)) (bit (get_or outcomes (64 + m / 64) 0) (m % 64))
 
 -- A policy: its table, the number of its elements, and which requests match an element's own target
-module _ (t : List ℕ) (n : ℕ) (hit : ℕ → Element → Bool) where
+module _ (t : List Row) (n : ℕ) (hit : ℕ → Element → Bool) where
   -- what request m gets from the elements that are left
   unfoldable pub decided_at : List ℕ → ℕ → Decision
   decided_at struck m = first_decision (hit m) (left t struck 0 n)

@@ -1,5 +1,6 @@
 -- What the functions ask of the table, the flags and the decisions that are lent.
 use Rattle.std.specs.Prelude.{ℕ, ◌≤◌, ◌<◌, ◌≡◌, List, length, get_or}
+use Rattle.table.specs.declared.Row.{Row}
 use Rattle.table.specs.Tree.{Leaves, RulesStruck}
 use Rattle.table.specs.declared.Shape.{Shape}
 use Rattle.table.specs.Rows.{Rows, word_number}
@@ -7,7 +8,7 @@ use Rattle.table.specs.Shape.{Counted, hit_of}
 use Rattle.outcomes.specs.Decided.{outcome_at, decided_at}
 
 -- a table of 1 to 64 elements whose first is no rule and whose rules have no children, a flag for each, set for rules alone, and at most 4,096 requests
-pub record PolicyTable (t struck : List ℕ) (s : Shape) : Type 0 where
+pub record PolicyTable (t : List Row) (struck : List ℕ) (s : Shape) : Type 0 where
   pub rows : Rows t s.n
   pub flags : s.n ≤ length struck
   pub some : 1 ≤ s.n
@@ -21,6 +22,6 @@ pub record PolicyTable (t struck : List ℕ) (s : Shape) : Type 0 where
   pub small : s.space ≤ 4096
 
 -- the words that tell what each request gets under these flags
-pub record OutcomesLaid (t struck outcomes : List ℕ) (s : Shape) : Type 0 where
+pub record OutcomesLaid (t : List Row) (struck outcomes : List ℕ) (s : Shape) : Type 0 where
   pub enough : 128 ≤ length outcomes
   pub outcomes_are : (m : ℕ) → m < s.space → outcome_at outcomes m ≡ decided_at t s.n (hit_of s) struck m

@@ -11,10 +11,10 @@ ghost use Rattle.outcomes.specs.Changes.{Other, InBlock};
 
 use blocks::{Block, Effects};
 use meaning::Decision;
-use table::Shape;
+use table::{Row, Shape};
 
 // Lays down what each request gets, a block of 64 at a time: the words of those permitted, and 64 places on of those denied. All other words stay.
-fn decide_all(table: &[u16], struck: &[u8], hits: &[u64], shape: Shape, outcomes: &mut [u64])
+fn decide_all(table: &[Row], struck: &[u8], hits: &[u64], shape: Shape, outcomes: &mut [u64])
     requires { PolicyTable table.now struck.now shape × HitsLaid table.now hits.now shape × (128 ≤ length outcomes.old) }
     ensures { OutcomesLaid table.now struck.now outcomes.new shape × Rest 2 shape.space outcomes.old outcomes.new }
 {
@@ -34,7 +34,7 @@ fn decide_all(table: &[u16], struck: &[u8], hits: &[u64], shape: Shape, outcomes
 
 // Lays down which requests match each element's own target, and what each request gets. All other words stay.
 pub fn find_outcomes(
-    table: &[u16],
+    table: &[Row],
     struck: &[u8],
     shape: Shape,
     hits: &mut [u64],
@@ -62,7 +62,7 @@ pub fn tell_all(outcomes: &[u64], space: usize, decided: &mut [Decision])
 }
 
 // Lays down what each request gets where no element is struck. What lies behind them stays.
-pub fn decide_requests(table: &[u16], shape: Shape, decided: &mut [Decision])
+pub fn decide_requests(table: &[Row], shape: Shape, decided: &mut [Decision])
     requires { PolicyTable table.now none_struck shape × (shape.space ≤ length decided.old) }
     ensures { decided.new ≡ map (decided_at table.now shape.n (hit_of shape) none_struck) (counting 0 shape.space) ++ drop shape.space decided.old }
 {
@@ -91,7 +91,7 @@ fn first_other(given: Effects, before: Effects, from: usize, space: usize) -> Op
 
 // The first request of the block that gets another decision than the one laid down.
 pub fn change_in(
-    table: &[u16],
+    table: &[Row],
     struck: &[u8],
     hits: &[u64],
     shape: Shape,

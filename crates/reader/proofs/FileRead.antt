@@ -14,6 +14,7 @@ use Rattle.refusals.specs.declared.Refused.{Refused}
 use Rattle.refusals.specs.Numbers.{number_of}
 use Rattle.laws.proofs.Bounds.{GoodElement, bounded, all_reverse, named}
 use Rattle.laws.proofs.Bools.{and_true}
+use Rattle.table.specs.declared.Row.{Row}
 use Rattle.table.specs.Rows.{Rows}
 use Rattle.layout.specs.Places.{Clear, FewValues, start_of, name_in, element_in, elements_to, Naming}
 use Rattle.layout.proofs.Slots.{zeros_clear}
@@ -22,10 +23,10 @@ use Rattle.reader.specs.declared.Policy.{Policy as PolicyRead}
 use Rattle.reader.specs.Told.{ReadPolicy, ReadAs, ReadIs}
 
 -- what reading asks of the memory that it is lent, where all of it is 0
-pub unread : let zeros : ℕ → List ℕ = λ n. replicate n 0 in Rows (zeros 512) 64 × (384 ≤ length (zeros 384)) × Clear (zeros 384) 0
+pub unread : let zeros : ℕ → List ℕ = λ n. replicate n 0 in Rows (replicate 64 NONE) 64 × (384 ≤ length (zeros 384)) × Clear (zeros 384) 0
 unread = (lit≤ tt, lit≤ tt, zeros_clear 384)
 
-module _ {f table₀ places₀ table places : List ℕ} where
+module _ {f : List ℕ} {table₀ : List Row} {places₀ : List ℕ} {table : List Row} {places : List ℕ} where
   pub file_refused : {x : Refused} → ReadIs f table₀ places₀ table places (Err x) → read f ≡ refused (number_of x.why) x.second
   file_refused {x} is_read = go (read f) refl is_read.answer
     where
@@ -45,7 +46,7 @@ module _ {f table₀ places₀ table places : List ℕ} where
   sizable is_read = let spaced = (file_read is_read).2.spaced in (spaced.standing.few, spaced.few_values)
 
 -- The elements of a file that was read
-module _ (f table places : List ℕ) (r : PolicyRead) (p : Policy) (h : read f ≡ given p) (holds : ReadPolicy f table places r p) where
+module _ (f : List ℕ) (table : List Row) (places : List ℕ) (r : PolicyRead) (p : Policy) (h : read f ≡ given p) (holds : ReadPolicy f table places r p) where
   pub elements_are : length p.elements ≡ r.elements
   elements_are = ap length holds.elements ∙ length-reverse (elements_to f table places r.elements) ∙ elements_length f table places r.elements
 

@@ -13,7 +13,7 @@ use attribute_lines::State;
 use layout::Attributes;
 use refusals::{Refusal, Refused};
 use syntax::LineKind;
-use table::Shape;
+use table::{Row, Shape};
 use text::Counted;
 
 // A policy that was read from a file: its attributes, how many requests they make, and how many elements there are.
@@ -58,7 +58,7 @@ fn read_line(
     st: State,
     end: usize,
     fields: usize,
-    table: &mut [u16],
+    table: &mut [Row],
     places: &mut [usize],
 ) -> Result<State, Refusal>
     requires { BeforeLine file.now table.old places.old st × EndedLine file.now st end × CountIs (cut tab (part file.now st.at end)) fields }
@@ -106,7 +106,7 @@ fn finish(st: State, end: usize) -> Result<Policy, Refused>
 }
 
 // Reads a file into the table and the places, which have no obligation before; a refused one up to the line that is refused.
-pub fn read(file: &[u8], table: &mut [u16], places: &mut [usize]) -> Result<Policy, Refused>
+pub fn read(file: &[u8], table: &mut [Row], places: &mut [usize]) -> Result<Policy, Refused>
     requires { Rows table.old 64 × (384 ≤ length places.old) × Clear places.old 0 }
     ensures { ReadIs file.now table.old places.old table.new places.new result }
 {

@@ -18,6 +18,7 @@ use Rattle.meaning.specs.declared.Element.{Element}
 use Rattle.laws.proofs.Bools.{Test, passed, failed, test}
 use Rattle.laws.proofs.Search.{counting_only, counting_rising, keep_only, keep_rising}
 use Rattle.laws.proofs.Lists.{gathered_alike, gathered_keep, gathered_twice, gathered_one, pairs_first, pairs_alike}
+use Rattle.table.specs.declared.Row.{Row}
 use Rattle.table.specs.Tree.{parent_of, place_or}
 use Rattle.outcomes.proofs.Searching.{first_alike}
 use Rattle.layout.specs.Places.{name_in, elements_to}
@@ -56,7 +57,7 @@ module _ (f : Bytes) (places : List ℕ) (n : ℕ) (parents pairs : List ℕ) (s
           rw (e, behind, add-one j) (ap₂ (λ xs ys. xs ++ ys) (sym (gathered_keep child (λ k. line_of (j, k)) (counting (suc j) c))) later ∙ sym (pairs_first line_of j (kept (suc j) c)))
       go (failed e) later = rw e later
 
-module _ (f : Bytes) (table places : List ℕ) (n : ℕ) (p : Policy) (is : p.elements ≡ reverse (elements_to f table places n)) (hit : ℕ → Element → Bool) (space : ℕ) (hits_are : (m : ℕ) → hit m ≡ hits p m) (space_is : space ≡ space_of p.attributes) where
+module _ (f : Bytes) (table : List Row) (places : List ℕ) (n : ℕ) (p : Policy) (is : p.elements ≡ reverse (elements_to f table places n)) (hit : ℕ → Element → Bool) (space : ℕ) (hits_are : (m : ℕ) → hit m ≡ hits p m) (space_is : space ≡ space_of p.attributes) where
   -- the line of a conflict, and the conflicts of a parent
   abbrev written : Conflict → Bytes
   written c = line (conflict_fields p.elements c)

@@ -13,6 +13,7 @@ use Rattle.meaning.specs.Model.{Policy, sizes, severals}
 use Rattle.meaning.specs.Deciding.{request_of, matches, is as is_of, first_decision, hits}
 use Rattle.meaning.specs.Segments.{decision_at}
 use Rattle.meaning.specs.declared.Element.{Element}
+use Rattle.table.specs.declared.Row.{Row}
 use Rattle.table.specs.Tree.{left}
 use Rattle.decisions.proofs.Children.{first_left}
 use Rattle.layout.specs.Places.{elements_to}
@@ -26,7 +27,7 @@ drop_map F zero xs = refl
 drop_map F (suc j) [] = refl
 drop_map F (suc j) (x ∷ xs) = drop_map F j xs
 
-module _ (table struck : List ℕ) (clear : (k : ℕ) → get_or struck k 0 ≡ 0) where
+module _ (table : List Row) (struck : List ℕ) (clear : (k : ℕ) → get_or struck k 0 ≡ 0) where
   -- what is left from a place on is what is left behind so many
   left_behind : (i c j : ℕ) → drop j (left table struck i c) ≡ left table struck (i + j) (c - j)
   unfolding left
@@ -40,7 +41,7 @@ module _ (table struck : List ℕ) (clear : (k : ℕ) → get_or struck k 0 ≡ 
       let fewer : suc c - suc j ≡ c - j = omega arith in
       rw (eq-eqb (get_or struck i 0) 0 (clear i), next, fewer) (left_behind (i + 1) c j)
 
-module _ (f : Bytes) (table places : List ℕ) (n : ℕ) (p : Policy) (is : p.elements ≡ reverse (elements_to f table places n)) (hit : ℕ → Element → Bool) (hits_are : (m : ℕ) → hit m ≡ hits p m)
+module _ (f : Bytes) (table : List Row) (places : List ℕ) (n : ℕ) (p : Policy) (is : p.elements ≡ reverse (elements_to f table places n)) (hit : ℕ → Element → Bool) (hits_are : (m : ℕ) → hit m ≡ hits p m)
     (struck : List ℕ) (clear : (k : ℕ) → get_or struck k 0 ≡ 0) where
   -- the elements from a place on
   left_from_lem : (j : ℕ) → left table struck j (n - j) ≡ map bare (drop j p.elements)

@@ -9,6 +9,7 @@ use Rattle.meaning.specs.declared.Decision.{Decision}
 use Rattle.meaning.specs.Text.{Bytes, gathered}
 use Rattle.meaning.specs.Report.{report, report_file}
 use Rattle.meaning.specs.Operations.{report_answer, report_lent}
+use Rattle.table.specs.declared.Row.{Row}
 use Rattle.table.specs.declared.Shape.{Shape}
 use Rattle.table.specs.Shape.{hit_of}
 use Rattle.conflicts.specs.Pairs.{shown_for}
@@ -23,7 +24,7 @@ use Rattle.reporting.proofs.SegmentText.{segments_are}
 use Rattle.reporting.proofs.ConflictText.{conflicts_are}
 use Rattle.reporting.proofs.StruckText.{struck_are, kept_are}
 
-module _ (f table places : List ℕ) (s : Shape) (held : PolicyHeld f table places s) (words lengths : List ℕ) (decided : List Decision) (parents pairs order shown : List ℕ) (count : ℕ)
+module _ (f : List ℕ) (table : List Row) (places : List ℕ) (s : Shape) (held : PolicyHeld f table places s) (words lengths : List ℕ) (decided : List Decision) (parents pairs order shown : List ℕ) (count : ℕ)
     (found : SegmentsFound table s.n (hit_of s) s.space words lengths decided) (shown-pairs : ConflictsFound table s.n (hit_of s) s.space parents pairs) (rules : RulesFound f places table s.n (hit_of s) s.space order shown count) where
   -- the four kinds of lines, one behind the other
   abbrev text : Bytes

@@ -21,6 +21,7 @@ use Rattle.laws.proofs.Bools.{Test, passed, failed, test}
 use Rattle.laws.proofs.Search.{last_some, counting_only}
 use Rattle.laws.proofs.Bounds.{bounded}
 use Rattle.laws.proofs.Rewritten.{gathered_map}
+use Rattle.table.specs.declared.Row.{Row}
 use Rattle.table.specs.Tree.{place_or, rule_left}
 use Rattle.trimming.specs.Decided as table-level
 use Rattle.laws.proofs.Lists.{has_at, gathered_alike, gathered_keep}
@@ -36,7 +37,7 @@ use Rattle.reporting.specs.Found.{trimmed_at}
 use Rattle.reporting.proofs.Searched.{first_or}
 
 -- What is struck is one of n
-module _ (f : Bytes) (places table : List ℕ) (n : ℕ) (hit : ℕ → Element → Bool) (space : ℕ) where
+module _ (f : Bytes) (places : List ℕ) (table : List Row) (n : ℕ) (hit : ℕ → Element → Bool) (space : ℕ) where
   -- the next one
   next_below : (struck : List ℕ) (i : ℕ) → table-level.next_at f places table n hit space struck ≡ some i → i < n
   unfolding table-level.next_at
@@ -66,7 +67,7 @@ module _ (f : Bytes) (places table : List ℕ) (n : ℕ) (hit : ℕ → Element 
   pub order_below : (k : ℕ) → k < length order → get_or order k 0 < n
   order_below k l = struck_below n none_struck (get_or order k 0) (has_at order 0 k l)
 
-module _ (f : Bytes) (p : Policy) (h : read f ≡ given p) (table places : List ℕ) (n : ℕ) (is : p.elements ≡ reverse (elements_to f table places n)) (hit : ℕ → Element → Bool) (space : ℕ) (hits_are : (m : ℕ) → hit m ≡ hits p m) (space_is : space ≡ space_of p.attributes) where
+module _ (f : Bytes) (p : Policy) (h : read f ≡ given p) (table : List Row) (places : List ℕ) (n : ℕ) (is : p.elements ≡ reverse (elements_to f table places n)) (hit : ℕ → Element → Bool) (space : ℕ) (hits_are : (m : ℕ) → hit m ≡ hits p m) (space_is : space ≡ space_of p.attributes) where
   -- how many elements there are, and their names
   size : length p.elements ≡ n
   size = count_is f table places n p is

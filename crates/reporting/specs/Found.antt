@@ -3,6 +3,7 @@ use Rattle.std.specs.Prelude.{ℕ, ◌≤◌, ◌<◌, ◌≡◌, List, length, 
 use Rattle.meaning.specs.Text.{Bytes}
 use Rattle.meaning.specs.declared.Decision.{Decision}
 use Rattle.meaning.specs.declared.Element.{Element}
+use Rattle.table.specs.declared.Row.{Row}
 use Rattle.table.specs.Tree.{parent_of, place_or}
 use Rattle.outcomes.specs.Decided.{none_struck, decided_at}
 use Rattle.trimming.specs.Decided.{Struck, shown_at, trimming_at}
@@ -11,11 +12,11 @@ use Rattle.segments.specs.Sizes.{size_at}
 use Rattle.conflicts.specs.Pairs.{shows_at, Pairs}
 
 -- what striking gives, from there on
-abbrev pub trimmed_at : Bytes → (places table : List ℕ) → ℕ → (ℕ → Element → Bool) → ℕ → Struck
+abbrev pub trimmed_at : Bytes → (places : List ℕ) (table : List Row) → ℕ → (ℕ → Element → Bool) → ℕ → Struck
 trimmed_at f places table n hit space = trimming_at f places table n hit space n none_struck
 
 -- Of a table of n elements, which requests match an element's own target, and how many there are: what there is to say of each request
-pub record SegmentsFound (table : List ℕ) (n : ℕ) (hit : ℕ → Element → Bool) (space : ℕ) (words sizes : List ℕ) (decided : List Decision) : Type 0 where
+pub record SegmentsFound (table : List Row) (n : ℕ) (hit : ℕ → Element → Bool) (space : ℕ) (words sizes : List ℕ) (decided : List Decision) : Type 0 where
   -- the word of the elements that apply to it
   pub applying : (m : ℕ) → m < space → get_or words m 0 ≡ applying_at table n hit m
   -- the size of the segment whose first request it is, else 0
@@ -24,14 +25,14 @@ pub record SegmentsFound (table : List ℕ) (n : ℕ) (hit : ℕ → Element →
   pub told : (m : ℕ) → m < space → get_or decided m Decision.Permit ≡ decided_at table n hit none_struck m
 
 -- and of each pair of children
-pub record ConflictsFound (table : List ℕ) (n : ℕ) (hit : ℕ → Element → Bool) (space : ℕ) (parents pairs : List ℕ) : Type 0 where
+pub record ConflictsFound (table : List Row) (n : ℕ) (hit : ℕ → Element → Bool) (space : ℕ) (parents pairs : List ℕ) : Type 0 where
   -- the place of an element's parent, or n
   pub parented : (j : ℕ) → j < n → get_or parents j 0 ≡ place_or n (parent_of table j)
   -- the first request that shows the conflict of two children, at 64 j + k, or the number of requests
   pub paired : Pairs parents (shows_at table none_struck n hit) n space pairs
 
 -- the rules: those struck, in order, and the first request that needs each one kept; the first element is left
-pub record RulesFound (f : Bytes) (places table : List ℕ) (n : ℕ) (hit : ℕ → Element → Bool) (space : ℕ) (order shown : List ℕ) (count : ℕ) : Type 0 where
+pub record RulesFound (f : Bytes) (places : List ℕ) (table : List Row) (n : ℕ) (hit : ℕ → Element → Bool) (space : ℕ) (order shown : List ℕ) (count : ℕ) : Type 0 where
   pub struck : take count order ≡ (trimmed_at f places table n hit space).order
   pub counted : count ≡ length (trimmed_at f places table n hit space).order
   pub few : count ≤ n

@@ -18,10 +18,10 @@ ghost use Rattle.reporting.specs.Found.{SegmentsFound, ConflictsFound, RulesFoun
 use differences::{PolicyFile, PolicyOutcomes};
 use meaning::{Answer, Decision};
 use report_lines::{put_conflicts, put_kept, put_segments, put_struck};
-use table::Shape;
+use table::{Row, Shape};
 
 // Lays down which requests match each element, and what each request gets.
-fn find_decisions(table: &[u16], shape: Shape, hits: &mut [u64], outcomes: &mut [u64])
+fn find_decisions(table: &[Row], shape: Shape, hits: &mut [u64], outcomes: &mut [u64])
     requires { PolicyTable table.now none_struck shape × (4096 ≤ length hits.old) × (128 ≤ length outcomes.old) }
     ensures { HitsLaid table.now hits.new shape × OutcomesLaid table.now none_struck outcomes.new shape }
 {
@@ -169,7 +169,7 @@ fn write_lines(o: &PolicyOutcomes, out: &mut [u8]) -> Answer
 }
 
 // The report of the policy that was read from a file, in a lent buffer.
-pub fn report(file: &[u8], table: &[u16], places: &[usize], shape: Shape, out: &mut [u8]) -> Answer
+pub fn report(file: &[u8], table: &[Row], places: &[usize], shape: Shape, out: &mut [u8]) -> Answer
     requires { PolicyHeld file.now table.now places.now shape }
     ensures value { result ≡ report_answer file.now out.old }
     ensures out_after { out.new ≡ report_lent file.now out.old }

@@ -1,7 +1,7 @@
 // Requests by value: one number for each attribute. The numbering of requests, and the test of a target.
 #![tactic(auto)]
 
-ghost use Rattle.std.specs.Prelude.{◌≡◌, ◌+◌, ◌≤◌, ◌<◌, length, take, drop};
+ghost use Rattle.std.specs.Prelude.{◌≡◌, ◌+◌, ◌≤◌, ◌<◌, length, take};
 ghost use Rattle.meaning.specs.Model.{product};
 ghost use Rattle.meaning.specs.Deciding.{number_of, request_of, next_request, bit, in_field, within};
 ghost use Rattle.requests.specs.Values.{values_of, severals_of, request_with, revalued, Fitting};
@@ -75,16 +75,16 @@ impl Request {
         }
     }
 
-    // Whether each value, or set of values, matches the field of its attribute; the masks stand from `at` on.
-    pub fn matches(self, masks: &[u16], at: usize) -> bool
-        requires { (at + 6 ≤ length masks.now) × (self.len ≤ 6) }
-        ensures { result ≡ within (severals_of self) (take 6 (drop at masks.now)) (values_of self) }
+    // Whether each value, or set of values, matches the field of its attribute.
+    pub fn matches(self, masks: &[u16]) -> bool
+        requires { (self.len ≤ length masks.now) × (self.len ≤ 6) }
+        ensures { result ≡ within (severals_of self) masks.now (values_of self) }
     {
         let several = self.several;
         let values = self.values;
         let len = self.len;
         for i in 0..len {
-            if !in_field(several[i], masks[at + i], values[i]) {
+            if !in_field(several[i], masks[i], values[i]) {
                 return false;
             }
         }

@@ -16,6 +16,7 @@ use Rattle.meaning.specs.Deciding.{Reply as ChildReply, bit, applies, is}
 use Rattle.laws.proofs.Bits.{bit_and_lem}
 use Rattle.laws.proofs.Search.{first_none}
 use Rattle.laws.proofs.Bools.{Test, passed, failed, test}
+use Rattle.table.specs.declared.Row.{Row}
 use Rattle.table.specs.Rows.{element_at, depth_of}
 use Rattle.std.specs.Prelude.{None}
 use Rattle.laws.specs.Found.{found}
@@ -54,7 +55,7 @@ module _ (hits : List ℕ) (at : ℕ) (old : List ℕ) where
       go k l (failed e) = let apart = eqb-false k b e in get_or-set_other new b k _ 0 apart ∙ so_far.done k (omega (arith, apart))
 
 -- Element i with no parent, and with one
-module _ (t hits : List ℕ) (n blocks i : ℕ) (inside : i < n) (old mid : List ℕ)
+module _ (t : List Row) (hits : List ℕ) (n blocks i : ℕ) (inside : i < n) (old mid : List ℕ)
     (own : (b : ℕ) → b < blocks → get_or mid b 0 ≡ bit_and (get_or old b 0) (get_or hits (64 * i + b) 0)) where
   own_bit : (b v : ℕ) (hit : Element → Bool) → b < blocks → Answers t hits n b v hit → bit (get_or mid b 0) v ≡ (bit (get_or old b 0) v && hit (element_at t i))
   own_bit b v hit l answers = ap (λ w. bit w v) (own b l) ∙ bit_and_lem (get_or old b 0) (get_or hits (64 * i + b) 0) v ∙ ap (λ x. bit (get_or old b 0) v && x) (answers i inside)
@@ -82,12 +83,12 @@ full v l = set_bit (bit 18446744073709551615 v) (first_none (λ k. not (bit 1844
     set_bit false e = sym e
 
 -- a row narrowed from ones
-pub row_applied : (t hits : List ℕ) (n blocks i : ℕ) (row : List ℕ) → blocks ≤ 64 → Narrowed t hits n blocks i (replicate 64 18446744073709551615) row → AppliedRow t hits n blocks i row
+pub row_applied : (t : List Row) (hits : List ℕ) (n blocks i : ℕ) (row : List ℕ) → blocks ≤ 64 → Narrowed t hits n blocks i (replicate 64 18446744073709551615) row → AppliedRow t hits n blocks i row
 row_applied t hits n blocks i row few narrowed b v hit l u answers =
     narrowed b v hit l answers ∙ rw (get_or-replicate {A = ℕ} 64 b 18446744073709551615 0 (omega arith), full v u)
 
 -- What each bit of the rows says, by the test of targets that it answers: of the elements and blocks before word k; all other words are as they were
-module _ (F : (Element → Bool) → ℕ → Bool) (t hits : List ℕ) (n blocks : ℕ) where
+module _ (F : (Element → Bool) → ℕ → Bool) (t : List Row) (hits : List ℕ) (n blocks : ℕ) where
   pub record Filled (old rows : List ℕ) (k : ℕ) : Type 0 where
     pub size : length rows ≡ length old
     pub bits : (i b v : ℕ) (hit : Element → Bool) → i < n → b < blocks → v < 64 → 64 * i + b < k → Answers t hits n b v hit → bit (get_or rows (64 * i + b) 0) v ≡ F hit i
@@ -136,7 +137,7 @@ module _ (F : (Element → Bool) → ℕ → Bool) (t hits : List ℕ) (n blocks
             ap (λ y. bit y v) (copied.others (64 * j + b) (λ a. omega (arith, other))) ∙ so_far.bits j b v hit l u x (omega (arith, other)) answers
 
 -- no bit of them behind the requests, where the test fails if no target matches
-pub filled_rest : (F : (Element → Bool) → ℕ → Bool) (t : List ℕ) (s : Shape) (hits : List ℕ) {old rows : List ℕ} {k : ℕ} → ((i : ℕ) → F (λ e. false) i ≡ false) → Marked t s hits → k ≡ 64 * s.n
+pub filled_rest : (F : (Element → Bool) → ℕ → Bool) (t : List Row) (s : Shape) (hits : List ℕ) {old rows : List ℕ} {k : ℕ} → ((i : ℕ) → F (λ e. false) i ≡ false) → Marked t s hits → k ≡ 64 * s.n
     → Filled F t hits s.n (words_of s.space) old rows k → Rest s.n s.space old rows
 filled_rest F t s hits none matched end filled =
     record {
@@ -146,19 +147,19 @@ filled_rest F t s hits none matched end filled =
     }
 
 -- all of them, of requests
-pub filled_requests : (F : (Element → Bool) → ℕ → Bool) (t : List ℕ) (s : Shape) (hits : List ℕ) {old rows : List ℕ} {k : ℕ} → Marked t s hits → 64 * s.n ≤ k → Filled F t hits s.n (words_of s.space) old rows k
+pub filled_requests : (F : (Element → Bool) → ℕ → Bool) (t : List Row) (s : Shape) (hits : List ℕ) {old rows : List ℕ} {k : ℕ} → Marked t s hits → 64 * s.n ≤ k → Filled F t hits s.n (words_of s.space) old rows k
     → (i m : ℕ) → i < s.n → m < s.space → bit_of rows i m ≡ F (hit_of s m) i
 filled_requests F t s hits matched all filled i m l u =
     filled.bits i (m / 64) (m % 64) (hit_of s m) l (omega arith) (omega arith) (omega (arith, matched.small)) (λ j a. matched.each j m a u)
 
 -- an element applies, or gives a decision
-abbrev pub applying : List ℕ → (Element → Bool) → ℕ → Bool
+abbrev pub applying : List Row → (Element → Bool) → ℕ → Bool
 applying t hit i = applies hit (before t i) (element_at t i)
 
-abbrev pub giving : Decision → List ℕ → List ℕ → ℕ → (Element → Bool) → ℕ → Bool
+abbrev pub giving : Decision → List Row → List ℕ → ℕ → (Element → Bool) → ℕ → Bool
 giving d t struck n hit i = is d (reply_at hit t struck n i).decision
 
-module _ (t : List ℕ) (s : Shape) (hits : List ℕ) {old rows : List ℕ} {k : ℕ} (matched : Marked t s hits) (all : 64 * s.n ≤ k) where
+module _ (t : List Row) (s : Shape) (hits : List ℕ) {old rows : List ℕ} {k : ℕ} (matched : Marked t s hits) (all : 64 * s.n ≤ k) where
   pub applied_all : Filled (applying t) t hits s.n (words_of s.space) old rows k → Applied t s.n (hit_of s) s.space rows
   unfolding applies_at
   applied_all = filled_requests (applying t) t s hits matched all

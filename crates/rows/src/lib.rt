@@ -13,7 +13,7 @@ ghost use Rattle.rows.specs.Rows.{Applied, Given, Narrowed, AppliedRow, Rowed, M
 
 use blocks::Block;
 use meaning::Decision;
-use table::Shape;
+use table::{Row, Shape};
 
 // Whether bit i of the word is set.
 pub fn has(word: u64, i: usize) -> bool
@@ -34,7 +34,7 @@ fn narrow(hits: &[u64], at: usize, blocks: usize, row: &mut [u64])
 }
 
 // Keeps of a row the requests to which element i applies: that match its own target, and to which its parent applies.
-fn apply(table: &[u16], hits: &[u64], n: usize, blocks: usize, i: usize, row: &mut [u64])
+fn apply(table: &[Row], hits: &[u64], n: usize, blocks: usize, i: usize, row: &mut [u64])
     requires { Rowed table.now hits.now n blocks × (i < n) × (blocks ≤ length row.old) }
     ensures { Narrowed table.now hits.now n blocks i row.old row.new }
 {
@@ -45,7 +45,7 @@ fn apply(table: &[u16], hits: &[u64], n: usize, blocks: usize, i: usize, row: &m
 }
 
 // The requests to which element i applies.
-fn row_of(table: &[u16], hits: &[u64], n: usize, blocks: usize, i: usize) -> [u64; 64]
+fn row_of(table: &[Row], hits: &[u64], n: usize, blocks: usize, i: usize) -> [u64; 64]
     requires { Rowed table.now hits.now n blocks × (i < n) }
     ensures { AppliedRow table.now hits.now n blocks i result }
 {
@@ -55,7 +55,7 @@ fn row_of(table: &[u16], hits: &[u64], n: usize, blocks: usize, i: usize) -> [u6
 }
 
 // Lays down the requests to which each element applies. All other words stay.
-pub fn apply_all(table: &[u16], hits: &[u64], shape: Shape, applied: &mut [u64])
+pub fn apply_all(table: &[Row], hits: &[u64], shape: Shape, applied: &mut [u64])
     requires { Marked table.now shape hits.now × (4096 ≤ length applied.old) }
     ensures { Applied table.now shape.n (hit_of shape) shape.space applied.new × Rest shape.n shape.space applied.old applied.new }
 {
@@ -69,7 +69,7 @@ pub fn apply_all(table: &[u16], hits: &[u64], shape: Shape, applied: &mut [u64])
 
 // Lays down the requests on which each element gives permit, and those on which it gives deny. All other words stay.
 pub fn give_all(
-    table: &[u16],
+    table: &[Row],
     struck: &[u8],
     hits: &[u64],
     shape: Shape,
@@ -100,7 +100,7 @@ pub fn give_all(
 }
 
 // Lays down the parent of each element, n where there is none. What lies behind them stays.
-pub fn parent_all(table: &[u16], n: usize, parents: &mut [usize])
+pub fn parent_all(table: &[Row], n: usize, parents: &mut [usize])
     requires { Rows table.now n × (n ≤ length parents.old) }
     ensures { parents.new ≡ map (λ i. place_or n (parent_of table.now i)) (counting 0 n) ++ drop n parents.old }
 {

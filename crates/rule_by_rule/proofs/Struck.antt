@@ -20,6 +20,7 @@ use Rattle.laws.proofs.Search.{last_some, last_none}
 use Rattle.laws.proofs.Names.{equal_names}
 use Rattle.laws.proofs.Trimming.{needless_rule, rule_needless}
 use Rattle.laws.proofs.RuleByRule.{one_element, striking, no_needless_rule}
+use Rattle.table.specs.declared.Row.{Row}
 use Rattle.table.specs.declared.Shape.{Shape}
 use Rattle.table.specs.Shape.{hit_of}
 use Rattle.outcomes.specs.Decided.{none_struck}
@@ -35,7 +36,7 @@ use Rattle.trimmed_text.proofs.Placed.{text_copied}
 use Rattle.trimmed_text.proofs.Whole.{line_of, name_of_line, needless_line, line_needless, strike_line}
 use Rattle.trimmed_text.proofs.Held.{sizes}
 
-module _ (f table places : List ℕ) (s : Shape) (held : PolicyHeld f table places s) (name : Bytes) where
+module _ (f : List ℕ) (table : List Row) (places : List ℕ) (s : Shape) (held : PolicyHeld f table places s) (name : Bytes) where
   abbrev p : Policy
   p = held.policy
 

@@ -11,7 +11,7 @@ ghost use Rattle.rule_by_rule.specs.Shown.{name_or_none};
 
 use differences::PolicyFile;
 use meaning::Answer;
-use table::Shape;
+use table::{Row, Shape};
 
 // Lays down the name of the next element, or nothing if there is none.
 fn put_name(file: &[u8], places: &[usize], next: Option<usize>, out: &mut [u8]) -> usize
@@ -25,7 +25,7 @@ fn put_name(file: &[u8], places: &[usize], next: Option<usize>, out: &mut [u8]) 
 }
 
 // The name of the rule that trimming would strike next, in a lent buffer; no byte where no rule is needless.
-pub fn show(file: &[u8], table: &[u16], places: &[usize], shape: Shape, out: &mut [u8]) -> Answer
+pub fn show(file: &[u8], table: &[Row], places: &[usize], shape: Shape, out: &mut [u8]) -> Answer
     requires { PolicyHeld file.now table.now places.now shape }
     ensures value { result ≡ next_rule_answer file.now out.old }
     ensures out_after { out.new ≡ next_rule_lent file.now out.old }
@@ -49,7 +49,7 @@ pub fn show(file: &[u8], table: &[u16], places: &[usize], shape: Shape, out: &mu
 // The file without the line of the needless rule that has this name, in a lent buffer; 15 where there is no such rule.
 pub fn strike(
     file: &[u8],
-    table: &[u16],
+    table: &[Row],
     places: &[usize],
     shape: Shape,
     rule: &[u8],

@@ -13,6 +13,7 @@ use Rattle.meaning.specs.Deciding.{bit}
 use Rattle.meaning.specs.declared.Element.{Element}
 use Rattle.laws.proofs.Bits.{bit_zero, bit_above}
 use Rattle.laws.proofs.Bools.{Test, passed, failed, test}
+use Rattle.table.specs.declared.Row.{Row}
 use Rattle.matching.specs.Hits.{bit_of}
 use Rattle.rows.specs.Words.{word_from, applying_at}
 use Rattle.rows.specs.Rows.{Applied}
@@ -102,5 +103,5 @@ pub across_same : (rows : List ℕ) (n block : ℕ) {words other : List ℕ} →
 across_same rows n block same across = rw same across
 
 -- the rows of a table give the words of its requests
-pub across_applying : (t : List ℕ) (n : ℕ) (hit : ℕ → Element → Bool) (space : ℕ) (rows : List ℕ) → Applied t n hit space rows → (m : ℕ) → m < space → word_across rows n m ≡ applying_at t n hit m
+pub across_applying : (t : List Row) (n : ℕ) (hit : ℕ → Element → Bool) (space : ℕ) (rows : List ℕ) → Applied t n hit space rows → (m : ℕ) → m < space → word_across rows n m ≡ applying_at t n hit m
 across_applying t n hit space rows applied m l = word_alike _ _ 0 n (λ i a u. applied i m (omega arith) l)

@@ -3,7 +3,6 @@ use Rattle.std.specs.Prelude.{ℕ, Bool, true, false, cond}
 use Rattle.std.proofs.Math.Option.{Option, none, some}
 use Rattle.meaning.specs.Text.{Bytes, same, lower}
 use Rattle.meaning.specs.declared.Kind.{Kind}
-use Rattle.meaning.specs.declared.Word.{Word}
 use Rattle.meaning.specs.Model.{letter_text}
 use Rattle.meaning.specs.Reading.{kind_of, attribute_letter, obligation_letter}
 use Rattle.syntax.specs.declared.LineKind.{LineKind}
@@ -22,13 +21,3 @@ abbrev pub line_kind : Bytes → LineKind
 line_kind f =
     cond (attribute_letter f) (LineKind.Attribute (same f (letter_text true)))
     (cond (obligation_letter f) LineKind.Obligation (tree_kind (kind_of f)))
-
--- A word by its number; 6 is a word that is not allowed for its kind
-abbrev pub number_of_word : Option Word → ℕ
-number_of_word (some Word.Permit) = 0
-number_of_word (some Word.Deny) = 1
-number_of_word (some Word.DenyOverrides) = 2
-number_of_word (some Word.PermitOverrides) = 3
-number_of_word (some Word.FirstApplicable) = 4
-number_of_word (some Word.OnlyOneApplicable) = 5
-number_of_word none = 6

@@ -11,11 +11,12 @@ use borrow.Author.Tests.{eq-eqb, ne_eqb, le-leb, lt-leb, eqb-true, eqb-false}
 use lib.Dec.{eqb}
 use lib.Seq.{get_or-set_other}
 use Rattle.laws.proofs.Bools.{Test, passed, failed, test}
+use Rattle.table.specs.declared.Row.{Row}
 use Rattle.table.specs.Rows.{depth_of, element_at, word_number}
 use Rattle.table.specs.Tree.{left, next_child, RulesStruck}
 
 -- Element i, of the first n
-module _ (t struck : List ℕ) (n i : ℕ) where
+module _ (t : List Row) (struck : List ℕ) (n i : ℕ) where
   pub left_struck : i < n → (get_or struck i 0 ≡ 0 → ⊥) → left t struck i (n - i) ≡ left t struck (i + 1) (n - (i + 1))
   unfolding left
   left_struck l flag = let e : n - i ≡ suc (n - (i + 1)) = omega arith in rw (e, ne_eqb (get_or struck i 0) 0 flag)
@@ -51,10 +52,10 @@ module _ (t struck : List ℕ) (n i : ℕ) where
       child_behind live behind = rw (one_more, eq-eqb (get_or struck i 0) 0 live, le-leb (depth_of t i) d (omega arith), ne_eqb (depth_of t i) d (omega arith))
 
 -- Only rules are struck: where nothing is struck, and with one rule more
-pub none_struck : (t struck : List ℕ) (n : ℕ) → ((k : ℕ) → k < n → get_or struck k 0 ≡ 0) → RulesStruck t struck n
+pub none_struck : (t : List Row) (struck : List ℕ) (n : ℕ) → ((k : ℕ) → k < n → get_or struck k 0 ≡ 0) → RulesStruck t struck n
 none_struck t struck n live k l flag = absurd (flag (live k l))
 
-pub rule_struck : (t struck : List ℕ) (n i : ℕ) → RulesStruck t struck n → word_number t i < 2 → RulesStruck t (set struck i 1) n
+pub rule_struck : (t : List Row) (struck : List ℕ) (n i : ℕ) → RulesStruck t struck n → word_number t i < 2 → RulesStruck t (set struck i 1) n
 rule_struck t struck n i rules rule k l flag = go (test (eqb k i))
   where
     go : Test (eqb k i) → word_number t k < 2

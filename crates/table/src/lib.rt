@@ -1,11 +1,12 @@
-// The elements of a policy, lent as a table of numbers, and a flag for each: one that is not 0 strikes its element. How a row of the table lies is known here alone.
+// The elements of a policy, lent as a table with a row for each, and a flag for each: one that is not 0 strikes its element.
 #![tactic(auto)]
 
 ghost use Rattle.std.specs.Prelude.{◌≡◌, ◌+◌, ◌≤◌, ◌<◌, length, IfSome};
+ghost use Rattle.std.proofs.Math.Option.{some};
 ghost use Rattle.meaning.specs.Deciding.{matches};
 ghost use Rattle.requests.specs.Values.{values_of, severals_of};
 ghost use Rattle.laws.specs.Found.{found};
-ghost use Rattle.table.specs.Rows.{Rows, word_at, word_number, depth_of, masks_at, element_at, with_row};
+ghost use Rattle.table.specs.Rows.{Rows, word_at, number_of_word, row_of, word_number, depth_of, masks_at, element_at, with_row};
 ghost use Rattle.table.specs.Tree.{parent_of, over_of, Over, rule_left, next_child, Room};
 
 use meaning::Word;
@@ -25,9 +26,42 @@ pub struct Shape {
 // An element's row: its word's number, its depth and its masks.
 #[derive(Clone, Copy)]
 pub struct Row {
+    // a number, since the functions below take a table of any numbers
     pub word: u16,
     pub depth: u16,
     pub masks: [u16; 6],
+}
+
+impl Row {
+    pub const NONE: Row = Row {
+        word: 0,
+        depth: 0,
+        masks: [0; 6],
+    };
+
+    pub fn new(word: Word, depth: u16, masks: [u16; 6]) -> Row
+        ensures { result ≡ row_of (some word) depth masks }
+    {
+        Row {
+            word: number_of(word),
+            depth,
+            masks,
+        }
+    }
+}
+
+// The number of a word.
+fn number_of(word: Word) -> u16
+    ensures { result ≡ number_of_word (some word) }
+{
+    match word {
+        Word::Permit => 0,
+        Word::Deny => 1,
+        Word::DenyOverrides => 2,
+        Word::PermitOverrides => 3,
+        Word::FirstApplicable => 4,
+        Word::OnlyOneApplicable => 5,
+    }
 }
 
 // The word of that number.
@@ -45,55 +79,49 @@ fn word_of(number: u16) -> Word
 }
 
 // Element i's word, its depth and its masks.
-pub fn word_at(table: &[u16], i: usize) -> Word
+#[tactic(auto, unfolding(crate::specs::Rows::word_number))]
+pub fn word_at(table: &[Row], i: usize) -> Word
     requires { Rows table.now (i + 1) }
     ensures { result ≡ word_at (word_number table.now i) }
 {
-    word_of(table[8 * i])
+    word_of(table[i].word)
 }
 
-pub fn depth_at(table: &[u16], i: usize) -> usize
+#[tactic(auto, unfolding(crate::specs::Rows::depth_of))]
+pub fn depth_at(table: &[Row], i: usize) -> usize
     requires { Rows table.now (i + 1) }
     ensures { (result ≡ depth_of table.now i) × (result < 65536) }
 {
-    usize::from(table[8 * i + 1])
+    usize::from(table[i].depth)
 }
 
-pub fn masks_at(table: &[u16], i: usize) -> [u16; 6]
+#[tactic(auto, unfolding(crate::specs::Rows::masks_at))]
+pub fn masks_at(table: &[Row], i: usize) -> [u16; 6]
     requires { Rows table.now (i + 1) }
     ensures { result ≡ masks_at table.now i }
 {
-    let at = 8 * i + 2;
-    [
-        table[at],
-        table[at + 1],
-        table[at + 2],
-        table[at + 3],
-        table[at + 4],
-        table[at + 5],
-    ]
+    table[i].masks
 }
 
 // Whether a request matches element i's own target.
-pub fn matches(table: &[u16], i: usize, q: Request) -> bool
+#[tactic(auto, unfolding(crate::specs::Rows::element_at, crate::specs::Rows::masks_at))]
+pub fn matches(table: &[Row], i: usize, q: Request) -> bool
     requires { Rows table.now (i + 1) × (q.len ≤ 6) }
     ensures { result ≡ matches (severals_of q) (values_of q) (element_at table.now i) }
 {
-    q.matches(table, 8 * i + 2)
+    q.matches(&table[i].masks)
 }
 
 // Puts an element's row into the table.
-pub fn put_row(table: &mut [u16], i: usize, row: Row)
+pub fn put_row(table: &mut [Row], i: usize, row: Row)
     requires { Rows table.old (i + 1) }
-    ensures { table.new ≡ with_row table.old i row.word row.depth row.masks }
+    ensures { table.new ≡ with_row table.old i row }
 {
-    table[8 * i] = row.word;
-    table[8 * i + 1] = row.depth;
-    table[8 * i + 2..8 * i + 8].copy_from_slice(&row.masks);
+    table[i] = row;
 }
 
 // Whether element i is a rule that is not struck.
-pub fn is_left(table: &[u16], struck: &[u8], i: usize) -> bool
+pub fn is_left(table: &[Row], struck: &[u8], i: usize) -> bool
     requires { Rows table.now (i + 1) × (i < length struck.now) }
     ensures { result ≡ rule_left table.now struck.now i }
 {
@@ -101,7 +129,7 @@ pub fn is_left(table: &[u16], struck: &[u8], i: usize) -> bool
 }
 
 // The parent of element i: the nearest earlier element of depth one less.
-pub fn parent(table: &[u16], i: usize) -> Option<usize>
+pub fn parent(table: &[Row], i: usize) -> Option<usize>
     requires { Rows table.now (i + 1) }
     ensures value { result ≡ found (parent_of table.now i) }
     ensures earlier { IfSome result (λ up. up < i) }
@@ -116,7 +144,7 @@ pub fn parent(table: &[u16], i: usize) -> Option<usize>
 }
 
 // The nearest earlier element that is less deep, or the element itself where there is none.
-pub fn over(table: &[u16], i: usize) -> usize
+pub fn over(table: &[Row], i: usize) -> usize
     requires { Rows table.now (i + 1) }
     ensures value { result ≡ over_of table.now i }
     ensures above { Over table.now result i }
@@ -132,7 +160,7 @@ pub fn over(table: &[u16], i: usize) -> usize
 
 // The next child at the depth that is not struck, from `from` on; none where an element of a lower depth, or no element, comes first.
 pub fn next_child(
-    table: &[u16],
+    table: &[Row],
     struck: &[u8],
     n: usize,
     from: usize,

@@ -8,6 +8,7 @@ use lib.ListN.{length, length-set}
 use Rattle.std.specs.Prelude.{Option}
 use Rattle.meaning.specs.Text.{Bytes}
 use Rattle.meaning.specs.Deciding.{Outcome, same_outcome}
+use Rattle.table.specs.declared.Row.{Row}
 use Rattle.table.specs.declared.Shape.{Shape}
 use Rattle.table.specs.Shape.{hit_of}
 use Rattle.moves.specs.Moved.{kept}
@@ -19,7 +20,7 @@ use Rattle.trials.specs.Decided.{apart_at}
 use Rattle.trials.specs.Trial.{Trial, Copied}
 use Rattle.trials.proofs.Copying.{outcome_copied, copied_kept}
 
-module _ (f : Bytes) (places t struck hits outcomes : List ℕ) (s : Shape) (rule : ℕ) (trial : Trial f places t struck hits outcomes s rule) (copy : List ℕ) (room : s.n ≤ length copy) (copied : Copied struck s.n copy) where
+module _ (f : Bytes) (places : List ℕ) (t : List Row) (struck hits outcomes : List ℕ) (s : Shape) (rule : ℕ) (trial : Trial f places t struck hits outcomes s rule) (copy : List ℕ) (room : s.n ≤ length copy) (copied : Copied struck s.n copy) where
   abbrev before : List ℕ
   before = kept copy rule
 

@@ -14,6 +14,7 @@ use Rattle.meaning.specs.declared.Element.{Element}
 use Rattle.meaning.specs.Text.{Bytes}
 use Rattle.meaning.specs.Deciding.{first_decision}
 use Rattle.laws.proofs.Bools.{Test, passed, failed, test}
+use Rattle.table.specs.declared.Row.{Row}
 use Rattle.table.specs.Tree.{left}
 use Rattle.decisions.specs.Replies.{replies_from, reply_at}
 use Rattle.chains.specs.Chain.{chained_in, chained}
@@ -21,7 +22,7 @@ use Rattle.moves.specs.Moved.{kept}
 use Rattle.obligations.specs.Given.{given_text, outcome_left}
 use Rattle.trials.specs.Trial.{Copied}
 
-module _ (t a b : List ℕ) (n : ℕ) (copied : Copied a n b) where
+module _ (t : List Row) (a b : List ℕ) (n : ℕ) (copied : Copied a n b) where
   left_copied : (m i : ℕ) → i + m ≤ n → left t b i m ≡ left t a i m
   unfolding left
   left_copied zero i l = refl

@@ -13,6 +13,7 @@ use Rattle.meaning.specs.Deciding.{bit, is, same_outcome}
 use Rattle.laws.proofs.Bits.{bit_zero}
 use Rattle.laws.proofs.Bools.{Test, passed, failed, test, contradiction}
 use Rattle.laws.proofs.Outcomes.{outcome_same}
+use Rattle.table.specs.declared.Row.{Row}
 use Rattle.table.specs.Rows.{element_at}
 use Rattle.table.specs.declared.Shape.{Shape}
 use Rattle.table.specs.Shape.{hit_of}
@@ -28,7 +29,7 @@ use Rattle.trials.specs.Steady.{Unchanged}
 use Rattle.trials.specs.Trial.{Grouped, Trial, Reached}
 
 -- Rule `rule`, which is tried
-module _ (f : Bytes) (places t struck hits outcomes : List ℕ) (s : Shape) (rule : ℕ) (trial : Trial f places t struck hits outcomes s rule) where
+module _ (f : Bytes) (places : List ℕ) (t : List Row) (struck hits outcomes : List ℕ) (s : Shape) (rule : ℕ) (trial : Trial f places t struck hits outcomes s rule) where
   abbrev parted : ℕ → Bool
   parted = apart_at f places t s.n (hit_of s) struck rule
 

@@ -16,6 +16,7 @@ use Rattle.laws.proofs.Bools.{contradiction, and_true}
 use Rattle.laws.specs.Found.{found}
 use Rattle.laws.proofs.Found.{found_some, found_none}
 use Rattle.laws.proofs.Search.{first_some, first_none}
+use Rattle.table.specs.declared.Row.{Row}
 use Rattle.table.specs.Rows.{word_number}
 use Rattle.table.specs.Tree.{place_or, rule_left}
 use Rattle.table.specs.declared.Shape.{Shape}
@@ -45,11 +46,11 @@ module _ (p : ℕ → Bool) (size : ℕ) where
       go (some m) e = ap is_none e
 
 -- a rule is not the first element
-pub rule_first : (t : List ℕ) (i : ℕ) → word_number t i < 2 → 2 ≤ word_number t 0 → i ≡ 0 → ⊥
+pub rule_first : (t : List Row) (i : ℕ) → word_number t i < 2 → 2 ≤ word_number t 0 → i ≡ 0 → ⊥
 rule_first t i rule root first = let word : word_number t 0 < 2 = rw first at rule in omega arith
 
 -- Element i, which is a rule, is struck
-pub ready_set : {t struck : List ℕ} {s : Shape} (i : ℕ) → word_number t i < 2 → PolicyTable t struck s → PolicyTable t (set struck i 1) s
+pub ready_set : {t : List Row} {struck : List ℕ} {s : Shape} (i : ℕ) → word_number t i < 2 → PolicyTable t struck s → PolicyTable t (set struck i 1) s
 ready_set {t} {struck} {s} i rule ready =
     record {
       rows = ready.rows;
@@ -70,7 +71,7 @@ pub set_back : (struck : List ℕ) (i flag : ℕ) → get_or struck i 0 ≡ flag
 set_back struck i flag e = set-set struck i 1 flag ∙ ap (set struck i) (sym e) ∙ set-get_or struck i 0
 
 -- Element i, which is left: what is apart with its flag set is what changes without it
-module _ (f : Bytes) (places t struck : List ℕ) (s : Shape) (i : ℕ) (live : get_or struck i 0 ≡ 0) where
+module _ (f : Bytes) (places : List ℕ) (t : List Row) (struck : List ℕ) (s : Shape) (i : ℕ) (live : get_or struck i 0 ≡ 0) where
   abbrev parted : ℕ → Bool
   parted = apart_at f places t s.n (hit_of s) (set struck i 1) i
 
@@ -96,7 +97,7 @@ module _ (f : Bytes) (places t struck : List ℕ) (s : Shape) (i : ℕ) (live : 
   rule_needed rule m l e = (rw rule (sym (ap is_none first_changes) ∙ one_shown parted s.space m l e), l, sym (apart_changes m) ∙ e)
 
 -- A rule that is left has the flag 0, and the word of an effect
-module _ (t struck : List ℕ) (i : ℕ) (rule : rule_left t struck i ≡ true) where
+module _ (t : List Row) (struck : List ℕ) (i : ℕ) (rule : rule_left t struck i ≡ true) where
   pub rule_flag : get_or struck i 0 ≡ 0
   rule_flag = eqb-true (get_or struck i 0) 0 (and_true (eqb (get_or struck i 0) 0) (ltb (word_number t i) 2) rule).0
 
@@ -125,7 +126,7 @@ module _ (t struck : List ℕ) (i : ℕ) (rule : rule_left t struck i ≡ true) 
       }
 
 -- An element that is no rule left, and the request shown for each
-module _ (f : Bytes) (places t struck : List ℕ) (s : Shape) (i : ℕ) where
+module _ (f : Bytes) (places : List ℕ) (t : List Row) (struck : List ℕ) (s : Shape) (i : ℕ) where
   pub needless_other : rule_left t struck i ≡ false → needless_at f places t s.n (hit_of s) s.space struck i ≡ false
   unfolding needless_at
   needless_other other = rw other
@@ -143,9 +144,9 @@ module _ (f : Bytes) (places t struck : List ℕ) (s : Shape) (i : ℕ) where
   shown_other other = rw other
 
 -- Flags that are those of the start
-pub asks : {f : Bytes} {places t first struck hits outcomes : List ℕ} {s : Shape} → struck ≡ first → Laid f places t first hits outcomes s → Laid f places t struck hits outcomes s
+pub asks : {f : Bytes} {places : List ℕ} {t : List Row} {first struck hits outcomes : List ℕ} {s : Shape} → struck ≡ first → Laid f places t first hits outcomes s → Laid f places t struck hits outcomes s
 asks same laid = rw same laid
 
 -- The places have room for the obligations of all elements
-pub obligation_room : {f : Bytes} {places t struck : List ℕ} {s : Shape} → Steady f places t s → PolicyTable t struck s → 128 + 4 * s.n ≤ length places
+pub obligation_room : {f : Bytes} {places : List ℕ} {t : List Row} {struck : List ℕ} {s : Shape} → Steady f places t s → PolicyTable t struck s → 128 + 4 * s.n ≤ length places
 obligation_room steady ready = differences.obligation_room steady.obliged ready

@@ -4,13 +4,14 @@ use Rattle.std.proofs.Math.Option.{Option}
 use Rattle.meaning.specs.Text.{Bytes, is_none, first_from}
 use Rattle.meaning.specs.Deciding.{same_outcome}
 use Rattle.meaning.specs.declared.Element.{Element}
+use Rattle.table.specs.declared.Row.{Row}
 use Rattle.table.specs.Tree.{place_or, rule_left}
 use Rattle.moves.specs.Moved.{kept}
 use Rattle.obligations.specs.Given.{outcome_left}
 use Rattle.differences.specs.Apart.{apart}
 
 -- A policy: its file, where its elements and their obligations stand there, its table, the number of its elements, which requests match an element's own target, and how many there are
-module _ (f : Bytes) (places t : List ℕ) (n : ℕ) (hit : ℕ → Element → Bool) where
+module _ (f : Bytes) (places : List ℕ) (t : List Row) (n : ℕ) (hit : ℕ → Element → Bool) where
   -- request m gets another decision, or other obligations, without element i
   unfoldable pub changes_at : List ℕ → ℕ → ℕ → Bool
   changes_at struck i m = not (same_outcome (outcome_left (hit m) f t places struck n) (outcome_left (hit m) f t places (set struck i 1) n))

@@ -4,6 +4,7 @@ use Rattle.std.proofs.Math.Option.{none}
 use Rattle.meaning.specs.Text.{Bytes, first_from}
 use Rattle.meaning.specs.declared.Element.{Element}
 use Rattle.meaning.specs.Deciding.{bit}
+use Rattle.table.specs.declared.Row.{Row}
 use Rattle.table.specs.declared.Shape.{Shape}
 use Rattle.table.specs.Shape.{hit_of}
 use Rattle.table.specs.Tree.{rule_left}
@@ -17,26 +18,26 @@ use Rattle.trials.specs.Decided.{changes_at, needless_at}
 use Rattle.trials.specs.Steady.{Aside, Steady}
 
 -- element `up`, unless it is n, has the rule as a child and looks at its children's decisions alone
-pub record Grouped (t : List ℕ) (n rule up : ℕ) : Type 0 where
+pub record Grouped (t : List Row) (n rule up : ℕ) : Type 0 where
   pub within : up ≤ n
   pub under : up < n → Under t up rule
 
 -- a file, its table and the flags, which requests match, and the decisions laid down: what is asked where rules are tried
-pub record Laid (f : Bytes) (places t struck hits outcomes : List ℕ) (s : Shape) : Type 0 where
+pub record Laid (f : Bytes) (places : List ℕ) (t : List Row) (struck hits outcomes : List ℕ) (s : Shape) : Type 0 where
   pub steady : Steady f places t s
   pub ready : PolicyTable t struck s
   pub matched : HitsLaid t hits s
   pub holds : OutcomesLaid t struck outcomes s
 
 -- rule `rule` is tried by its flag: the decisions laid down are those with it
-pub record Trial (f : Bytes) (places t struck hits outcomes : List ℕ) (s : Shape) (rule : ℕ) : Type 0 where
+pub record Trial (f : Bytes) (places : List ℕ) (t : List Row) (struck hits outcomes : List ℕ) (s : Shape) (rule : ℕ) : Type 0 where
   pub steady : Steady f places t s
   pub aside : Aside t struck s rule
   pub matched : HitsLaid t hits s
   pub holds : OutcomesLaid t (kept struck rule) outcomes s
 
 -- each bit of the word says whether the rule moves what `up` decides; where there is no such element, whether it matches
-pub record Reached (t struck hits : List ℕ) (n block up rule word : ℕ) : Type 0 where
+pub record Reached (t : List Row) (struck hits : List ℕ) (n block up rule word : ℕ) : Type 0 where
   pub moves : up < n → (v : ℕ) (hit : Element → Bool) → Answers t hits n block v hit → bit word v ≡ moved_at hit t struck n up rule
   pub matches : n ≤ up → word ≡ get_or hits (64 * rule + block) 0
 
@@ -46,7 +47,7 @@ Tries test space None = first_from test 0 space ≡ none
 Tries test space (Some m) = (m < space) × (test m ≡ true)
 
 -- what trying element i tells: no rule that is left, a needless one, or one that request m shows needed
-abbrev pub Tells : Bytes → (places t struck : List ℕ) → Shape → (i : ℕ) → Tried → Type 0
+abbrev pub Tells : Bytes → (places : List ℕ) (t : List Row) (struck : List ℕ) → Shape → (i : ℕ) → Tried → Type 0
 Tells f places t struck s i Other = rule_left t struck i ≡ false
 Tells f places t struck s i Needless = needless_at f places t s.n (hit_of s) s.space struck i ≡ true
 Tells f places t struck s i (Needed m) =

@@ -16,6 +16,7 @@ ghost use Rattle.trials.specs.Trial.{Grouped, Laid, Trial, Tries, Tells};
 
 use differences::{PolicyFile, PolicyOutcomes};
 use meaning::Word;
+use table::Row;
 
 // What trying an element tells: it is no rule that is left, a needless rule, or one that a request needs.
 #[derive(Clone, Copy)]
@@ -26,7 +27,7 @@ pub enum Tried {
 }
 
 // The element whose child a rule is, if it looks at its children's decisions alone; n for any other rule.
-fn group_over(table: &[u16], n: usize, rule: usize) -> usize
+fn group_over(table: &[Row], n: usize, rule: usize) -> usize
     requires { Rows table.now n × (rule < n) }
     ensures { Grouped table.now n rule result }
 {

@@ -10,6 +10,7 @@ use Rattle.meaning.specs.Text.{Bytes}
 use Rattle.meaning.specs.Trimming.{next_struck}
 use Rattle.laws.proofs.Search.{last_some}
 use Rattle.laws.proofs.Reading.{accepted}
+use Rattle.table.specs.declared.Row.{Row}
 use Rattle.table.specs.declared.Shape.{Shape}
 use Rattle.table.specs.Shape.{hit_of}
 use Rattle.outcomes.specs.Decided.{none_struck}
@@ -28,7 +29,7 @@ use Rattle.trimmed_text.proofs.Whole.{line_of, next_line}
 pub naming_room : (f : Bytes) (places : List ℕ) (n : ℕ) → 1 ≤ n → Naming f places n → 2 * n ≤ length places
 naming_room f places n l naming = omega (arith, (naming.each (n - 1) (omega arith)).room)
 
-module _ (f table places : List ℕ) (s : Shape) (held : PolicyHeld f table places s) where
+module _ (f : List ℕ) (table : List Row) (places : List ℕ) (s : Shape) (held : PolicyHeld f table places s) where
   pub sizes : length held.policy.elements ≡ s.n
   sizes = count_is f table places s.n held.policy held.elements
 

@@ -20,6 +20,7 @@ use Rattle.laws.proofs.Reading.{accepted}
 use Rattle.laws.proofs.Lines.{unlines, unlines_append, text_unlines}
 use Rattle.laws.proofs.Places.{lines_in}
 use Rattle.laws.proofs.ElementLines.{file_count}
+use Rattle.table.specs.declared.Row.{Row}
 use Rattle.layout.specs.Places.{part, start_of, obligation_count, elements_to, line_start, lines_to, Lined}
 use Rattle.layout.proofs.Slots.{count_is, obligations_of_lem}
 use Rattle.trimmed_text.specs.Flags.{is_left, left_from, line_count, lines_by_element, text_left}
@@ -85,7 +86,7 @@ module _ (f : Bytes) (ls : List Bytes) (free : Frees newline ls) (text : f ≡ u
       ∙ take-append_seam x (unlines (drop m (drop k ls)))
 
 -- The places of an accepted file's lines copy the text left
-module _ (f : Bytes) (p : Policy) (h : read f ≡ given p) (table places struck : List ℕ) (a n : ℕ) (attributes : length p.attributes ≡ a)
+module _ (f : Bytes) (p : Policy) (h : read f ≡ given p) (table : List Row) (places struck : List ℕ) (a n : ℕ) (attributes : length p.attributes ≡ a)
     (is : p.elements ≡ reverse (elements_to f table places n)) (elements : length p.elements ≡ n) (lined : Lined (line_start f) places a n (length f)) where
   abbrev own : List Bytes
   own = front (lines f)

@@ -19,6 +19,7 @@ use Rattle.laws.proofs.Outcomes.{same_decision}
 use Rattle.laws.proofs.Obligations.{Bare}
 use Rattle.laws.proofs.Unchanged.{Gone, gone, deeper, Same, parent, later, same_outcome_lem}
 use Rattle.laws.proofs.Policies.{policy_bare}
+use Rattle.table.specs.declared.Row.{Row}
 use Rattle.table.specs.Rows.{word_at, algorithm_at, algorithm_number, depth_of, element_at, word_number}
 use Rattle.table.specs.Tree.{Leaves, RulesStruck, Over}
 use Rattle.table.specs.declared.Shape.{Shape}
@@ -34,7 +35,7 @@ use Rattle.obligations.proofs.Left.{left_bare, all_elements, outcome_left_lem}
 use Rattle.trials.specs.Steady.{Aside, Steady}
 use Rattle.trimmed_text.proofs.ByPlace.{some_element, top_depth, parent_of, policy_over}
 
-module _ (f : Bytes) (table places : List ℕ) (n : ℕ) where
+module _ (f : Bytes) (table : List Row) (places : List ℕ) (n : ℕ) where
   -- what is left behind element i
   abbrev behind : List ℕ → ℕ → List Element
   behind struck i = left_elements f table places struck (i + 1) (n - (i + 1))
@@ -48,7 +49,7 @@ module _ (f : Bytes) (table places : List ℕ) (n : ℕ) where
       (sym (replies_bare bs q (suc (depth_of table i)) (behind struck i)) ∙ ap (child_replies (matches bs q) (suc (depth_of table i))) (left_bare f table places struck (i + 1) (n - (i + 1))))
 
 -- Flags that are set for rules alone leave no obligations where there were none
-module _ (f : Bytes) (table places : List ℕ) (n : ℕ) (leaves : Leaves table n) (struck : List ℕ) (rules : RulesStruck table struck n) (d : Decision) (c : ℕ) where
+module _ (f : Bytes) (table : List Row) (places : List ℕ) (n : ℕ) (leaves : Leaves table n) (struck : List ℕ) (rules : RulesStruck table struck n) (d : Decision) (c : ℕ) where
   within_bare : (es : List Element) → FirstWithin c (map bare es) → Bare d (suc c) es
   within_bare [] w = tt
   within_bare (e ∷ es) w = inl (omega arith)
@@ -71,7 +72,7 @@ module _ (f : Bytes) (table places : List ℕ) (n : ℕ) (leaves : Leaves table 
       go (failed x) (inr (none, b)) further = rw x (further b)
 
 -- A rule of a policy, with it and without it
-module _ (f : Bytes) (table places : List ℕ) (n : ℕ) (struck : List ℕ) (rule up : ℕ) (over : Over table up rule) (earlier : up < rule) (inside : rule < n) (room : n ≤ length struck) (flag : get_or struck rule 0 ≡ 1) where
+module _ (f : Bytes) (table : List Row) (places : List ℕ) (n : ℕ) (struck : List ℕ) (rule up : ℕ) (over : Over table up rule) (earlier : up < rule) (inside : rule < n) (room : n ≤ length struck) (flag : get_or struck rule 0 ≡ 1) where
   live : get_or (kept struck rule) rule 0 ≡ 0
   live = get_or-set_same struck rule 0 0 (omega arith)
 
@@ -118,7 +119,7 @@ module _ (f : Bytes) (table places : List ℕ) (n : ℕ) (struck : List ℕ) (ru
           let other : j ≢ up = eqb-false j up x in
           rw (get_or-set_other struck rule j 0 0 (omega arith), y) (further (omega arith))
 
-module _ (f : Bytes) (p : Policy) (h : read f ≡ given p) (table places : List ℕ) (s : Shape) (is : p.elements ≡ reverse (elements_to f table places s.n)) where
+module _ (f : Bytes) (p : Policy) (h : read f ≡ given p) (table : List Row) (places : List ℕ) (s : Shape) (is : p.elements ≡ reverse (elements_to f table places s.n)) where
   abbrev n : ℕ
   n = s.n
 

@@ -12,6 +12,7 @@ use borrow.Author.Tests.{eqb-true, eqb-false}
 use Rattle.meaning.specs.Text.{Bytes}
 use Rattle.meaning.specs.Deciding.{same_outcome}
 use Rattle.laws.proofs.Bools.{Test, passed, failed, test}
+use Rattle.table.specs.declared.Row.{Row}
 use Rattle.table.specs.Rows.{element_at, word_number}
 use Rattle.table.specs.Tree.{rule_left}
 use Rattle.table.specs.declared.Shape.{Shape}
@@ -24,7 +25,7 @@ use Rattle.trimming.specs.Known.{IsSet, Known, Forgets}
 use Rattle.trials.proofs.Trying.{one_shown, ready_set, set_back, rule_flag, rule_word, aside}
 use Rattle.trimming.proofs.Strikes.{needless_both, outcome_same}
 
-module _ (f : Bytes) (places t : List ℕ) (s : Shape) where
+module _ (f : Bytes) (places : List ℕ) (t : List Row) (s : Shape) where
   abbrev Knows : (struck hints known : List ℕ) → Type 0
   Knows = Known f places t s
 

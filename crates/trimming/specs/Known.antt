@@ -1,6 +1,7 @@
 -- Rules that are known to be needed, by a request that gets another decision, or other obligations, without them.
 use Rattle.std.specs.Prelude.{ℕ, ◌<◌, ◌≡◌, true, false, List, length, get_or}
 use Rattle.meaning.specs.Text.{Bytes}
+use Rattle.table.specs.declared.Row.{Row}
 use Rattle.table.specs.Tree.{rule_left}
 use Rattle.table.specs.declared.Shape.{Shape}
 use Rattle.table.specs.Shape.{hit_of}
@@ -16,7 +17,7 @@ abbrev pub HintsFit : ℕ → List ℕ → List ℕ → Type 0
 HintsFit n hints known = (i : ℕ) → i < n → IsSet known i → get_or hints i 0 < 4096
 
 -- each rule that is known, and left, is shown needed by its hint
-abbrev pub Known : Bytes → (places t : List ℕ) → Shape → (struck hints known : List ℕ) → Type 0
+abbrev pub Known : Bytes → (places : List ℕ) (t : List Row) → Shape → (struck hints known : List ℕ) → Type 0
 Known f places t s struck hints known =
     (i : ℕ) → i < s.n → IsSet known i
     → (get_or hints i 0 < s.space) × (rule_left t struck i ≡ true → changes_at f places t s.n (hit_of s) struck i (get_or hints i 0) ≡ true)

@@ -23,6 +23,7 @@ use Rattle.laws.proofs.Bounds.{all_has, bounded}
 use Rattle.laws.proofs.Requests.{Positive, product_pos, product_parts}
 use Rattle.laws.proofs.Answers.{positive}
 use Rattle.laws.proofs.NamedAttribute.{found_named}
+use Rattle.table.specs.declared.Row.{Row}
 use Rattle.table.specs.declared.Shape.{Shape}
 use Rattle.table.specs.Shape.{counts_of, hit_of}
 use Rattle.outcomes.specs.Decided.{none_struck, decided_at}
@@ -53,7 +54,7 @@ few_choices attrs name b good =
     ap (λ l. get_or (sizes l) place 0) b.in_file ∙ ap (λ l. get_or l place 0) (map-append choices b.before (own ∷ b.behind)) ∙ get_or_at (sizes b.before) (choices own) (sizes b.behind) 0 place (length-map b.before choices) in
     omega (arith, here, count, pow_mono few)
 
-module _ (f : Bytes) (a : Attributes) (table : List ℕ) (s : Shape) (held : PolicyDecided f a table s) where
+module _ (f : Bytes) (a : Attributes) (table : List Row) (s : Shape) (held : PolicyDecided f a table s) where
   abbrev attrs : List Attribute
   attrs = held.policy.attributes
 

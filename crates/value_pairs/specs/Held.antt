@@ -4,6 +4,7 @@ use Rattle.meaning.specs.Text.{Bytes}
 use Rattle.meaning.specs.Model.{Policy, sizes, Result, refused, given}
 use Rattle.meaning.specs.Reading.{read}
 use Rattle.meaning.specs.Deciding.{decision_on}
+use Rattle.table.specs.declared.Row.{Row}
 use Rattle.table.specs.declared.Shape.{Shape}
 use Rattle.table.specs.Shape.{counts_of, hit_of}
 use Rattle.outcomes.specs.Decided.{none_struck, decided_at}
@@ -16,7 +17,7 @@ place_or13 None = refused 13 0
 place_or13 (Some place) = given place
 
 -- the policy that reading f gives: where its attributes stand, how many choices they have, and what the table decides
-pub record PolicyDecided (f : Bytes) (a : Attributes) (table : List ℕ) (s : Shape) : Type 0 where
+pub record PolicyDecided (f : Bytes) (a : Attributes) (table : List Row) (s : Shape) : Type 0 where
   pub policy : Policy
   pub is_read : read f ≡ given policy
   pub attributes : policy.attributes ≡ attributes_of f a

@@ -14,7 +14,7 @@ ghost use Rattle.value_pairs.specs.Held.{place_or13, PolicyDecided};
 
 use layout::Attributes;
 use meaning::{Answer, Decision};
-use table::Shape;
+use table::{Row, Shape};
 
 // The place of the attribute of an `M` line that has this name.
 fn several_at(file: &[u8], a: Attributes, name: &[u8]) -> Option<usize>
@@ -153,7 +153,7 @@ fn put_pairs(
 pub fn tell(
     file: &[u8],
     attributes: Attributes,
-    table: &[u16],
+    table: &[Row],
     shape: Shape,
     name: &[u8],
     out: &mut [u8],

@@ -5,7 +5,7 @@ ghost use Rattle.outcomes.specs.PolicyTable.{PolicyTable};
 
 use meaning::Decision;
 use requests::Request;
-use table::Shape;
+use table::{Row, Shape};
 
 // The decision of a word, if it is one's.
 fn decision_of(word: &[u8]) -> Option<Decision> {
@@ -67,7 +67,7 @@ fn lay_decisions(report: &[u8], told: &mut [Option<Decision>]) {
 }
 
 // Whether element i applies to a request, where the word tells it of those before it.
-fn applies(table: &[u16], n: usize, q: Request, word: u64, i: usize) -> bool
+fn applies(table: &[Row], n: usize, q: Request, word: u64, i: usize) -> bool
     requires { Rows table.now n × (n ≤ 64) × (i < n) × (q.len ≤ 6) }
 {
     if !table::matches(table, i, q) {
@@ -80,7 +80,7 @@ fn applies(table: &[u16], n: usize, q: Request, word: u64, i: usize) -> bool
 }
 
 // The elements that apply to a request, a bit for each.
-fn applying(table: &[u16], n: usize, q: Request) -> u64
+fn applying(table: &[Row], n: usize, q: Request) -> u64
     requires { Rows table.now n × (n ≤ 64) × (q.len ≤ 6) }
 {
     let mut word: u64 = 0;
@@ -103,7 +103,7 @@ fn first_alike(words: &[u64; 4096], m: usize) -> usize
 
 // Goes from request 0 to the last one and back to the first, and holds each to its number; where the decisions are told, to that of its segment, too.
 fn step_all(
-    table: &[u16],
+    table: &[Row],
     struck: &[u8],
     shape: Shape,
     told: Option<&[Option<Decision>; 4096]>,
@@ -133,7 +133,7 @@ fn step_all(
 
 // Whether all requests of a file are as its report says; refused files count, and of one that has no report the numbers.
 pub(crate) fn stepped(file: &[u8], report: &[u8]) -> bool {
-    let mut table = [0u16; 512];
+    let mut table = [Row::NONE; 64];
     let mut places = [0usize; 384];
     let shape = match reader::read(file, &mut table, &mut places) {
         Ok(policy) => policy.shape(),

@@ -7,12 +7,13 @@ use native.Mathlib.Omega.{arith}
 use lib.Dec.{ltb}
 use borrow.Author.Tests.{lt-ltb, le-ltb}
 use Rattle.laws.proofs.Search.{last_is, last_absent}
+use Rattle.table.specs.declared.Row.{Row}
 use Rattle.table.specs.Rows.{depth_of}
 use Rattle.table.specs.Tree.{place_or, over_of}
 use Rattle.table.proofs.over.Goals as goal
 
 -- element k is less deep than i
-abbrev lower : List ℕ → ℕ → ℕ → Bool
+abbrev lower : List Row → ℕ → ℕ → Bool
 lower t i k = ltb (depth_of t k) (depth_of t i)
 
 pub returns-then-depth_at-depth-clause-value : goal.returns-then-depth_at-depth-clause-value

@@ -14,7 +14,7 @@ returns-then-not-in_field c =
     let letters : length c.args.self.several ≡ 6 = search rules in
     let out : c.in_field.result ≡ false = c.if-not-in_field.true in
     sym (turn.invariant
-    ∙ within_more c.args.at c.args.self.len turn.i c.args.self.several c.args.masks.now c.args.self.values c.requires.0 c.requires.1 (omega arith) (omega arith) (omega arith)
+    ∙ within_more c.args.self.len turn.i c.args.self.several c.args.masks.now c.args.self.values c.requires.0 (omega arith) (omega arith) (omega arith)
     ∙ rw (← c.in_field.ensures, out))
 
 pub loop-i-preserved : goal.loop-i-preserved
@@ -24,7 +24,7 @@ loop-i-preserved c =
     let letters : length c.args.self.several ≡ 6 = search rules in
     let in-mask : c.in_field.result ≡ true = c.if-not-in_field.false in
     turn.invariant
-    ∙ within_more c.args.at c.args.self.len turn.i c.args.self.several c.args.masks.now c.args.self.values c.requires.0 c.requires.1 (omega arith) (omega arith) (omega arith)
+    ∙ within_more c.args.self.len turn.i c.args.self.several c.args.masks.now c.args.self.values c.requires.0 (omega arith) (omega arith) (omega arith)
     ∙ rw (← c.in_field.ensures, in-mask)
 
 pub returns : goal.returns
@@ -32,4 +32,4 @@ returns c =
     let turn = c.loop-i in
     let six : length c.args.self.values ≡ 6 = search rules in
     let letters : length c.args.self.several ≡ 6 = search rules in
-    sym (turn.invariant ∙ within_all c.args.at c.args.self.len turn.i c.args.self.several c.args.masks.now c.args.self.values c.requires.0 c.requires.1 (omega arith) (omega arith) (omega arith))
+    sym (turn.invariant ∙ within_all c.args.self.len turn.i c.args.self.several c.args.masks.now c.args.self.values c.requires.0 (omega arith) (omega arith) (omega arith))
