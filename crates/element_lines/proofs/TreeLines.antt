@@ -75,10 +75,7 @@ module _ (s : Sofar) (fs : List Bytes) (k : Kind) (n : ℕ) (line : TreeLine fs 
         let placed = (or_false (empty s.attributes) (not (well_placed k (depth_of (get_or fs 1 [])) s.before)) f6).1 in
         (leb-false 64 (length s.before) f5, placed_depth k (depth_of (get_or fs 1 [])) s.before (not-false (well_placed k (depth_of (get_or fs 1 [])) s.before) placed), f7)
 
--- equal rows and places, laid
-pub same_row : (table : List Row) (i : ℕ) {w w' : Option Word} {d d' : ℕ} → w ≡ w' → d ≡ d' → (masks : List ℕ) → with_row table i (row_of w d masks) ≡ with_row table i (row_of w' d' masks)
-same_row table i e g masks = ap₂ (λ w d. with_row table i (row_of w d masks)) e g
-
+-- equal places, laid
 pub same_end : (places : List ℕ) (i at : ℕ) {name name' : Bytes} → name ≡ name' → sets places i (at ∷ (at + 4 + length name) ∷ []) ≡ sets places i (at ∷ (at + 4 + length name') ∷ [])
 same_end places i at e = ap (λ n. sets places i (at ∷ (at + 4 + length n) ∷ [])) e
 

@@ -23,8 +23,8 @@ use Rattle.reader.specs.declared.Policy.{Policy as PolicyRead}
 use Rattle.reader.specs.Told.{ReadPolicy, ReadAs, ReadIs}
 
 -- what reading asks of the memory that it is lent, where all of it is 0
-pub unread : let zeros : ℕ → List ℕ = λ n. replicate n 0 in Rows (replicate 64 NONE) 64 × (384 ≤ length (zeros 384)) × Clear (zeros 384) 0
-unread = (lit≤ tt, lit≤ tt, zeros_clear 384)
+pub unread : (row : Row) → let zeros : List ℕ = replicate 384 0 in Rows (replicate 64 row) 64 × (384 ≤ length zeros) × Clear zeros 0
+unread row = (lit≤ tt, lit≤ tt, zeros_clear 384)
 
 module _ {f : List ℕ} {table₀ : List Row} {places₀ : List ℕ} {table : List Row} {places : List ℕ} where
   pub file_refused : {x : Refused} → ReadIs f table₀ places₀ table places (Err x) → read f ≡ refused (number_of x.why) x.second

@@ -5,7 +5,7 @@ use Prim.Native.Nat.{◌*◌}
 use lib.ListN.{length}
 use Rattle.meaning.specs.Reading.{depth_of}
 use Rattle.layout.specs.Nearest.{grown}
-use Rattle.element_lines.proofs.TreeLines.{same_row, same_end}
+use Rattle.element_lines.proofs.TreeLines.{same_end}
 use Rattle.element_lines.proofs.lay_line.Goals as goal
 
 pub overflow_add-at-2 : goal.overflow_add-at-2
@@ -27,6 +27,6 @@ returns c =
     let tree = c.with_element-tree.ensures ∙ ap (grown args.st.tree args.kind) depth in
     record {
       value = rw tree;
-      table_after = laid.table_after ∙ same_row args.table.now args.st.tree.len c.number_of.ensures depth args.masks;
+      table_after = rw (laid.table_after, c.new-row.ensures, depth);
       places_after = laid.places_after ∙ same_end args.places.now (2 * args.st.tree.len) args.st.at c.name_field-name.ensures;
     }
