@@ -39,6 +39,7 @@ use Rattle.left_out.specs.Leaving.{leaving}
 use Rattle.left_out.proofs.Flags.{RulesLeft, flags_left, whole_left}
 use Rattle.accepting.specs.Judged.{lines_from, told_by, judged_at}
 use Rattle.accepting.proofs.Lines.{line_is}
+use Rattle.layout.specs.declared.ElementPlaces.{ElementPlaces}
 
 -- a search from place i on, of n in all
 module _ (test : ℕ → Bool) (n i : ℕ) where
@@ -52,7 +53,7 @@ module _ (test : ℕ → Bool) (n i : ℕ) where
   first_nowhere l = let none_left : n - i ≡ 0 = omega arith in rw none_left
 
 -- Flags, by which requests and rules are looked at
-module _ (f : Bytes) (places : List ℕ) (table : List Row) (s : Shape) (struck : List ℕ) where
+module _ (f : Bytes) (places : List ElementPlaces) (table : List Row) (s : Shape) (struck : List ℕ) where
   abbrev differs : ℕ → Bool
   differs = apart f places table s.n (hit_of s) none_struck struck
 
@@ -92,7 +93,7 @@ module _ (f : Bytes) (places : List ℕ) (table : List Row) (s : Shape) (struck 
   unfolding judged_at
   told_rule a i b after same line is = let told = is ∙ ap (λ flags. suc (s.len + lines_from places flags 0 i)) same in rw (a, b) (λ j. record { number = 18; second = told j })
 
-module _ (f : List ℕ) (table : List Row) (places : List ℕ) (s : Shape) (held : PolicyHeld f table places s) (g : Bytes) (flags : List ℕ) (left : RulesLeft f table places s held flags) (text : g ≡ text_left f held.policy flags) where
+module _ (f : List ℕ) (table : List Row) (places : List ElementPlaces) (s : Shape) (held : PolicyHeld f table places s) (g : Bytes) (flags : List ℕ) (left : RulesLeft f table places s held flags) (text : g ≡ text_left f held.policy flags) where
   abbrev p : Policy
   p = held.policy
 
@@ -143,7 +144,7 @@ module _ (f : List ℕ) (table : List Row) (places : List ℕ) (s : Shape) (held
           le i e = omega (arith, rule_below f places table s flags i e)
 
 -- The flags that a proposal leaves, which is matched to its end
-module _ (f : List ℕ) (table : List Row) (places : List ℕ) (s : Shape) (held : PolicyHeld f table places s) (g : Bytes) (flags : List ℕ) (are : flags ≡ (leaving f places table s.n g none_struck).flags) where
+module _ (f : List ℕ) (table : List Row) (places : List ElementPlaces) (s : Shape) (held : PolicyHeld f table places s) (g : Bytes) (flags : List ℕ) (are : flags ≡ (leaving f places table s.n g none_struck).flags) where
   left_so : RulesLeft f table places s held flags
   left_so = subst (RulesLeft f table places s held) (sym are) (flags_left f table places s held g)
 

@@ -10,6 +10,7 @@ use Rattle.laws.proofs.Types.{Element}
 use Rattle.laws.proofs.Bools.{Test, passed, failed, test}
 use Rattle.laws.proofs.Places.{lines_in}
 use Rattle.table.specs.declared.Row.{Row}
+use Rattle.layout.specs.declared.ElementPlaces.{ElementPlaces}
 use Rattle.layout.specs.Places.{obligation_count}
 use Rattle.table.specs.declared.Shape.{Shape}
 use Rattle.outcomes.specs.Decided.{none_struck}
@@ -22,7 +23,7 @@ use Rattle.trimmed_text.proofs.Held.{sizes}
 use Rattle.accepting.specs.Judged.{lines_from}
 
 -- one element more
-module _ (places struck : List ℕ) (i j : ℕ) (l : j < i) where
+module _ (places : List ElementPlaces) (struck : List ℕ) (i j : ℕ) (l : j < i) where
   one_less : i - j ≡ suc (i - (j + 1))
   one_less = omega arith
 
@@ -34,12 +35,12 @@ module _ (places struck : List ℕ) (i j : ℕ) (l : j < i) where
   unfolding lines_from
   lines_left_lem live = rw (one_less, eq-eqb (get_or struck j 0) 0 live)
 
-pub no_more : (places struck : List ℕ) (i j : ℕ) → j ≤ i → i ≤ j → lines_from places struck j (i - j) ≡ 0
+pub no_more : (places : List ElementPlaces) (struck : List ℕ) (i j : ℕ) → j ≤ i → i ≤ j → lines_from places struck j (i - j) ≡ 0
 unfolding lines_from
 no_more places struck i j l m = let none : i - j ≡ 0 = omega arith in rw none
 
 -- They are those of the elements left
-lines_kept : (places struck : List ℕ) (i : ℕ) (es : List Element) (m : ℕ) → m ≤ length es → ((j : ℕ) → j < length es → get_or (map line_count es) j 0 ≡ suc (obligation_count places (i + j)))
+lines_kept : (places : List ElementPlaces) (struck : List ℕ) (i : ℕ) (es : List Element) (m : ℕ) → m ≤ length es → ((j : ℕ) → j < length es → get_or (map line_count es) j 0 ≡ suc (obligation_count places (i + j)))
     → lines_in (take (left_count struck i m) (left_from struck i es)) ≡ lines_from places struck i m
 unfolding lines_from left_count left_from
 lines_kept places struck i es zero l each = refl
@@ -59,7 +60,7 @@ lines_kept places struck i (e ∷ es) (suc m) l each =
     go (failed x) later = rw x (later ∙ sym (zero-add (lines_from places struck (i + 1) m)))
 
 -- and so the line of an element is told
-module _ (f : List ℕ) (table : List Row) (places : List ℕ) (s : Shape) (held : PolicyHeld f table places s) (struck : List ℕ) where
+module _ (f : List ℕ) (table : List Row) (places : List ElementPlaces) (s : Shape) (held : PolicyHeld f table places s) (struck : List ℕ) where
   pub line_is : (i : ℕ) → i ≤ s.n → line_at held.policy struck i ≡ s.len + lines_from places struck 0 i
   line_is i l =
       let p = held.policy in

@@ -12,24 +12,25 @@ use Rattle.table.specs.declared.Row.{Row}
 use Rattle.table.specs.declared.Shape.{Shape}
 use Rattle.table.specs.Shape.{hit_of}
 use Rattle.outcomes.specs.Decided.{none_struck}
+use Rattle.layout.specs.declared.ElementPlaces.{ElementPlaces}
 use Rattle.layout.specs.Places.{obligation_count}
 use Rattle.differences.specs.Apart.{apart}
 use Rattle.trials.specs.Decided.{needless_at}
 use Rattle.trimmed_text.specs.Flags.{is_left}
 
 -- how many lines are left of m elements from element i on: one each, and one for each obligation
-unfoldable pub lines_from : (places struck : List ℕ) → (i m : ℕ) → ℕ
+unfoldable pub lines_from : (places : List ElementPlaces) (struck : List ℕ) → (i m : ℕ) → ℕ
 lines_from places struck i zero = 0
 lines_from places struck i (suc m) = cond (is_left struck i) (suc (obligation_count places i)) 0 + lines_from places struck (i + 1) m
 
 -- 17 with a request, else 18 with a rule's line, behind so many attribute lines; 0 and 0 where there is neither
-abbrev pub told_by : (places struck : List ℕ) (attributes : ℕ) (request rule : Option ℕ) → Answer
+abbrev pub told_by : (places : List ElementPlaces) (struck : List ℕ) (attributes : ℕ) (request rule : Option ℕ) → Answer
 told_by places struck attributes (some m) rule = record { number = 17; second = m }
 told_by places struck attributes none (some i) = record { number = 18; second = suc (attributes + lines_from places struck 0 i) }
 told_by places struck attributes none none = record { number = 0; second = 0 }
 
 -- the first request that gets something else under the flags, and the topmost needless rule of those left
-unfoldable pub judged_at : Bytes → (places : List ℕ) (t : List Row) → Shape → List ℕ → Answer
+unfoldable pub judged_at : Bytes → (places : List ElementPlaces) (t : List Row) → Shape → List ℕ → Answer
 judged_at f places t s struck =
     told_by places struck s.len
     (first_from (apart f places t s.n (hit_of s) none_struck struck) 0 s.space)

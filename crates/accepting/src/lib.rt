@@ -17,14 +17,15 @@ ghost use Rattle.refusals.specs.Numbers.{answer_of};
 ghost use Rattle.accepting.specs.Judged.{lines_from, judged_at, LeavesOthersOut};
 
 use differences::{PolicyFile, PolicyOutcomes};
+use layout::ElementPlaces;
 use meaning::Answer;
 use refusals::{Refusal, Refused};
 use table::{Row, Shape};
 use trials::Tried;
 
 // The line of element i, from 1, in what the flags leave behind so many attribute lines.
-fn line_of(places: &[usize], struck: &[u8], attributes: usize, i: usize) -> usize
-    requires { (128 + 4 * i ≤ length places.now) × (i ≤ length struck.now) × (i ≤ 64) × (attributes ≤ 6) }
+fn line_of(places: &[ElementPlaces], struck: &[u8], attributes: usize, i: usize) -> usize
+    requires { (i ≤ length places.now) × (i ≤ length struck.now) × (i ≤ 64) × (attributes ≤ 6) }
     ensures { (result ≡ suc (attributes + lines_from places.now struck.now 0 i)) × (result ≤ 199) }
 {
     let mut line = attributes + 1;
@@ -32,7 +33,7 @@ fn line_of(places: &[usize], struck: &[u8], attributes: usize, i: usize) -> usiz
         if struck[j] != 0 {
             continue;
         }
-        line += 1 + layout::obligation_count(places, j);
+        line += 1 + places[j].obligation_count();
     }
     line
 }
@@ -54,7 +55,13 @@ fn first_needless(o: &PolicyOutcomes, struck: &mut [u8]) -> Option<usize>
 }
 
 // What a proposal gets that is the file's lines without those of the rules struck. The decisions of the file are laid down once; where the proposal gives the same, they are its own.
-fn judge(file: &[u8], table: &[Row], places: &[usize], shape: Shape, struck: &mut [u8]) -> Answer
+fn judge(
+    file: &[u8],
+    table: &[Row],
+    places: &[ElementPlaces],
+    shape: Shape,
+    struck: &mut [u8],
+) -> Answer
     requires { Steady file.now places.now table.now shape × PolicyTable table.now none_struck shape × PolicyTable table.now struck.old shape × Untouched file.now places.now table.now none_struck struck.old shape }
     ensures { (result ≡ judged_at file.now places.now table.now shape struck.old) × (struck.new ≡ struck.old) }
 {
@@ -100,7 +107,7 @@ fn refuse(file: &[u8], proposal: &[u8]) -> Refused
     ensures { answer_of result ≡ accept_answer file.now proposal.now }
 {
     let mut table = [Row::NONE; 64];
-    let mut places = [0usize; 384];
+    let mut places = [ElementPlaces::NONE; 64];
     match reader::read(proposal, &mut table, &mut places) {
         Ok(_) => Refused {
             why: Refusal::OtherLine,
@@ -111,7 +118,13 @@ fn refuse(file: &[u8], proposal: &[u8]) -> Refused
 }
 
 // The answer to a proposal beside the file. One that is the file's lines without those of some rules is a policy file, so it is not read: the flags of these rules stand for it.
-pub fn accept(file: &[u8], table: &[Row], places: &[usize], shape: Shape, proposal: &[u8]) -> Answer
+pub fn accept(
+    file: &[u8],
+    table: &[Row],
+    places: &[ElementPlaces],
+    shape: Shape,
+    proposal: &[u8],
+) -> Answer
     requires { PolicyHeld file.now table.now places.now shape }
     ensures { result ≡ accept_answer file.now proposal.now }
 {

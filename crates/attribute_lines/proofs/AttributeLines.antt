@@ -19,6 +19,7 @@ use Rattle.laws.proofs.Lines.{letter_attribute, letter_several, attribute_fields
 use Rattle.refusals.specs.declared.Refusal.{Refusal}
 use Rattle.table.specs.declared.Row.{Row}
 use Rattle.layout.specs.declared.Attributes.{Attributes}
+use Rattle.layout.specs.declared.ElementPlaces.{ElementPlaces}
 use Rattle.layout.specs.Places.{part, attributes_of, elements_to, line_start, line_place, placed, lines_to}
 use Rattle.layout.proofs.Adding.{added_behind, placed_six, placed_more}
 use Rattle.layout.proofs.Laws.{attributes_length}
@@ -126,12 +127,12 @@ refusal_is : {several : Bool} (s : Sofar) (fs : List Bytes) {n : ℕ} → Attrib
 unfolding refusal_by
 refusal_is s fs l = rw (line_is fs l, l.fields)
 
-pub no_elements_lem : (f : Bytes) (table : List Row) (places : List ℕ) (n : ℕ) → empty (elements_to f table places n) ≡ eqb n 0
+pub no_elements_lem : (f : Bytes) (table : List Row) (places : List ElementPlaces) (n : ℕ) → empty (elements_to f table places n) ≡ eqb n 0
 unfolding elements_to
 no_elements_lem f table places zero = refl
 no_elements_lem f table places (suc n) = sym (ne_eqb (suc n) 0 (λ e. omega arith))
 
-no_lines : (places : List ℕ) (n : ℕ) → n ≡ 0 → lines_to places n ≡ 0
+no_lines : (places : List ElementPlaces) (n : ℕ) → n ≡ 0 → lines_to places n ≡ 0
 unfolding lines_to
 no_lines places n none = rw none
 
@@ -161,7 +162,7 @@ attribute_parts {several} f at end name inside l named =
     }
 
 -- The step over it
-module _ {f : Bytes} {st : State} {end : ℕ} {several : Bool} {fields : ℕ} {table : List Row} {places : List ℕ} (ready : BeforeLine f table places st) (here : EndedLine f st end) (is : AttributeLine several (cut tab (part f st.at end)) fields) where
+module _ {f : Bytes} {st : State} {end : ℕ} {several : Bool} {fields : ℕ} {table : List Row} {places : List ElementPlaces} (ready : BeforeLine f table places st) (here : EndedLine f st end) (is : AttributeLine several (cut tab (part f st.at end)) fields) where
   line_refusal : {r : ℕ} → AttributeRefusal f st.attributes st.space st.tree.len several (cut tab (part f st.at end)) fields r → r ≡ refusal_of (read_sofar f table places st) (cut tab (part f st.at end))
   line_refusal refusal =
       let s = read_sofar f table places st in

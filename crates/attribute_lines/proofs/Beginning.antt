@@ -8,11 +8,12 @@ use lib.ListN.{length}
 use Rattle.meaning.specs.Reading.{nothing}
 use Rattle.table.specs.declared.Row.{Row}
 use Rattle.table.specs.Rows.{Rows}
+use Rattle.layout.specs.declared.ElementPlaces.{ElementPlaces}
 use Rattle.layout.specs.Places.{attributes_from, elements_to, Clear, line_start, placed, lines_to}
 use Rattle.layout.proofs.Laws.{empty_stands}
 use Rattle.attribute_lines.specs.Steps.{BeforeLine, beginning, read_sofar}
 
-pub beginning_ready : (f : List ℕ) (table : List Row) (places : List ℕ) → Rows table 64 → 384 ≤ length places → Clear places 0 → BeforeLine f table places beginning × (read_sofar f table places beginning ≡ nothing)
+pub beginning_ready : (f : List ℕ) (table : List Row) (places : List ElementPlaces) → Rows table 64 → 64 ≤ length places → Clear places 0 → BeforeLine f table places beginning × (read_sofar f table places beginning ≡ nothing)
 unfolding attributes_from elements_to line_start placed lines_to
 beginning_ready f table places rows pairs clear = (
   record {

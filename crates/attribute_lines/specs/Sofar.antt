@@ -9,10 +9,11 @@ use Rattle.syntax.specs.declared.LineKind.{LineKind}
 use Rattle.syntax.specs.Fields.{line_kind}
 use Rattle.table.specs.declared.Row.{Row}
 use Rattle.layout.specs.declared.Attributes.{Attributes}
+use Rattle.layout.specs.declared.ElementPlaces.{ElementPlaces}
 use Rattle.layout.specs.Places.{attributes_of, AllStanding, elements_to}
 use Rattle.attribute_lines.specs.declared.LineShape.{LineShape}
 
-abbrev pub sofar_of : Bytes → Attributes → List Row → List ℕ → ℕ → Sofar
+abbrev pub sofar_of : Bytes → Attributes → List Row → List ElementPlaces → ℕ → Sofar
 sofar_of f a table places n = record { attributes = attributes_of f a; before = elements_to f table places n }
 
 -- the number that refuses a line of these fields under tests from 3 on, or 0; and under those of a file

@@ -8,6 +8,7 @@ use Rattle.refusals.specs.Numbers.{number_in}
 use Rattle.table.specs.declared.Row.{Row}
 use Rattle.table.specs.Rows.{Rows}
 use Rattle.layout.specs.declared.Attributes.{Attributes}
+use Rattle.layout.specs.declared.ElementPlaces.{ElementPlaces}
 use Rattle.layout.specs.Places.{part, attributes_of, AllStanding, FewValues, no_attributes, added, elements_to, Named, Obliged, Clear, line_start, line_place, placed, Lined}
 use Rattle.layout.specs.Nearest.{Stands}
 use Rattle.attribute_lines.specs.declared.State.{State}
@@ -21,9 +22,9 @@ pub record Spaced (f : Bytes) (a : Attributes) : Type 0 where
   pub small : space (attributes_of f a) ≤ 4096
 
 -- room for 64 elements and two obligations of each, of which n elements are there
-pub record Rooms (f : Bytes) (table : List Row) (places : List ℕ) (n : ℕ) : Type 0 where
+pub record Rooms (f : Bytes) (table : List Row) (places : List ElementPlaces) (n : ℕ) : Type 0 where
   pub rows : Rows table 64
-  pub pairs : 384 ≤ length places
+  pub pairs : 64 ≤ length places
   pub named : Named f places n
 
 -- A state before a line: what it says of the file alone, and with the table and the places
@@ -35,7 +36,7 @@ pub record InFile (f : Bytes) (st : State) : Type 0 where
   pub shallow : st.tree.depth ≤ 7
   pub few : st.tree.len ≤ 64
 
-pub record BeforeLine (f : Bytes) (table : List Row) (places : List ℕ) (st : State) : Type 0 where
+pub record BeforeLine (f : Bytes) (table : List Row) (places : List ElementPlaces) (st : State) : Type 0 where
   pub in_file : InFile f st
   pub rooms : Rooms f table places st.tree.len
   pub tree : Stands st.tree (elements_to f table places st.tree.len)
@@ -71,24 +72,24 @@ pub record AttributeStep (f : Bytes) (st : State) (end : ℕ) (several : Bool) (
   pub state : IfOk r (λ next. next ≡ behind_attribute st end several (cut tab (part f st.at end)) fields)
 
 -- What was read before a state's line, and laid down
-abbrev pub read_sofar : Bytes → List Row → List ℕ → State → Sofar
+abbrev pub read_sofar : Bytes → List Row → List ElementPlaces → State → Sofar
 read_sofar f table places st = sofar_of f st.attributes table places st.tree.len
 
-abbrev pub laid_at : Bytes → List Row → List ℕ → State → Laid
+abbrev pub laid_at : Bytes → List Row → List ElementPlaces → State → Laid
 laid_at f table places st = record { sofar = read_sofar f table places st; table = table; places = places }
 
 -- One line, which a newline at `end` ends: the state behind it, or its refusal and the table and the places as they were
-pub record Next (f : List ℕ) (table₀ : List Row) (places₀ : List ℕ) (table : List Row) (places : List ℕ) (st : State) (end : ℕ) (next : State) : Type 0 where
+pub record Next (f : List ℕ) (table₀ : List Row) (places₀ : List ElementPlaces) (table : List Row) (places : List ElementPlaces) (st : State) (end : ℕ) (next : State) : Type 0 where
   pub ready : BeforeLine f table places next
   pub at_next : next.at ≡ end + 1
   pub line_next : next.line ≡ st.line + 1
   pub laid : laid_at f table places next ≡ with_line st.at (laid_at f table₀ places₀ st) (line_of (cut tab (part f st.at end)))
 
-pub record Stays (table₀ : List Row) (places₀ : List ℕ) (table : List Row) (places : List ℕ) : Type 0 where
+pub record Stays (table₀ : List Row) (places₀ : List ElementPlaces) (table : List Row) (places : List ElementPlaces) : Type 0 where
   pub table_is : table ≡ table₀
   pub places_are : places ≡ places₀
 
-pub record StepIs (f : List ℕ) (table₀ : List Row) (places₀ : List ℕ) (table : List Row) (places : List ℕ) (st : State) (end : ℕ) (r : Result State Refusal) : Type 0 where
+pub record StepIs (f : List ℕ) (table₀ : List Row) (places₀ : List ElementPlaces) (table : List Row) (places : List ElementPlaces) (st : State) (end : ℕ) (r : Result State Refusal) : Type 0 where
   pub refusal : number_in r ≡ refusal_of (read_sofar f table₀ places₀ st) (cut tab (part f st.at end))
   pub next : IfOk r (Next f table₀ places₀ table places st end)
   pub stays : OnErr r (Stays table₀ places₀ table places)

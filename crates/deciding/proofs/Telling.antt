@@ -28,6 +28,7 @@ use Rattle.chains.specs.Chain.{chained}
 use Rattle.obligations.specs.Given.{given_text, effect, marks_in, any_obliged, Giving}
 use Rattle.obligations.proofs.Texts.{text_alike, text_undecided, none_given}
 use Rattle.deciding.specs.Told.{deciding, Effect, outcome_on, Told, Asking}
+use Rattle.layout.specs.declared.ElementPlaces.{ElementPlaces}
 
 -- one element's word more
 pub next_answers : (t : List Row) (hits : List ℕ) (i w : ℕ) (hit : Element → Bool) → 64 * i < length hits → bit w 0 ≡ hit (element_at t i) → Answers t hits i 0 0 hit → Answers t (set hits (64 * i) w) (i + 1) 0 0 hit
@@ -58,10 +59,10 @@ none_told : (o : Outcome) (old : Bytes) (d : Decision) → o.obligations ≡ [] 
 none_told o old d none is = let fits : ltb (length old) 0 ≡ false = le-ltb (length old) 0 zero-le in record { answers = rw (none, is, fits); lends = rw (none, fits) }
 
 -- the words of who gave the decision are enough for the text
-pub giving : {f : List ℕ} {table : List Row} {places given : List ℕ} {n : ℕ} {q : Request} → Asking f table places n q → n ≤ length given → Giving f places given n 0
+pub giving : {f : List ℕ} {table : List Row} {places : List ElementPlaces} {given : List ℕ} {n : ℕ} {q : Request} → Asking f table places n q → n ≤ length given → Giving f places given n 0
 giving ready enough = record { few = ready.few; each = ready.each; words = enough; place = omega arith }
 
-pub places_room : {f : List ℕ} {table : List Row} {places : List ℕ} {n : ℕ} {q : Request} → Asking f table places n q → 128 + 4 * n ≤ length places
+pub places_room : {f : List ℕ} {table : List Row} {places : List ElementPlaces} {n : ℕ} {q : Request} → Asking f table places n q → n ≤ length places
 places_room {n = n} ready = let last : n - 1 < n = omega (arith, ready.some) in omega (arith, ready.some, (ready.each (n - 1) last).room)
 
 -- which is that of the outcome
@@ -71,7 +72,7 @@ effect_is Decision.Deny l = refl
 effect_is Decision.NotApplicable l = absurd (omega arith)
 effect_is Decision.Indeterminate l = absurd (omega arith)
 
-text_is : (f : List ℕ) (table : List Row) (places given : List ℕ) (n : ℕ) (q : Request) (d : Decision) {permit : Bool} → Effect d → d ≡ (outcome_on f table places n q).decision → permit ≡ sameb the_type d Decision.Permit
+text_is : (f : List ℕ) (table : List Row) (places : List ElementPlaces) (given : List ℕ) (n : ℕ) (q : Request) (d : Decision) {permit : Bool} → Effect d → d ≡ (outcome_on f table places n q).decision → permit ≡ sameb the_type d Decision.Permit
     → ((i : ℕ) → i < n → bit (get_or given i 0) 0 ≡ chained (matches (severals_of q) (values_of q)) table (replicate 64 0) n i)
     → given_text (effect permit) (marks_in given 0) f places n ≡ (outcome_on f table places n q).obligations
 text_is f table places given n q d l is permitted marks =
@@ -79,14 +80,14 @@ text_is f table places given n q d l is permitted marks =
     ap (λ x. given_text x (marks_in given 0) f places n) (ap effect permitted ∙ effect_is d l ∙ is) ∙ text_alike decision f places (marks_in given 0) (chained (matches (severals_of q) (values_of q)) table (replicate 64 0) n) n marks
 
 -- so the answer for the text is the answer for the outcome
-pub given_told : (f : List ℕ) (table : List Row) (places : List ℕ) (n : ℕ) (q : Request) (d : Decision) {permit : Bool} → Effect d → d ≡ (outcome_on f table places n q).decision → permit ≡ sameb the_type d Decision.Permit → (given : List ℕ) {old new : List ℕ} {a : Answer}
+pub given_told : (f : List ℕ) (table : List Row) (places : List ElementPlaces) (n : ℕ) (q : Request) (d : Decision) {permit : Bool} → Effect d → d ≡ (outcome_on f table places n q).decision → permit ≡ sameb the_type d Decision.Permit → (given : List ℕ) {old new : List ℕ} {a : Answer}
     → ((i : ℕ) → i < n → bit (get_or given i 0) 0 ≡ chained (matches (severals_of q) (values_of q)) table (replicate 64 0) n i)
     → Fitted old (given_text (effect permit) (marks_in given 0) f places n) new a → Told old new (outcome_on f table places n q) (deciding a d)
 given_told f table places n q d l is permitted given {old} {new} {a} marks fits =
     told_so (outcome_on f table places n q) old new a d (subst (λ t. Fitted old t new a) (text_is f table places given n q d l is permitted marks) fits) is
 
 -- no obligations come: the decision is neither permit nor deny, or the file has none
-module _ (f : List ℕ) (table : List Row) (places : List ℕ) (n : ℕ) (q : Request) (old : Bytes) (d : Decision) (is : d ≡ (outcome_on f table places n q).decision) where
+module _ (f : List ℕ) (table : List Row) (places : List ElementPlaces) (n : ℕ) (q : Request) (old : Bytes) (d : Decision) (is : d ≡ (outcome_on f table places n q).decision) where
   abbrev o : Outcome
   o = outcome_on f table places n q
 

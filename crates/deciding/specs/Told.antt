@@ -11,6 +11,7 @@ use Rattle.requests.specs.declared.Request.{Request}
 use Rattle.requests.specs.Values.{values_of, severals_of}
 use Rattle.table.specs.declared.Row.{Row}
 use Rattle.table.specs.Rows.{Rows}
+use Rattle.layout.specs.declared.ElementPlaces.{ElementPlaces}
 use Rattle.layout.specs.Places.{Obliged}
 use Rattle.obligations.specs.Given.{outcome_left}
 
@@ -23,7 +24,7 @@ abbrev pub Effect : Decision → Type 0
 Effect d = decision_number d < 2
 
 -- what a request gets from the elements of a table, none of which is struck
-abbrev pub outcome_on : Bytes → (table : List Row) (places : List ℕ) → ℕ → Request → Outcome
+abbrev pub outcome_on : Bytes → (table : List Row) (places : List ElementPlaces) → ℕ → Request → Outcome
 outcome_on f table places n q = outcome_left (matches (severals_of q) (values_of q)) f table places (replicate 64 0) n
 
 -- an outcome for a buffer of so many bytes: 11 where its obligations do not fit
@@ -36,7 +37,7 @@ pub record Told (old new : Bytes) (o : Outcome) (r : Decided) : Type 0 where
   pub lends : new ≡ lent old (outcome_for (length old) o then λ x. given x.obligations)
 
 -- 1 to 64 elements whose obligations lie in the file, and a request of at most six attributes
-pub record Asking (f : List ℕ) (table : List Row) (places : List ℕ) (n : ℕ) (q : Request) : Type 0 where
+pub record Asking (f : List ℕ) (table : List Row) (places : List ElementPlaces) (n : ℕ) (q : Request) : Type 0 where
   pub rows : Rows table n
   pub some : 1 ≤ n
   pub few : n ≤ 64

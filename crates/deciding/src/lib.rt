@@ -10,6 +10,7 @@ ghost use Rattle.chains.specs.Chain.{chained};
 ghost use Rattle.deciding.specs.Told.{deciding, Effect, outcome_on, Told, Asking};
 
 use blocks::Block;
+use layout::ElementPlaces;
 use meaning::{Answer, Decided, Decision};
 use obligations::Marks;
 use requests::Request;
@@ -72,7 +73,7 @@ fn with_decision(told: Answer, decision: Decision) -> Decided
 fn give(
     file: &[u8],
     table: &[Row],
-    places: &[usize],
+    places: &[ElementPlaces],
     n: usize,
     q: Request,
     decision: Decision,
@@ -102,7 +103,7 @@ fn give(
 pub fn answer(
     file: &[u8],
     table: &[Row],
-    places: &[usize],
+    places: &[ElementPlaces],
     n: usize,
     q: Request,
     out: &mut [u8],

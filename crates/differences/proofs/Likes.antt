@@ -13,6 +13,7 @@ use Rattle.outcomes.proofs.Searching.{up_to}
 use Rattle.obligations.specs.Given.{given_text, effect, marks_in}
 use Rattle.obligations.proofs.Texts.{text_alike}
 use Rattle.differences.specs.Marks.{LikeMarks, others_given}
+use Rattle.layout.specs.declared.ElementPlaces.{ElementPlaces}
 
 -- request u is among those of `on`, and has the bit of request v
 abbrev pub LikeBit : (word v on u : ℕ) → Type 0
@@ -33,7 +34,7 @@ like_next words i v on so_far next before step u set =
     let (among, marks) = before u still in
     (among, up_to (λ j. marks_in words u j ≡ marks_in words v j) i marks here)
 
-module _ (f : Bytes) (places : List ℕ) (n : ℕ) (one other : List ℕ) (permits v : ℕ) where
+module _ (f : Bytes) (places : List ElementPlaces) (n : ℕ) (one other : List ℕ) (permits v : ℕ) where
   abbrev others : ℕ → Bool
   others = others_given f places n one other permits
 

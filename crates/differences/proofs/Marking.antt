@@ -28,6 +28,7 @@ use Rattle.chains.proofs.Chained.{chain_none}
 use Rattle.outcomes.specs.Decided.{decided_at, differs_at}
 use Rattle.outcomes.specs.PolicyTable.{PolicyTable}
 use Rattle.outcomes.specs.Changes.{InBlock, FirstInBlock}
+use Rattle.layout.specs.declared.ElementPlaces.{ElementPlaces}
 use Rattle.layout.specs.Places.{obligation_end, obligations_in}
 use Rattle.layout.proofs.Slots.{none_in}
 use Rattle.obligations.specs.Given.{spelling, own_text, given_text, effect, marks_in, any_obliged}
@@ -40,7 +41,7 @@ same_text : (x y : Bytes) → x ≡ y → not (same x y) ≡ false
 same_text x y e = ap (λ a. not (same a y)) e ∙ ap not (same_refl y)
 
 -- Marks that agree on the elements that have obligations
-module _ (f : Bytes) (places : List ℕ) (n : ℕ) where
+module _ (f : Bytes) (places : List ElementPlaces) (n : ℕ) where
   text_obliged : (d : Decision) (F G : ℕ → Bool) → ((i : ℕ) → i < n → (obligation_end places i 0 ≡ 0 → ⊥) → F i ≡ G i) → given_text d F f places n ≡ given_text d G f places n
   unfolding given_text
   text_obliged d F G agree = gathered_alike (own_text d F f places) (own_text d G f places) (counting 0 n) (λ i has. go i (omega (arith, (counting_only 0 n i has).1)) (test (eqb (obligation_end places i 0) 0)))
@@ -63,7 +64,7 @@ effect_is false true e = refl
 effect_is false false e = contradiction e refl
 
 -- Requests that are compared under two lists of flags
-module _ (f : Bytes) (places : List ℕ) (t : List Row) (before struck hits outcomes : List ℕ) (s : Shape) (compared : Compared f places t before struck hits outcomes s) where
+module _ (f : Bytes) (places : List ElementPlaces) (t : List Row) (before struck hits outcomes : List ℕ) (s : Shape) (compared : Compared f places t before struck hits outcomes s) where
   abbrev parted : ℕ → Bool
   parted = apart f places t s.n (hit_of s) before struck
 

@@ -10,6 +10,7 @@ use Rattle.meaning.specs.Deciding.{bit}
 use Rattle.laws.proofs.Bits.{xor, bit_or_lem, bit_xor_lem}
 use Rattle.laws.proofs.Bools.{or_false}
 use Rattle.outcomes.proofs.Searching.{up_to}
+use Rattle.layout.specs.declared.ElementPlaces.{ElementPlaces}
 use Rattle.layout.specs.Places.{obligation_end}
 use Rattle.obligations.specs.Given.{marks_in}
 use Rattle.differences.specs.Apart.{Touched}
@@ -20,7 +21,7 @@ xor_same true true e = refl
 xor_same true false e = e
 xor_same false b e = sym e
 
-module _ (places one other : List ℕ) (word i : ℕ) (so_far : Marked places i one other word) where
+module _ (places : List ElementPlaces) (one other : List ℕ) (word i : ℕ) (so_far : Marked places i one other word) where
   -- the marks of element j agree if it has obligations
   abbrev Agrees : (v j : ℕ) → Type 0
   Agrees v j = (obligation_end places j 0 ≡ 0 → ⊥) → marks_in one v j ≡ marks_in other v j

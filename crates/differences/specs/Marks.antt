@@ -2,11 +2,12 @@
 use Rattle.std.specs.Prelude.{ℕ, ◌+◌, ◌<◌, ◌≡◌, Bool, true, false, not, List, Option, Some, None}
 use Rattle.meaning.specs.Text.{Bytes, same}
 use Rattle.meaning.specs.Deciding.{bit}
+use Rattle.layout.specs.declared.ElementPlaces.{ElementPlaces}
 use Rattle.layout.specs.Places.{obligation_end}
 use Rattle.obligations.specs.Given.{given_text, effect, marks_in}
 
 -- where bit v is not set, both words of each element that has obligations have the same bit v
-abbrev pub Marked : List ℕ → ℕ → (one other : List ℕ) → ℕ → Type 0
+abbrev pub Marked : List ElementPlaces → ℕ → (one other : List ℕ) → ℕ → Type 0
 Marked places n one other word =
     (v i : ℕ) → bit word v ≡ false → i < n → (obligation_end places i 0 ≡ 0 → ⊥) → marks_in one v i ≡ marks_in other v i
 
@@ -16,7 +17,7 @@ LikeMarks words n v on r =
     (u : ℕ) → bit r u ≡ true → (bit on u ≡ true) × ((i : ℕ) → i < n → marks_in words u i ≡ marks_in words v i)
 
 -- two words for each element give other obligations on the request whose bit is v
-abbrev pub others_given : Bytes → (places : List ℕ) → ℕ → (one other : List ℕ) → (permits v : ℕ) → Bool
+abbrev pub others_given : Bytes → (places : List ElementPlaces) → ℕ → (one other : List ℕ) → (permits v : ℕ) → Bool
 others_given f places n one other permits v =
     let d = effect (bit permits v) in
     not (same (given_text d (marks_in one v) f places n) (given_text d (marks_in other v) f places n))

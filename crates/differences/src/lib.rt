@@ -13,6 +13,7 @@ ghost use Rattle.differences.specs.Apart.{apart, Compared, Suspects, Untouched, 
 ghost use Rattle.differences.specs.Marks.{Marked, LikeMarks, others_given, Among};
 
 use blocks::Block;
+use layout::ElementPlaces;
 use obligations::Marks;
 use table::{Row, Shape};
 
@@ -20,7 +21,7 @@ use table::{Row, Shape};
 #[derive(Clone, Copy)]
 pub struct PolicyFile<'a> {
     pub file: &'a [u8],
-    pub places: &'a [usize],
+    pub places: &'a [ElementPlaces],
     pub table: &'a [Row],
     pub shape: Shape,
 }
@@ -36,13 +37,13 @@ pub struct PolicyOutcomes<'a> {
 }
 
 // The requests on which an element that has obligations is marked in one of the two and not in the other.
-fn unlike(places: &[usize], n: usize, one: &[u64], other: &[u64]) -> u64
-    requires { (128 + 4 * n ≤ length places.now) × (n ≤ length one.now) × (n ≤ length other.now) }
+fn unlike(places: &[ElementPlaces], n: usize, one: &[u64], other: &[u64]) -> u64
+    requires { (n ≤ length places.now) × (n ≤ length one.now) × (n ≤ length other.now) }
     ensures { Marked places.now n one.now other.now result }
 {
     let mut word = 0;
     for i in 0..n {
-        if places[129 + 4 * i] != 0 {
+        if places[i].has_obligations() {
             word |= one[i] ^ other[i];
         }
     }

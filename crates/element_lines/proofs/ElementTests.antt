@@ -16,6 +16,7 @@ use Rattle.laws.proofs.Types.{Kind}
 use Rattle.laws.proofs.Bounds.{padded_name}
 use Rattle.layout.specs.declared.Attributes.{Attributes}
 use Rattle.layout.specs.declared.Tree.{Tree}
+use Rattle.layout.specs.declared.ElementPlaces.{ElementPlaces}
 use Rattle.layout.specs.Places.{names_to}
 use Rattle.layout.proofs.Laws.{attributes_length}
 use Rattle.attribute_lines.proofs.ObligationShape.{stored_test}
@@ -35,7 +36,7 @@ abbrev pub first_found : (named known : Bool) (count attributes : ℕ) (placed :
 first_found named known count attributes placed word =
     lowest ((3, not named) ∷ (4, known) ∷ (5, leb 64 count) ∷ (6, eqb attributes 0 || not placed) ∷ (7, is_none word) ∷ [])
 
-module _ (f : Bytes) (a : Attributes) (places : List ℕ) (tree : Tree) (k : Kind) (fs : List Bytes) (s : Sofar) where
+module _ (f : Bytes) (a : Attributes) (places : List ElementPlaces) (tree : Tree) (k : Kind) (fs : List Bytes) (s : Sofar) where
   pub tests_found : Behind f a places tree s
       → lowest (earlier_tests s (get_or fs 3 []) (element_from s.attributes k fs))
       ≡ first_found (is_name (get_or fs 2 [])) (among_names (get_or fs 2 []) (names_to f places tree.len)) tree.len a.len (well_placed k (depth_of (get_or fs 1 [])) s.before) (word_of k (get_or fs 3 []))

@@ -8,7 +8,6 @@ use mathlib.Core.List.{List, [], ◌∷◌, ◌++◌}
 use mathlib.Core.Option.{Option, none, some}
 use lib.Dec.{lit≤}
 use lib.ListN.{length, drop, get_or}
-use lib.Seq.{sets, length-sets}
 use borrow.Author.Tests.{leb-false, not-false}
 use Rattle.meaning.specs.declared.Kind.{Kind}
 use Rattle.meaning.specs.declared.Kind.TheVariants.{Set, Policy, Rule}
@@ -23,6 +22,7 @@ use Rattle.laws.proofs.Bounds.{placed_depth, length_padded, masks_count}
 use Rattle.table.specs.declared.Row.{Row}
 use Rattle.table.specs.Rows.{word_at, number_of_word, row_of, with_row}
 use Rattle.table.proofs.Rows.{row_length}
+use Rattle.layout.specs.declared.ElementPlaces.{ElementPlaces}
 use Rattle.layout.specs.Places.{part, kind_at, elements_to, Clear, line_start, lines_to}
 use Rattle.layout.specs.Nearest.{Stands}
 use Rattle.layout.proofs.Placing.{stands_more}
@@ -76,8 +76,8 @@ module _ (s : Sofar) (fs : List Bytes) (k : Kind) (n : ℕ) (line : TreeLine fs 
         (leb-false 64 (length s.before) f5, placed_depth k (depth_of (get_or fs 1 [])) s.before (not-false (well_placed k (depth_of (get_or fs 1 [])) s.before) placed), f7)
 
 -- equal places, laid
-pub same_end : (places : List ℕ) (i at : ℕ) {name name' : Bytes} → name ≡ name' → sets places i (at ∷ (at + 4 + length name) ∷ []) ≡ sets places i (at ∷ (at + 4 + length name') ∷ [])
-same_end places i at e = ap (λ n. sets places i (at ∷ (at + 4 + length n) ∷ [])) e
+pub same_end : (places : List ElementPlaces) (i at : ℕ) {name name' : Bytes} → name ≡ name' → with_name places i at (at + 4 + length name) ≡ with_name places i at (at + 4 + length name')
+same_end places i at e = ap (λ n. with_name places i at (at + 4 + length n)) e
 
 -- Where the name of a tree line stands: behind a letter, a tab, a digit and a tab
 digit_length : (d : Bytes) → depth_of d ≤ 7 → length d ≡ 1
@@ -124,7 +124,7 @@ word_number_lem (some Word.FirstApplicable) h = refl
 word_number_lem (some Word.OnlyOneApplicable) h = refl
 
 -- The element of a tree line is that of the row and the places that are laid for it
-module _ (f : List ℕ) (table : List Row) (places : List ℕ) (st : State) (end : ℕ) (k : Kind) (n : ℕ) (ready : BeforeLine f table places st) (at : EndedLine f st end) where
+module _ (f : List ℕ) (table : List Row) (places : List ElementPlaces) (st : State) (end : ℕ) (k : Kind) (n : ℕ) (ready : BeforeLine f table places st) (at : EndedLine f st end) where
   abbrev fs : List Bytes
   fs = cut tab (part f st.at end)
 
@@ -146,8 +146,8 @@ module _ (f : List ℕ) (table : List Row) (places : List ℕ) (st : State) (end
   abbrev table' : List Row
   table' = with_row table size row
 
-  abbrev places' : List ℕ
-  places' = sets places (2 * size) (st.at ∷ name_end ∷ [])
+  abbrev places' : List ElementPlaces
+  places' = with_name places size st.at name_end
 
   module _ (line : TreeLine fs k n) (count : n ≡ 4 + length s.attributes) (passed-earlier : lowest (earlier s fs k n line) ≡ 0) where
     known : (length s.before < 64) × (depth_of (get_or fs 1 []) ≤ 7) × (is_none (word_of k (get_or fs 3 [])) ≡ false)

@@ -7,7 +7,6 @@ use mathlib.Core.Bool.{true, false, not}
 use mathlib.Core.List.{List, [], ◌∷◌}
 use mathlib.Core.Option.{some}
 use lib.ListN.{length, drop, get_or}
-use lib.Seq.{sets}
 use Rattle.meaning.specs.declared.Kind.{Kind}
 use Rattle.meaning.specs.declared.Word.{Word}
 use Rattle.meaning.specs.Text.{Bytes, empty, cut, tab}
@@ -22,6 +21,7 @@ use Rattle.refusals.specs.Numbers.{number_of}
 use Rattle.refusals.proofs.Numbers.{not_zero}
 use Rattle.table.specs.declared.Row.{Row}
 use Rattle.table.specs.Rows.{number_of_word, row_of, with_row}
+use Rattle.layout.specs.declared.ElementPlaces.{ElementPlaces}
 use Rattle.layout.specs.Places.{part}
 use Rattle.layout.proofs.Laws.{attributes_length}
 use Rattle.attribute_lines.specs.declared.State.{State}
@@ -48,7 +48,7 @@ masks_good attrs ts {masks} is = go (test (bad_masks attrs (padded 6 (masks_of a
     go (passed bad) = let none : None ≡ Some masks = rw bad at is in cc
     go (failed fine) = let some : Some (padded 6 (masks_of attrs ts)) ≡ Some masks = rw fine at is in (fine, cc)
 
-module _ (f : List ℕ) (table : List Row) (places : List ℕ) (st : State) (end : ℕ) (k : Kind) (n : ℕ) (ready : BeforeLine f table places st) (at : EndedLine f st end) (line : TreeLine (cut tab (part f st.at end)) k n) where
+module _ (f : List ℕ) (table : List Row) (places : List ElementPlaces) (st : State) (end : ℕ) (k : Kind) (n : ℕ) (ready : BeforeLine f table places st) (at : EndedLine f st end) (line : TreeLine (cut tab (part f st.at end)) k n) where
   abbrev fs : List Bytes
   fs = cut tab (part f st.at end)
 
@@ -85,7 +85,7 @@ module _ (f : List ℕ) (table : List Row) (places : List ℕ) (st : State) (end
       -- the line is read
       pub tree_told : (r : State) (word : Word) (masks : List ℕ) (t' : List Row) (p' : List ℕ) → word_of k (get_or fs 3 []) ≡ some word → masks_in s.attributes (drop 4 fs) ≡ Some masks → r ≡ behind_tree st end k fs
           → t' ≡ with_row table st.tree.len (row_of (some word) (depth_of (get_or fs 1 [])) masks)
-          → p' ≡ sets places (2 * st.tree.len) (st.at ∷ (st.at + 4 + length (get_or fs 2 [])) ∷ [])
+          → p' ≡ with_name places st.tree.len st.at (st.at + 4 + length (get_or fs 2 []))
           → StepIs f table places t' p' st end (Ok r)
       tree_told r word masks t' p' named good is_state is-table is-places =
           let (fine, masks-are) = masks_good s.attributes (drop 4 fs) good in

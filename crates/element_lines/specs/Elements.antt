@@ -9,6 +9,7 @@ use Rattle.table.specs.declared.Row.{Row}
 use Rattle.table.specs.Rows.{Rows}
 use Rattle.layout.specs.declared.Attributes.{Attributes}
 use Rattle.layout.specs.declared.Tree.{Tree}
+use Rattle.layout.specs.declared.ElementPlaces.{ElementPlaces}
 use Rattle.layout.specs.Places.{attributes_of, names_to}
 use Rattle.layout.specs.Nearest.{Stands, grown}
 use Rattle.attribute_lines.specs.declared.State.{State}
@@ -18,7 +19,7 @@ abbrev pub element_from : List Attribute → Kind → List Bytes → Element
 element_from attrs k fs = element_of attrs k (get_or fs 1 []) (get_or fs 2 []) (get_or fs 3 []) (drop 4 fs)
 
 -- what was read so far is what attributes, places and a tree stand for
-pub record Behind (f : Bytes) (a : Attributes) (places : List ℕ) (tree : Tree) (s : Sofar) : Type 0 where
+pub record Behind (f : Bytes) (a : Attributes) (places : List ElementPlaces) (tree : Tree) (s : Sofar) : Type 0 where
   pub attributes : s.attributes ≡ attributes_of f a
   pub stands : Stands tree s.before
   pub names : map name_of s.before ≡ names_to f places tree.len
@@ -34,9 +35,9 @@ earlier_tests s w e =
     ∷ []
 
 -- room for the element of a tree line of these fields, and the state behind it
-pub record Fits (table : List Row) (places : List ℕ) (st : State) (end : ℕ) (fs : List Bytes) : Type 0 where
+pub record Fits (table : List Row) (places : List ElementPlaces) (st : State) (end : ℕ) (fs : List Bytes) : Type 0 where
   pub row : Rows table (st.tree.len + 1)
-  pub pair : 2 * st.tree.len + 2 ≤ length places
+  pub pair : st.tree.len < length places
   pub few : st.tree.len < 64
   pub shallow : depth_of (get_or fs 1 []) ≤ 7
   pub lines_passed : st.line ≤ st.at + 1

@@ -3,19 +3,18 @@
 
 ghost use Rattle.std.specs.Prelude.{◌≡◌, [], ◌∷◌, ◌+◌, ◌*◌, ◌≤◌, length, get_or, IfOk};
 ghost use Rattle.std.proofs.Math.Option.{some};
-ghost use Rattle.std.proofs.lemmas.List.Edits.{sets};
 ghost use Rattle.meaning.specs.Text.{cut, tab};
 ghost use Rattle.meaning.specs.Reading.{depth_of, word_of, Sofar, lowest};
 ghost use Rattle.refusals.specs.Numbers.{number_in};
 ghost use Rattle.table.specs.Rows.{row_of, with_row};
-ghost use Rattle.layout.specs.Places.{part, Named};
+ghost use Rattle.layout.specs.Places.{part, with_name, Named};
 ghost use Rattle.tree_fields.specs.Headed.{Headed};
 ghost use Rattle.element_lines.specs.Elements.{element_from, Behind, earlier_tests, Fits, behind_tree};
 ghost use Rattle.attribute_lines.specs.Sofar.{TreeLine};
 ghost use Rattle.attribute_lines.specs.Steps.{BeforeLine, EndedLine, StepIs};
 
 use attribute_lines::State;
-use layout::{Attributes, Tree};
+use layout::{Attributes, ElementPlaces, Tree};
 use meaning::{Kind, Word};
 use refusals::Refusal;
 use table::Row;
@@ -25,7 +24,7 @@ use tree_fields::FieldEnds;
 fn element_word(
     file: &[u8],
     a: Attributes,
-    places: &[usize],
+    places: &[ElementPlaces],
     tree: Tree,
     kind: Kind,
     line: &[u8],
@@ -66,12 +65,12 @@ fn lay_line(
     e: FieldEnds,
     masks: [u16; 6],
     table: &mut [Row],
-    places: &mut [usize],
+    places: &mut [ElementPlaces],
 ) -> State
     requires { Fits table.old places.old st end (cut tab line.now) × Headed line.now e }
     ensures value { result ≡ behind_tree st end kind (cut tab line.now) }
     ensures table_after { table.new ≡ with_row table.old st.tree.len (row_of (some word) (depth_of (get_or (cut tab line.now) 1 [])) masks) }
-    ensures places_after { places.new ≡ sets places.old (2 * st.tree.len) (st.at ∷ (st.at + 4 + length (get_or (cut tab line.now) 2 [])) ∷ []) }
+    ensures places_after { places.new ≡ with_name places.old st.tree.len st.at (st.at + 4 + length (get_or (cut tab line.now) 2 [])) }
 {
     let at = st.at;
     let tree = st.tree;
@@ -98,7 +97,7 @@ pub fn tree_line(
     kind: Kind,
     fields: usize,
     table: &mut [Row],
-    places: &mut [usize],
+    places: &mut [ElementPlaces],
 ) -> Result<State, Refusal>
     requires { BeforeLine file.now table.old places.old st × EndedLine file.now st end × TreeLine (cut tab (part file.now st.at end)) kind fields }
     ensures { StepIs file.now table.old places.old table.new places.new st end result }

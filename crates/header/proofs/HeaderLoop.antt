@@ -19,8 +19,9 @@ use Rattle.refusals.specs.Numbers.{number_of}
 use Rattle.refusals.proofs.Numbers.{not_zero}
 use Rattle.table.specs.declared.Row.{Row}
 use Rattle.table.specs.Rows.{Rows, no_row}
-use Rattle.layout.specs.Places.{part, Clear}
-use Rattle.layout.proofs.Slots.{zeros_clear}
+use Rattle.layout.specs.declared.ElementPlaces.{ElementPlaces}
+use Rattle.layout.specs.Places.{no_places, part, Clear}
+use Rattle.layout.proofs.Slots.{none_clear}
 use Rattle.attribute_lines.specs.declared.State.{State}
 use Rattle.attribute_lines.specs.Sofar.{refusal_by}
 use Rattle.attribute_lines.specs.Steps.{beginning}
@@ -38,13 +39,13 @@ rows_room : Rows no_rows 64
 unfolding no_rows
 rows_room = omega (arith, length-replicate {A = Row} 64 no_row)
 
-blank_room : 384 ≤ length blank
+blank_room : 64 ≤ length blank
 unfolding blank
-blank_room = omega (arith, length-replicate {A = ℕ} 512 0)
+blank_room = omega (arith, length-replicate {A = ElementPlaces} 64 no_places)
 
 blank_clear : Clear blank 0
 unfolding blank
-blank_clear = zeros_clear 512
+blank_clear = none_clear 64
 
 -- 1: they are too long
 pub too_long : (h : Bytes) → 16384 < length h → HeaderAs h (Err (record { why = LongFile; second = 0 })) (read_header h)

@@ -7,7 +7,8 @@ use Rattle.refusals.specs.declared.Refusal.{Refusal}
 use Rattle.refusals.specs.Numbers.{number_in}
 use Rattle.table.specs.declared.Row.{Row}
 use Rattle.table.specs.Rows.{no_row}
-use Rattle.layout.specs.Places.{part}
+use Rattle.layout.specs.declared.ElementPlaces.{ElementPlaces}
+use Rattle.layout.specs.Places.{part, no_places}
 use Rattle.attribute_lines.specs.declared.State.{State}
 use Rattle.attribute_lines.specs.Sofar.{refusal_by}
 use Rattle.attribute_lines.specs.Steps.{BeforeLine, Next, read_sofar}
@@ -16,8 +17,8 @@ use Rattle.attribute_lines.specs.Steps.{BeforeLine, Next, read_sofar}
 unfoldable pub no_rows : List Row
 no_rows = replicate 64 no_row
 
-unfoldable pub blank : List ℕ
-blank = replicate 512 0
+unfoldable pub blank : List ElementPlaces
+blank = replicate 64 no_places
 
 abbrev pub sofar_at : Bytes → State → Sofar
 sofar_at h st = read_sofar h no_rows blank st

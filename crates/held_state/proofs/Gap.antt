@@ -10,6 +10,7 @@ use mathlib.Core.List.{List, [], ◌++◌, append_assoc}
 use lib.ListN.{length, take, drop, length-drop}
 use lib.Seq.{take_all, take-add, drop-drop}
 use Rattle.meaning.specs.Text.{Bytes, gathered, counting}
+use Rattle.layout.specs.declared.ElementPlaces.{ElementPlaces}
 use Rattle.layout.specs.Places.{part, start_of}
 use Rattle.printing.proofs.Walks.{gathered_more}
 use Rattle.trimmed_text.specs.Flags.{is_left}
@@ -29,7 +30,7 @@ no_part f a = let size : a - a ≡ 0 = omega arith in rw size
 last_part : (f : Bytes) (a : ℕ) → part f a (length f) ≡ drop a f
 last_part f a = take_all (length f - a) (drop a f) (omega (arith, length-drop a f))
 
-module _ (f : Bytes) (places struck : List ℕ) (n : ℕ) (h : Copies f places struck n) where
+module _ (f : Bytes) (places : List ElementPlaces) (struck : List ℕ) (n : ℕ) (h : Copies f places struck n) where
   abbrev from : ℕ → ℕ
   from i = reached f places n i
 

@@ -23,6 +23,7 @@ use Rattle.table.specs.declared.Row.{Row}
 use Rattle.table.specs.declared.Shape.{Shape}
 use Rattle.table.specs.Shape.{hit_of}
 use Rattle.outcomes.specs.Decided.{none_struck}
+use Rattle.layout.specs.declared.ElementPlaces.{ElementPlaces}
 use Rattle.layout.specs.Places.{start_of}
 use Rattle.trimmed_text.specs.Flags.{is_left, needless_at}
 use Rattle.trimmed_text.specs.Held.{PolicyHeld}
@@ -39,7 +40,7 @@ use Rattle.held_state.proofs.Gap.{one_struck}
 others_left : (i j : ℕ) → j ≢ i → is_left (set none_struck i 1) j ≡ true
 others_left i j other = eq-eqb (get_or (set none_struck i 1) j 0) 0 (get_or-set_other none_struck i j 1 0 other ∙ none_clear j)
 
-module _ (f : List ℕ) (table : List Row) (places : List ℕ) (s : Shape) (held : PolicyHeld f table places s) where
+module _ (f : List ℕ) (table : List Row) (places : List ElementPlaces) (s : Shape) (held : PolicyHeld f table places s) where
   step_read : (x : Step) → step_on f ≡ x → step_file f ≡ given x
   unfolding step_file
   step_read x e = rw (held.is_read, e)

@@ -7,6 +7,7 @@ ghost use Rattle.trimmed_text.specs.Held.{PolicyHeld};
 ghost use Rattle.held_state.specs.Closed.{closed};
 
 use differences::PolicyFile;
+use layout::ElementPlaces;
 use meaning::Stepped;
 use table::{Row, Shape};
 
@@ -19,7 +20,7 @@ fn close_gap(text: &mut [u8], start: usize, end: usize)
 }
 
 // Strikes the rule that trimming would strike next, in place; where no rule is needless the text stays.
-pub fn step(text: &mut [u8], table: &[Row], places: &[usize], shape: Shape) -> Stepped
+pub fn step(text: &mut [u8], table: &[Row], places: &[ElementPlaces], shape: Shape) -> Stepped
     requires { PolicyHeld text.old table.now places.now shape }
     ensures value { result ≡ step_answer text.old }
     ensures text_after { text.new ≡ step_lent text.old }
@@ -41,7 +42,7 @@ pub fn step(text: &mut [u8], table: &[Row], places: &[usize], shape: Shape) -> S
             struck: 0,
         };
     };
-    let start = places[2 * next];
+    let start = places[next].start;
     let end = trimmed_text::lines_end(text, places, n, next);
     close_gap(text, start, end);
     Stepped {

@@ -15,6 +15,7 @@ use Rattle.requests.specs.Values.{values_of, severals_of}
 use Rattle.requests.proofs.Laid.{values_with}
 use Rattle.table.specs.declared.Row.{Row}
 use Rattle.table.specs.Rows.{depth_of}
+use Rattle.layout.specs.declared.ElementPlaces.{ElementPlaces}
 use Rattle.layout.specs.Places.{attributes_of, severals_at}
 use Rattle.obligations.specs.Given.{outcome_left}
 use Rattle.obligations.proofs.Left.{outcome_whole}
@@ -41,7 +42,7 @@ pub refusal_answered : (f : Bytes) {n m : ℕ} → read f ≡ refused n m → (r
 unfolding decide_file
 refusal_answered f h request out = (rw h, rw h)
 
-module _ (f : List ℕ) (table : List Row) (places : List ℕ) (r : PolicyRead) (p : Policy) (h : read f ≡ given p) (holds : ReadPolicy f table places r p) (request out : Bytes) where
+module _ (f : List ℕ) (table : List Row) (places : List ElementPlaces) (r : PolicyRead) (p : Policy) (h : read f ≡ given p) (holds : ReadPolicy f table places r p) (request out : Bytes) where
   -- what a request of the policy gets, for this buffer
   abbrev gets : Request → Result Outcome
   gets q = outcome_for (length out) (decide p q)

@@ -14,8 +14,9 @@ use Rattle.reader.specs.declared.Policy.{Policy as PolicyRead}
 use Rattle.reader.specs.Told.{policy_shape, ReadPolicy, ReadIs}
 use Rattle.reader.proofs.FileRead.{file_read}
 use Rattle.jogimaduve.proofs.Shaping.{ready, counts_are, decided_are}
+use Rattle.layout.specs.declared.ElementPlaces.{ElementPlaces}
 
-held : (f : List ℕ) (table : List Row) (places : List ℕ) (r : PolicyRead) (p : Policy) (h : read f ≡ given p) (holds : ReadPolicy f table places r p) (s : Shape) → s ≡ policy_shape r → PolicyDecided f r.attributes table s
+held : (f : List ℕ) (table : List Row) (places : List ElementPlaces) (r : PolicyRead) (p : Policy) (h : read f ≡ given p) (holds : ReadPolicy f table places r p) (s : Shape) → s ≡ policy_shape r → PolicyDecided f r.attributes table s
 held f table places r p h holds s shaped = subst (PolicyDecided f r.attributes table) (sym shaped)
     (record {
       policy = p;
@@ -29,5 +30,5 @@ held f table places r p h holds s shaped = subst (PolicyDecided f r.attributes t
     })
 
 -- and of what reading it told
-pub held_read : {f : List ℕ} {table₀ : List Row} {places₀ : List ℕ} {table : List Row} {places : List ℕ} {x : PolicyRead} → ReadIs f table₀ places₀ table places (Ok x) → {s : Shape} → s ≡ policy_shape x → PolicyDecided f x.attributes table s
+pub held_read : {f : List ℕ} {table₀ : List Row} {places₀ : List ElementPlaces} {table : List Row} {places : List ElementPlaces} {x : PolicyRead} → ReadIs f table₀ places₀ table places (Ok x) → {s : Shape} → s ≡ policy_shape x → PolicyDecided f x.attributes table s
 held_read is_read shaped = let (p, h, holds) = file_read is_read in held _ _ _ _ p h holds _ shaped

@@ -17,6 +17,7 @@ use Rattle.table.specs.Shape.{counts_of, severals_of, hit_of}
 use Rattle.table.proofs.Children.{none_struck as no_rule_struck}
 use Rattle.outcomes.specs.Decided.{none_struck, decided_at}
 use Rattle.outcomes.specs.PolicyTable.{PolicyTable}
+use Rattle.layout.specs.declared.ElementPlaces.{ElementPlaces}
 use Rattle.layout.specs.Places.{place_at}
 use Rattle.layout.proofs.Adding.{placed_six}
 use Rattle.layout.proofs.Laws.{attributes_length, decided}
@@ -30,7 +31,7 @@ use Rattle.trimmed_text.proofs.Placed.{copies_lined}
 use Rattle.trimmed_text.proofs.ByPlace.{root_word, leaves}
 use Rattle.trimmed_text.proofs.Steadying.{steady}
 
-module _ (f : List ℕ) (table : List Row) (places : List ℕ) (r : PolicyRead) (p : Policy) (h : read f ≡ given p) (holds : ReadPolicy f table places r p) where
+module _ (f : List ℕ) (table : List Row) (places : List ElementPlaces) (r : PolicyRead) (p : Policy) (h : read f ≡ given p) (holds : ReadPolicy f table places r p) where
   pub attributes_are : length p.attributes ≡ r.attributes.len
   attributes_are = ap length holds.attributes ∙ attributes_length f r.attributes
 

@@ -28,13 +28,14 @@ use Rattle.reader.proofs.FileRead.{elements_are, few}
 use Rattle.outcomes.specs.Decided.{none_struck}
 use Rattle.trimmed_text.proofs.Whole.{none_clear}
 use Rattle.jogimaduve.proofs.Shaping.{attributes_are, hits_are, space_is}
+use Rattle.layout.specs.declared.ElementPlaces.{ElementPlaces}
 
 -- A file that was read is short, and so is a part of it
 pub small_text : (f : Bytes) (p : Policy) (h : read f ≡ given p) (needed : ℕ) → needed ≤ length f → needed < 4294967296
 small_text f p h needed l = omega (arith, (accepted f p h).size)
 
 -- The flags that striking leaves
-module _ (f : List ℕ) (table : List Row) (places : List ℕ) (r : PolicyRead) (p : Policy) (h : read f ≡ given p) (holds : ReadPolicy f table places r p) (s : Shape) (shaped : s ≡ policy_shape r)
+module _ (f : List ℕ) (table : List Row) (places : List ElementPlaces) (r : PolicyRead) (p : Policy) (h : read f ≡ given p) (holds : ReadPolicy f table places r p) (s : Shape) (shaped : s ≡ policy_shape r)
     (flags : List ℕ) (struck : flags ≡ (table-level.trimming_at f places table s.n (hit_of s) s.space s.n none_struck).flags) where
   abbrev text : Bytes
   text = copied f places flags r.elements

@@ -6,6 +6,7 @@ ghost use Rattle.meaning.specs.Operations.{decide_answer, decide_lent, trim_answ
 ghost use Rattle.refusals.specs.Numbers.{number_of};
 
 use differences::PolicyFile;
+use layout::ElementPlaces;
 use meaning::{Answer, Decided, Stepped};
 use refusals::Refused;
 use table::Row;
@@ -27,7 +28,7 @@ pub fn jogimaduve_decide(file: &[u8], request: &[u8], out: &mut [u8]) -> Decided
     ensures out_after { out.new ≡ decide_lent file.now request.now out.old }
 {
     let mut table = [Row::NONE; 64];
-    let mut places = [0usize; 384];
+    let mut places = [ElementPlaces::NONE; 64];
     let policy = match reader::read(file, &mut table, &mut places) {
         Ok(policy) => policy,
         Err(refused) => return undecided(refused),
@@ -44,7 +45,7 @@ pub fn jogimaduve_trim(file: &[u8], out: &mut [u8]) -> Answer
     ensures out_after { out.new ≡ trim_lent file.now out.old }
 {
     let mut table = [Row::NONE; 64];
-    let mut places = [0usize; 384];
+    let mut places = [ElementPlaces::NONE; 64];
     let policy = match reader::read(file, &mut table, &mut places) {
         Ok(policy) => policy,
         Err(refused) => return refused.into(),
@@ -73,7 +74,7 @@ pub fn jogimaduve_next_rule(file: &[u8], out: &mut [u8]) -> Answer
     ensures out_after { out.new ≡ next_rule_lent file.now out.old }
 {
     let mut table = [Row::NONE; 64];
-    let mut places = [0usize; 384];
+    let mut places = [ElementPlaces::NONE; 64];
     match reader::read(file, &mut table, &mut places) {
         Ok(policy) => rule_by_rule::show(file, &table, &places, policy.shape(), out),
         Err(refused) => refused.into(),
@@ -86,7 +87,7 @@ pub fn jogimaduve_strike(file: &[u8], rule: &[u8], out: &mut [u8]) -> Answer
     ensures out_after { out.new ≡ strike_lent file.now rule.now out.old }
 {
     let mut table = [Row::NONE; 64];
-    let mut places = [0usize; 384];
+    let mut places = [ElementPlaces::NONE; 64];
     match reader::read(file, &mut table, &mut places) {
         Ok(policy) => rule_by_rule::strike(file, &table, &places, policy.shape(), rule, out),
         Err(refused) => refused.into(),
@@ -99,7 +100,7 @@ pub fn jogimaduve_step(text: &mut [u8]) -> Stepped
     ensures text_after { text.new ≡ step_lent text.old }
 {
     let mut table = [Row::NONE; 64];
-    let mut places = [0usize; 384];
+    let mut places = [ElementPlaces::NONE; 64];
     match reader::read(text, &mut table, &mut places) {
         Ok(policy) => held_state::step(text, &table, &places, policy.shape()),
         Err(refused) => Stepped {
@@ -115,7 +116,7 @@ pub fn jogimaduve_accept(original: &[u8], proposal: &[u8]) -> Answer
     ensures { result ≡ accept_answer original.now proposal.now }
 {
     let mut table = [Row::NONE; 64];
-    let mut places = [0usize; 384];
+    let mut places = [ElementPlaces::NONE; 64];
     match reader::read(original, &mut table, &mut places) {
         Ok(policy) => accepting::accept(original, &table, &places, policy.shape(), proposal),
         Err(refused) => refused.into(),
@@ -128,9 +129,9 @@ pub fn jogimaduve_join(first: &[u8], second: &[u8], word: &[u8], out: &mut [u8])
     ensures out_after { out.new ≡ join_lent first.now second.now word.now out.old }
 {
     let mut table = [Row::NONE; 64];
-    let mut places = [0usize; 384];
+    let mut places = [ElementPlaces::NONE; 64];
     match reader::read(first, &mut table, &mut places) {
-        Ok(policy) => joining::join(first, policy.attributes, places[0], second, word, out),
+        Ok(policy) => joining::join(first, policy.attributes, places[0].start, second, word, out),
         Err(refused) => refused.into(),
     }
 }
@@ -141,7 +142,7 @@ pub fn jogimaduve_report(file: &[u8], out: &mut [u8]) -> Answer
     ensures out_after { out.new ≡ report_lent file.now out.old }
 {
     let mut table = [Row::NONE; 64];
-    let mut places = [0usize; 384];
+    let mut places = [ElementPlaces::NONE; 64];
     match reader::read(file, &mut table, &mut places) {
         Ok(policy) => reporting::report(file, &table, &places, policy.shape(), out),
         Err(refused) => refused.into(),
@@ -154,7 +155,7 @@ pub fn jogimaduve_value_pairs(file: &[u8], attribute: &[u8], out: &mut [u8]) -> 
     ensures out_after { out.new ≡ value_pairs_lent file.now attribute.now out.old }
 {
     let mut table = [Row::NONE; 64];
-    let mut places = [0usize; 384];
+    let mut places = [ElementPlaces::NONE; 64];
     match reader::read(file, &mut table, &mut places) {
         Ok(policy) => {
             let shape = policy.shape();

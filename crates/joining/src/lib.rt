@@ -5,7 +5,7 @@ ghost use Rattle.std.specs.Prelude.{◌≡◌, ◌≤◌, length};
 ghost use Rattle.meaning.specs.Operations.{join_answer, join_lent};
 ghost use Rattle.joining.specs.Held.{FileHeld, Accepted};
 
-use layout::Attributes;
+use layout::{Attributes, ElementPlaces};
 use meaning::{Answer, Kind};
 use refusals::{Refusal, Refused};
 use table::Row;
@@ -16,7 +16,7 @@ fn accept(text: &[u8], out: &mut [u8]) -> Answer
     ensures { Accepted text.now out.old out.new result }
 {
     let mut table = [Row::NONE; 64];
-    let mut places = [0usize; 384];
+    let mut places = [ElementPlaces::NONE; 64];
     match reader::read(text, &mut table, &mut places) {
         Ok(_) => {
             let needed = text.len();
@@ -87,11 +87,11 @@ pub fn join(
     ensures out_after { out.new ≡ join_lent first.now second.now word.now out.old }
 {
     let mut table = [Row::NONE; 64];
-    let mut places = [0usize; 384];
+    let mut places = [ElementPlaces::NONE; 64];
     match reader::read(second, &mut table, &mut places) {
         Ok(policy) => {
             let b = policy.attributes;
-            join_both(first, a, from, second, b, places[0], word, out)
+            join_both(first, a, from, second, b, places[0].start, word, out)
         }
         Err(refused) => refused.into(),
     }

@@ -1,15 +1,16 @@
 -- Laws for the reader: one element more, the names of the elements, the attributes one by one, the empty tree.
-use Prim.Native.Nat.{ℕ, zero, suc, ◌+◌, ◌-◌, ◌*◌, ◌≤◌, ◌<◌}
+use Prim.Native.Nat.{ℕ, zero, suc, ◌+◌, ◌-◌, ◌≤◌, ◌<◌}
 use mathlib.Core.Path.{◌≡◌, refl, sym, ap, ◌∙◌}
-use mathlib.Core.Logic.{⊎_elim}
+use mathlib.Core.Logic.{◌≢◌, ⊎_elim}
 use mathlib.Core.Bool.{Bool}
 use mathlib.Core.List.{List, [], ◌∷◌, ◌++◌, map, reverse, reverse-cons, map-append}
 use native.Mathlib.Nat.{eq-or-lt_of_le}
-use native.Mathlib.Numerals.{add-one}
 use native.Mathlib.Omega.{arith}
-use lib.ListN.{length, get_or, set, length-set, replicate, get_or-replicate}
-use lib.Seq.{sets, get_or-set_same, get_or-set_other, take-append_seam, length-sets}
-use borrow.Author.Tests.{eq-eqb}
+use lib.ListN.{length, get_or, length-set, replicate, get_or-replicate}
+use lib.Seq.{get_or-set_same, get_or-set_other, take-append_seam}
+use lib.Dec.{eqb}
+use borrow.Author.Tests.{eq-eqb, eqb-true, eqb-false}
+use Rattle.laws.proofs.Bools.{Test, passed, failed, test}
 use Rattle.meaning.specs.Text.{Bytes}
 use Rattle.meaning.specs.Model.{padded, name_of, unused, Policy, severals}
 use Rattle.meaning.specs.Deciding.{matches, child_replies, first_decision, decide}
@@ -20,7 +21,8 @@ use Rattle.table.specs.Rows.{word_at, element_at, Rows, with_row}
 use Rattle.table.specs.Tree.{left, before}
 use Rattle.table.proofs.Rows.{row_here, row_other}
 use Rattle.layout.specs.declared.Attributes.{Attributes}
-use Rattle.layout.specs.Places.{part, attribute_at, attributes_from, attributes_of, kind_at, start_of, name_in, obligation_place, obligation_count, element_in, elements_to, names_to, Named, Obliged, Clear, lines_to, Lined}
+use Rattle.layout.specs.declared.ElementPlaces.{ElementPlaces}
+use Rattle.layout.specs.Places.{part, attribute_at, attributes_from, attributes_of, kind_at, no_places, places_at, start_of, name_end, name_in, obligation_place, with_name, obligation_count, element_in, elements_to, names_to, Named, Obliged, Clear, lines_to, Lined}
 use Rattle.layout.proofs.Slots.{SameSlots, count_alike, obligations_alike, lines_alike, obliged_alike, none_in, none_obliged}
 use Rattle.std.specs.Prelude.{None}
 use Rattle.layout.specs.Nearest.{nearest, Stands}
@@ -41,21 +43,30 @@ element_of f start end row =
     }
 
 -- One name more that lies in the file, and one line more
-module _ (f : Bytes) (places : List ℕ) (n start end : ℕ) (room : 2 * n + 2 ≤ length places) where
-  abbrev more : List ℕ
-  more = sets places (2 * n) (start ∷ end ∷ [])
+module _ (f : Bytes) (places : List ElementPlaces) (n start end : ℕ) (room : n < length places) where
+  abbrev here : ElementPlaces
+  here = let p = places_at places n in record { start = start; name_end = end; first = p.first; second = p.second }
+
+  abbrev more : List ElementPlaces
+  more = with_name places n start end
+
+  new : places_at more n ≡ here
+  new = get_or-set_same places n here no_places room
 
   start_new : start_of more n ≡ start
-  start_new = rw (get_or-set_other (set places (2 * n) start) (suc (2 * n)) (2 * n) end 0 (λ e. omega arith)) (get_or-set_same places (2 * n) start 0 (omega arith))
+  start_new = ap (λ p. p.start) new
 
-  end_new : get_or more (2 * n + 1) 0 ≡ end
-  end_new = rw (add-one (2 * n)) (get_or-set_same (set places (2 * n) start) (suc (2 * n)) end 0 (rw length-set (omega arith)))
+  end_new : name_end more n ≡ end
+  end_new = ap (λ p. p.name_end) new
+
+  old : (i : ℕ) → i ≢ n → places_at more i ≡ places_at places i
+  old i other = get_or-set_other places n i here no_places other
 
   start_old : (i : ℕ) → i < n → start_of more i ≡ start_of places i
-  start_old i l = get_or-set_other (set places (2 * n) start) (suc (2 * n)) (2 * i) end 0 (λ e. omega arith) ∙ get_or-set_other places (2 * n) (2 * i) start 0 (λ e. omega arith)
+  start_old i l = ap (λ p. p.start) (old i (λ e. omega arith))
 
-  end_old : (i : ℕ) → i < n → get_or more (2 * i + 1) 0 ≡ get_or places (2 * i + 1) 0
-  end_old i l = get_or-set_other (set places (2 * n) start) (suc (2 * n)) (2 * i + 1) end 0 (λ e. omega arith) ∙ get_or-set_other places (2 * n) (2 * i + 1) start 0 (λ e. omega arith)
+  end_old : (i : ℕ) → i < n → name_end more i ≡ name_end places i
+  end_old i l = ap (λ p. p.name_end) (old i (λ e. omega arith))
 
   last : (i : ℕ) → i < suc n → i ≤ n
   last i l = omega arith
@@ -63,60 +74,65 @@ module _ (f : Bytes) (places : List ℕ) (n start end : ℕ) (room : 2 * n + 2 �
   pub named_more : start + 4 ≤ end → end ≤ length f → Named f places n → Named f more (suc n)
   named_more name inside named =
       record {
-        room = rw (length-sets places (2 * n) (start ∷ end ∷ [])) (omega arith);
+        room = rw (length-set places n here) (omega arith);
         starts = λ i l. ⊎_elim (λ (e : i ≡ n). rw (e, start_new, end_new) name) (λ (below : i < n). rw (start_old i below, end_old i below) (named.starts i below)) (eq-or-lt_of_le (last i l));
         ends = λ i l. ⊎_elim (λ (e : i ≡ n). rw (e, end_new) inside) (λ (below : i < n). rw (end_old i below) (named.ends i below)) (eq-or-lt_of_le (last i l));
       }
 
   -- the places of obligations stay, so the new element has none
-  pub same_slots : n < 64 → (i : ℕ) → SameSlots places more i
-  same_slots few i k l = (other (obligation_place i k) (omega arith), other (obligation_place i k + 1) (omega arith))
+  stays : (i k : ℕ) → obligation_place (places_at more i) k ≡ obligation_place (places_at places i) k
+  stays i k = go (test (eqb i n)) k
     where
-      other : (j : ℕ) → 128 ≤ j → get_or more j 0 ≡ get_or places j 0
-      other j far = get_or-set_other (set places (2 * n) start) (suc (2 * n)) j end 0 (λ e. omega arith) ∙ get_or-set_other places (2 * n) j start 0 (λ e. omega arith)
+      go : Test (eqb i n) → (k : ℕ) → obligation_place (places_at more i) k ≡ obligation_place (places_at places i) k
+      go (passed e) zero = rw (eqb-true i n e, new)
+      go (passed e) (suc k) = rw (eqb-true i n e, new)
+      go (failed e) k = ap (λ p. obligation_place p k) (old i (eqb-false i n e))
 
-  same_lines : n < 64 → (k : ℕ) → lines_to more k ≡ lines_to places k
-  same_lines few k = lines_alike places more k (λ i l. same_slots few i)
+  pub same_slots : (i : ℕ) → SameSlots places more i
+  same_slots i k l = (ap (λ s. s.start) (stays i k), ap (λ s. s.end) (stays i k))
 
-  pub lined_more : (lines : ℕ → ℕ) (a at : ℕ) → n < 64 → Clear places n → Lined lines places a n start → at ≡ lines (suc (a + lines_to places n)) → Lined lines more a (suc n) at
+  same_lines : (k : ℕ) → lines_to more k ≡ lines_to places k
+  same_lines k = lines_alike places more k (λ i l. same_slots i)
+
+  pub lined_more : (lines : ℕ → ℕ) (a at : ℕ) → Clear places n → Lined lines places a n start → at ≡ lines (suc (a + lines_to places n)) → Lined lines more a (suc n) at
   unfolding lines_to
-  lined_more lines a at few clear lined behind =
-      let none : obligation_count more n ≡ 0 = count_alike places more n (same_slots few n) ∙ (none_in f places n (clear n 0 (omega arith) (omega arith)).1).1 in
+  lined_more lines a at clear lined behind =
+      let none : obligation_count more n ≡ 0 = count_alike places more n (same_slots n) ∙ (none_in f places n (clear n 0 (omega arith) (omega arith)).1).1 in
       record {
-        next = behind ∙ ap lines (omega (arith, none, same_lines few n));
-        starts = λ i l. ⊎_elim (λ (e : i ≡ n). rw (e, start_new, same_lines few n) lined.next) (λ (below : i < n). start_old i below ∙ lined.starts i below ∙ ap (λ x. lines (a + x)) (sym (same_lines few i))) (eq-or-lt_of_le (last i l));
+        next = behind ∙ ap lines (omega (arith, none, same_lines n));
+        starts = λ i l. ⊎_elim (λ (e : i ≡ n). rw (e, start_new, same_lines n) lined.next) (λ (below : i < n). start_old i below ∙ lined.starts i below ∙ ap (λ x. lines (a + x)) (sym (same_lines i))) (eq-or-lt_of_le (last i l));
       }
 
-  pub clear_more : n < 64 → Clear places n → Clear more (suc n)
-  clear_more few clear i k from l = let same = same_slots few i k l in (same.0 ∙ (clear i k (omega arith) l).0, same.1 ∙ (clear i k (omega arith) l).1)
+  pub clear_more : Clear places n → Clear more (suc n)
+  clear_more clear i k from l = let same = same_slots i k l in (same.0 ∙ (clear i k (omega arith) l).0, same.1 ∙ (clear i k (omega arith) l).1)
 
-  pub obliged_more : n < 64 → 384 ≤ length places → Clear places n → ((i : ℕ) → i < n → Obliged f places i) → (i : ℕ) → i < suc n → Obliged f more i
-  obliged_more few long clear each i l =
+  pub obliged_more : Clear places n → ((i : ℕ) → i < n → Obliged f places i) → (i : ℕ) → i < suc n → Obliged f more i
+  obliged_more clear each i l =
       ⊎_elim
-      (λ (e : i ≡ n). rw e (none_obliged f more n (omega (arith, size)) (λ k m. let same = same_slots few n k m in (same.0 ∙ (clear n k (omega arith) m).0, same.1 ∙ (clear n k (omega arith) m).1))))
-      (λ (below : i < n). obliged_alike places more f i size (same_slots few i) (each i below))
+      (λ (e : i ≡ n). rw e (none_obliged f more n (omega (arith, size)) (λ k m. let same = same_slots n k m in (same.0 ∙ (clear n k (omega arith) m).0, same.1 ∙ (clear n k (omega arith) m).1))))
+      (λ (below : i < n). obliged_alike places more f i size (same_slots i) (each i below))
       (eq-or-lt_of_le (last i l))
     where
       size : length more ≡ length places
-      size = length-sets places (2 * n) (start ∷ end ∷ [])
+      size = length-set places n here
 
 -- One element more, put where there is room
-module _ (f : Bytes) (table : List Row) (places : List ℕ) (n start end : ℕ) (row : Row) (rows : Rows table (n + 1)) (room : 2 * n + 2 ≤ length places) (few : n < 64) (clear : Clear places n) where
+module _ (f : Bytes) (table : List Row) (places : List ElementPlaces) (n start end : ℕ) (row : Row) (rows : Rows table (n + 1)) (room : n < length places) (clear : Clear places n) where
   abbrev new_table : List Row
   new_table = with_row table n row
 
-  abbrev new_places : List ℕ
-  new_places = sets places (2 * n) (start ∷ end ∷ [])
+  abbrev new_places : List ElementPlaces
+  new_places = with_name places n start end
 
   element_new : element_in f new_table new_places n ≡ element_of f start end row
   unfolding element_in
   element_new =
-      let none = obligations_alike places new_places f n (same_slots f places n start end room few n) ∙ (none_in f places n (clear n 0 (omega arith) (omega arith)).1).0 in
+      let none = obligations_alike places new_places f n (same_slots f places n start end room n) ∙ (none_in f places n (clear n 0 (omega arith) (omega arith)).1).0 in
       rw (none, start_new f places n start end room, end_new f places n start end room, row_here table n row rows)
 
   element_old : (i : ℕ) → i < n → element_in f new_table new_places i ≡ element_in f table places i
   unfolding element_in
-  element_old i l = rw (obligations_alike places new_places f i (same_slots f places n start end room few i), start_old f places n start end room i l, end_old f places n start end room i l, row_other table n row i l)
+  element_old i l = rw (obligations_alike places new_places f i (same_slots f places n start end room i), start_old f places n start end room i l, end_old f places n start end room i l, row_other table n row i l)
 
   elements_old : (k : ℕ) → k ≤ n → elements_to f new_table new_places k ≡ elements_to f table places k
   unfolding elements_to
@@ -128,7 +144,7 @@ module _ (f : Bytes) (table : List Row) (places : List ℕ) (n start end : ℕ) 
   elements_more = rw (element_new, elements_old n (omega arith))
 
 -- The elements: how many there are, and what holds of all holds of each
-module _ (f : Bytes) (table : List Row) (places : List ℕ) where
+module _ (f : Bytes) (table : List Row) (places : List ElementPlaces) where
   pub elements_length : (n : ℕ) → length (elements_to f table places n) ≡ n
   unfolding elements_to
   elements_length zero = refl
@@ -143,7 +159,7 @@ module _ (f : Bytes) (table : List Row) (places : List ℕ) where
       last i l = omega arith
 
 -- The names of the elements
-pub element_names : (f : Bytes) (table : List Row) (places : List ℕ) (n : ℕ) → map name_of (elements_to f table places n) ≡ names_to f places n
+pub element_names : (f : Bytes) (table : List Row) (places : List ElementPlaces) (n : ℕ) → map name_of (elements_to f table places n) ≡ names_to f places n
 unfolding elements_to element_in names_to
 element_names f table places zero = refl
 element_names f table places (suc n) = rw (take-append_seam (name_in f places n) (replicate (16 - length (name_in f places n)) 0), element_names f table places n)
@@ -183,7 +199,7 @@ pub map_reverse : {A B : Type 0} (f : A → B) (xs : List A) → map f (reverse 
 map_reverse f [] = refl
 map_reverse f (x ∷ xs) = rw (reverse-cons x xs, reverse-cons (f x) (map f xs), map-append f (reverse xs) (x ∷ []), map_reverse f xs)
 
-pub elements_bare : (f : Bytes) (table : List Row) (places : List ℕ) (n : ℕ) → map bare (elements_to f table places n) ≡ before table n
+pub elements_bare : (f : Bytes) (table : List Row) (places : List ElementPlaces) (n : ℕ) → map bare (elements_to f table places n) ≡ before table n
 unfolding elements_to element_in before element_at
 elements_bare f table places zero = refl
 elements_bare f table places (suc n) = rw (elements_bare f table places n)
@@ -206,7 +222,7 @@ module _ (table : List Row) (struck : List ℕ) where
       left_more 0 n (λ k l. live k (omega arith)) ∙ rw (here, all_left n (λ k l. live k (omega arith)), reverse-cons)
 
 -- The decision on the table is that of the policy of its elements
-pub decided : (f : Bytes) (table : List Row) (places struck : List ℕ) (n : ℕ) (p : Policy) (q : List ℕ) → p.elements ≡ reverse (elements_to f table places n) → ((k : ℕ) → k < n → get_or struck k 0 ≡ 0)
+pub decided : (f : Bytes) (table : List Row) (places : List ElementPlaces) (struck : List ℕ) (n : ℕ) (p : Policy) (q : List ℕ) → p.elements ≡ reverse (elements_to f table places n) → ((k : ℕ) → k < n → get_or struck k 0 ≡ 0)
     → first_decision (matches (severals p.attributes) q) (left table struck 0 n) ≡ (decide p q).decision
 decided f table places struck n p q is live =
     ap (first_decision (matches (severals p.attributes) q)) (all_left table struck n live ∙ ap reverse (sym (elements_bare f table places n)) ∙ sym (map_reverse bare (elements_to f table places n)))

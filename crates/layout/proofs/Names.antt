@@ -13,6 +13,7 @@ use Rattle.meaning.specs.Joining.{declared, place_in}
 use Rattle.layout.specs.declared.Attributes.{Attributes}
 use Rattle.laws.proofs.Bools.{Test, passed, failed, test}
 use Rattle.laws.specs.Found.{found}
+use Rattle.layout.specs.declared.ElementPlaces.{ElementPlaces}
 use Rattle.layout.specs.Places.{attribute_at, attributes_from, attributes_of, place_named, names_to, has_name}
 
 -- the attributes from i on: none, or the one there and those behind it
@@ -63,7 +64,7 @@ place_told true i = refl
 place_told false i = refl
 
 -- a name is among those of n elements if one of them has it, and then the last that has it is one of them
-module _ (f name : Bytes) (places : List ℕ) where
+module _ (f name : Bytes) (places : List ElementPlaces) where
   among_is : (n : ℕ) → among_names name (names_to f places n) ≡ not (is_none (last_below (has_name f places name) n))
   unfolding names_to
   among_is zero = refl

@@ -1,49 +1,25 @@
 -- The obligations of an element by its places: how many there are, their names, and that the element has them.
-use Prim.Native.Nat.{ℕ, zero, suc, ◌+◌, ◌-◌, ◌*◌, ◌≤◌}
-use mathlib.Core.Path.{◌≡◌, refl, sym, ap, ◌∙◌}
+use Prim.Native.Nat.{ℕ, zero, suc, ◌-◌, ◌≤◌}
+use mathlib.Core.Path.{◌≡◌, refl}
 use mathlib.Core.Logic.{◌≢◌}
 use mathlib.Core.Bool.{Bool, true, false, cond}
 use mathlib.Core.List.{List, [], ◌∷◌, map}
 use native.Mathlib.Omega.{arith}
 use lib.Dec.{eqb}
-use lib.ListN.{length, take, get_or, replicate}
+use lib.ListN.{length, take, replicate}
 use lib.Seq.{take-append_seam}
-use borrow.Author.Tests.{eq-eqb, ne_eqb}
 use Rattle.meaning.specs.Text.{Bytes, same_name, among_names}
 use Rattle.meaning.specs.Model.{obligation_name, obligations_of}
 use Rattle.laws.proofs.Bools.{or_none_lem}
 use Rattle.laws.proofs.Places.{obligations_with}
 use Rattle.table.specs.declared.Row.{Row}
-use Rattle.layout.specs.Places.{part, obligation_start, obligation_end, obligation_at, obligations_in, obligation_count, element_in}
+use Rattle.layout.specs.declared.ElementPlaces.{ElementPlaces}
+use Rattle.layout.specs.Places.{part, obligation_start, obligation_end, obligation_at, obligations_in, count_at, obligation_count, element_in}
 use Rattle.layout.proofs.Slots.{count_is}
 
--- how many, by where their names end
-module _ (places : List ℕ) (i : ℕ) where
-  first_end : obligation_end places i 0 ≡ get_or places (129 + 4 * i) 0
-  first_end = ap (λ j. get_or places j 0) (omega arith)
-
-  second_end : obligation_end places i 1 ≡ get_or places (131 + 4 * i) 0
-  second_end = ap (λ j. get_or places j 0) (omega arith)
-
-  pub count_none : get_or places (129 + 4 * i) 0 ≡ 0 → 0 ≡ obligation_count places i
-  unfolding obligation_count
-  count_none none = rw (eq-eqb (obligation_end places i 0) 0 (first_end ∙ none))
-
-  module _ (some : get_or places (129 + 4 * i) 0 ≢ 0) where
-    one_there : eqb (obligation_end places i 0) 0 ≡ false
-    one_there = ne_eqb (obligation_end places i 0) 0 (λ e. some (sym first_end ∙ e))
-
-    pub count_one : get_or places (131 + 4 * i) 0 ≡ 0 → 1 ≡ obligation_count places i
-    unfolding obligation_count
-    count_one none = rw (one_there, eq-eqb (obligation_end places i 1) 0 (second_end ∙ none))
-
-    pub count_two : get_or places (131 + 4 * i) 0 ≢ 0 → 2 ≡ obligation_count places i
-    unfolding obligation_count
-    count_two more = rw (one_there, ne_eqb (obligation_end places i 1) 0 (λ e. more (sym second_end ∙ e)))
-
 -- at most two, so that the element has them all
-pub count_few : (places : List ℕ) (i : ℕ) → obligation_count places i ≤ 2
-unfolding obligation_count
+pub count_few : (places : List ElementPlaces) (i : ℕ) → obligation_count places i ≤ 2
+unfolding count_at
 count_few places i = go (eqb (obligation_end places i 0) 0) (eqb (obligation_end places i 1) 0)
   where
     go : (a b : Bool) → cond a 0 (cond b 1 2) ≤ 2
@@ -51,12 +27,12 @@ count_few places i = go (eqb (obligation_end places i 0) 0) (eqb (obligation_end
     go false true = omega arith
     go false false = omega arith
 
-pub obligations_in_lem : (f : Bytes) (table : List Row) (places : List ℕ) (i : ℕ) → obligations_of (element_in f table places i) ≡ obligations_in f places i
+pub obligations_in_lem : (f : Bytes) (table : List Row) (places : List ElementPlaces) (i : ℕ) → obligations_of (element_in f table places i) ≡ obligations_in f places i
 unfolding element_in
 obligations_in_lem f table places i = obligations_with (obligations_in f places i) (element_in f table places i) (omega (arith, count_is f places i, count_few places i))
 
 -- their names
-module _ (f : Bytes) (places : List ℕ) (i : ℕ) where
+module _ (f : Bytes) (places : List ElementPlaces) (i : ℕ) where
   abbrev pub obligation_name_at : ℕ → Bytes
   obligation_name_at k = part f (obligation_start places i k) (obligation_end places i k)
 
@@ -64,7 +40,7 @@ module _ (f : Bytes) (places : List ℕ) (i : ℕ) where
   name_again k = take-append_seam (obligation_name_at k) (replicate (16 - length (obligation_name_at k)) 0)
 
   pub obligation_names : map obligation_name (obligations_in f places i) ≡ take (obligation_count places i) (obligation_name_at 0 ∷ obligation_name_at 1 ∷ [])
-  unfolding obligations_in obligation_count
+  unfolding obligations_in count_at
   obligation_names = go (eqb (obligation_end places i 0) 0) (eqb (obligation_end places i 1) 0)
     where
       go : (a b : Bool) → map obligation_name (cond a [] (obligation_at f places i 0 ∷ cond b [] (obligation_at f places i 1 ∷ []))) ≡ take (cond a 0 (cond b 1 2)) (obligation_name_at 0 ∷ obligation_name_at 1 ∷ [])

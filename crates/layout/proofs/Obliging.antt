@@ -1,25 +1,25 @@
 -- One obligation more of the last element: the elements with it, and what holds of the places still.
-use Prim.Native.Nat.{ℕ, zero, suc, ◌+◌, ◌*◌, ◌≤◌, ◌<◌}
+use Prim.Native.Nat.{ℕ, zero, suc, ◌+◌, ◌≤◌, ◌<◌}
 use mathlib.Core.Path.{◌≡◌, refl, sym, ap, ◌∙◌}
 use mathlib.Core.Logic.{◌≢◌, ⊎_elim}
 use mathlib.Core.List.{List, [], ◌∷◌, ◌++◌}
 use native.Mathlib.Nat.{eq-or-lt_of_le}
 use native.Mathlib.Omega.{arith}
 use lib.Dec.{eqb}
-use lib.ListN.{length, get_or}
+use lib.ListN.{length}
 use borrow.Author.Tests.{eqb-true, eqb-false}
 use Rattle.meaning.specs.Text.{Bytes}
 use Rattle.meaning.specs.Model.{obligations_of, with_obligations}
 use Rattle.meaning.specs.Reading.{nearest_with}
 use Rattle.laws.proofs.Bools.{Test, passed, failed, test}
 use Rattle.table.specs.declared.Row.{Row}
-use Rattle.layout.specs.Places.{start_of, obligation_start, obligation_end, obligation_in, obligations_in, obligation_count, element_in, elements_to, Named, Obliged, lines_to, Lined}
+use Rattle.layout.specs.declared.ElementPlaces.{ElementPlaces}
+use Rattle.layout.specs.Places.{start_of, name_end, obligation_start, obligation_end, obligation_in, obligations_in, obligation_count, element_in, elements_to, Named, Obliged, lines_to, Lined}
 use Rattle.layout.proofs.Slots.{SameSlots, obligations_alike, lines_alike, obliged_alike, none_in, obliging, obliging_length, start_here, end_here, other_element, other_slot, lines_start, names_end, obligations_more, count_more}
 use Rattle.layout.proofs.Obligations.{obligations_in_lem}
 
 -- it lies in the file, behind the others of element m
-pub record Oblige (f : Bytes) (xs : List ℕ) (m k start end : ℕ) : Type 0 where
-  pub few : m < 64
+pub record Oblige (f : Bytes) (xs : List ElementPlaces) (m k start end : ℕ) : Type 0 where
   pub place : k < 2
   pub counted : obligation_count xs m ≡ k
   pub obliged : Obliged f xs m
@@ -27,8 +27,8 @@ pub record Oblige (f : Bytes) (xs : List ℕ) (m k start end : ℕ) : Type 0 whe
   pub inside : end + 1 < length f
   pub short : end ≤ start + 16
 
-module _ (f : Bytes) (xs : List ℕ) (m k start end : ℕ) (o : Oblige f xs m k start end) where
-  abbrev pub more : List ℕ
+module _ (f : Bytes) (xs : List ElementPlaces) (m k start end : ℕ) (o : Oblige f xs m k start end) where
+  abbrev pub more : List ElementPlaces
   more = obliging xs m k start end o.obliged.room o.place
 
   some : end ≢ 0
@@ -37,11 +37,11 @@ module _ (f : Bytes) (xs : List ℕ) (m k start end : ℕ) (o : Oblige f xs m k 
   below : (i : ℕ) → i < m → SameSlots xs more i
   below i l = other_element xs m k start end o.obliged.room o.place i (λ e. omega arith)
 
-  same_start : (i : ℕ) → i ≤ m → start_of more i ≡ start_of xs i
-  same_start i l = lines_start xs m k start end o.obliged.room o.place i (omega (arith, o.few))
+  same_start : (i : ℕ) → start_of more i ≡ start_of xs i
+  same_start i = lines_start xs m k start end o.obliged.room o.place i
 
-  same_end : (i : ℕ) → i ≤ m → get_or more (2 * i + 1) 0 ≡ get_or xs (2 * i + 1) 0
-  same_end i l = names_end xs m k start end o.obliged.room o.place i (omega (arith, o.few))
+  same_end : (i : ℕ) → name_end more i ≡ name_end xs i
+  same_end i = names_end xs m k start end o.obliged.room o.place i
 
   -- the elements: the last has it behind its others
   behind : obligations_in f more m ≡ obligations_in f xs m ++ (obligation_in f start end ∷ [])
@@ -49,7 +49,7 @@ module _ (f : Bytes) (xs : List ℕ) (m k start end : ℕ) (o : Oblige f xs m k 
 
   element_old : (table : List Row) (i : ℕ) → i < m → element_in f table more i ≡ element_in f table xs i
   unfolding element_in
-  element_old table i l = rw (obligations_alike xs more f i (below i l), same_start i (omega arith), same_end i (omega arith))
+  element_old table i l = rw (obligations_alike xs more f i (below i l), same_start i, same_end i)
 
   elements_old : (table : List Row) (n : ℕ) → n ≤ m → elements_to f table more n ≡ elements_to f table xs n
   unfolding elements_to
@@ -58,7 +58,7 @@ module _ (f : Bytes) (xs : List ℕ) (m k start end : ℕ) (o : Oblige f xs m k 
 
   element_new : (table : List Row) → element_in f table more m ≡ with_obligations (obligations_of (element_in f table xs m) ++ (obligation_in f start end ∷ [])) (element_in f table xs m)
   unfolding element_in
-  element_new table = rw (obligations_in_lem f table xs m, behind, same_start m (omega arith), same_end m (omega arith))
+  element_new table = rw (obligations_in_lem f table xs m, behind, same_start m, same_end m)
 
   pub elements_obliged : (table : List Row) → elements_to f table more (suc m) ≡ nearest_with (obligation_in f start end) (elements_to f table xs (suc m))
   unfolding elements_to
@@ -69,8 +69,8 @@ module _ (f : Bytes) (xs : List ℕ) (m k start end : ℕ) (o : Oblige f xs m k 
   named_still named =
       record {
         room = rw (obliging_length xs m k start end o.obliged.room o.place) named.room;
-        starts = λ i l. rw (same_start i (omega arith), same_end i (omega arith)) (named.starts i l);
-        ends = λ i l. rw (same_end i (omega arith)) (named.ends i l);
+        starts = λ i l. rw (same_start i, same_end i) (named.starts i l);
+        ends = λ i l. rw (same_end i) (named.ends i l);
       }
 
   -- one line more
@@ -82,7 +82,7 @@ module _ (f : Bytes) (xs : List ℕ) (m k start end : ℕ) (o : Oblige f xs m k 
   lined_obliged lines a at next lined is =
       record {
         next = is ∙ ap lines (omega (arith, same_lines m (omega arith), o.counted, count_more f xs m start end o.obliged.room some o.obliged.in_order k o.place o.counted));
-        starts = λ i l. same_start i (omega arith) ∙ lined.starts i l ∙ ap (λ n. lines (a + n)) (sym (same_lines i (omega arith)));
+        starts = λ i l. same_start i ∙ lined.starts i l ∙ ap (λ n. lines (a + n)) (sym (same_lines i (omega arith)));
       }
 
   -- the obligations lie in the file

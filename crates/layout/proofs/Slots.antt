@@ -1,29 +1,30 @@
 -- The places of obligations: elements whose places are alike have the same obligations and lines; and one obligation more.
-use Prim.Native.Nat.{ℕ, zero, suc, ◌+◌, ◌*◌, ◌≤◌, ◌<◌}
+use Prim.Native.Nat.{ℕ, zero, suc, ◌<◌}
 use mathlib.Core.Path.{◌≡◌, refl, sym, ap, ◌∙◌}
 use mathlib.Core.Logic.{◌≢◌}
 use mathlib.Core.Bool.{Bool, true, false, cond}
 use mathlib.Core.List.{List, [], ◌∷◌, ◌++◌}
-use native.Mathlib.Numerals.{add-one}
 use native.Mathlib.Omega.{arith}
 use lib.Dec.{eqb}
-use lib.ListN.{length, take, get_or, set, replicate, length-set, length-append}
-use lib.Seq.{sets, get_or-set_same, get_or-set_other, length-sets}
-use borrow.Author.Tests.{eq-eqb, ne_eqb, eqb-true}
+use lib.ListN.{length, take, get_or, replicate, length-set, length-append}
+use lib.Seq.{get_or-set_same, get_or-set_other}
+use borrow.Author.Tests.{eq-eqb, ne_eqb, eqb-true, eqb-false}
 use Rattle.meaning.specs.Text.{Bytes}
 use Rattle.meaning.specs.declared.Obligation.{Obligation}
 use Rattle.meaning.specs.Model.{unused, obligations_of}
 use Rattle.laws.proofs.Bools.{Test, passed, failed, test}
 use Rattle.table.specs.declared.Row.{Row}
-use Rattle.layout.specs.Places.{start_of, obligation_place, obligation_start, obligation_end, obligation_in, obligation_at, obligations_in, obligation_count, element_in, Obliged, Clear, lines_to}
+use Rattle.layout.specs.declared.Span.{Span}
+use Rattle.layout.specs.declared.ElementPlaces.{ElementPlaces}
+use Rattle.layout.specs.Places.{no_places, places_at, start_of, name_end, obligation_place, obligation_start, obligation_end, obliging_at, with_obligation, obligation_in, obligation_at, obligations_in, count_at, obligation_count, element_in, Obliged, Clear, lines_to}
 
 -- Element i has the same places for obligations in both
-abbrev pub SameSlots : (xs ys : List ℕ) → ℕ → Type 0
+abbrev pub SameSlots : (xs ys : List ElementPlaces) → ℕ → Type 0
 SameSlots xs ys i = (k : ℕ) → k < 2 → (obligation_start ys i k ≡ obligation_start xs i k) × (obligation_end ys i k ≡ obligation_end xs i k)
 
-module _ (xs ys : List ℕ) where
+module _ (xs ys : List ElementPlaces) where
   pub count_alike : (i : ℕ) → SameSlots xs ys i → obligation_count ys i ≡ obligation_count xs i
-  unfolding obligation_count
+  unfolding count_at
   count_alike i same = rw ((same 0 (omega arith)).1, (same 1 (omega arith)).1)
 
   pub obligations_alike : (f : Bytes) (i : ℕ) → SameSlots xs ys i → obligations_in f ys i ≡ obligations_in f xs i
@@ -46,11 +47,11 @@ module _ (xs ys : List ℕ) where
       }
 
 -- an element without any
-pub none_in : (f : Bytes) (places : List ℕ) (i : ℕ) → obligation_end places i 0 ≡ 0 → (obligations_in f places i ≡ []) × (obligation_count places i ≡ 0)
-unfolding obligations_in obligation_count
+pub none_in : (f : Bytes) (places : List ElementPlaces) (i : ℕ) → obligation_end places i 0 ≡ 0 → (obligations_in f places i ≡ []) × (obligation_count places i ≡ 0)
+unfolding obligations_in count_at
 none_in f places i none = (rw (eq-eqb (obligation_end places i 0) 0 none), rw (eq-eqb (obligation_end places i 0) 0 none))
 
-pub none_obliged : (f : Bytes) (places : List ℕ) (i : ℕ) → 132 + 4 * i ≤ length places → ((k : ℕ) → k < 2 → (obligation_start places i k ≡ 0) × (obligation_end places i k ≡ 0)) → Obliged f places i
+pub none_obliged : (f : Bytes) (places : List ElementPlaces) (i : ℕ) → i < length places → ((k : ℕ) → k < 2 → (obligation_start places i k ≡ 0) × (obligation_end places i k ≡ 0)) → Obliged f places i
 none_obliged f places i room none =
     record {
       room = room;
@@ -60,18 +61,22 @@ none_obliged f places i room none =
       in_order = λ e. (none 1 (omega arith)).1;
     }
 
--- numbers that are all zeros have none
-pub zeros_clear : (n : ℕ) → Clear (replicate n 0) 0
-zeros_clear n i k from few = (zero_at n (obligation_place i k), zero_at n (obligation_place i k + 1))
+-- places of no elements have none
+pub none_clear : (n : ℕ) → Clear (replicate n no_places) 0
+none_clear n i k from few = blank k (none_at n i)
   where
-    zero_at : (n j : ℕ) → ◌≡◌ {A = ℕ} (get_or (replicate n 0) j 0) 0
-    zero_at zero j = refl
-    zero_at (suc n) zero = refl
-    zero_at (suc n) (suc j) = zero_at n j
+    none_at : (n i : ℕ) → places_at (replicate n no_places) i ≡ no_places
+    none_at zero i = refl
+    none_at (suc n) zero = refl
+    none_at (suc n) (suc i) = none_at n i
+
+    blank : (k : ℕ) → places_at (replicate n no_places) i ≡ no_places → (obligation_start (replicate n no_places) i k ≡ 0) × (obligation_end (replicate n no_places) i k ≡ 0)
+    blank zero e = (ap (λ p. p.first.start) e, ap (λ p. p.first.end) e)
+    blank (suc k) e = (ap (λ p. p.second.start) e, ap (λ p. p.second.end) e)
 
 -- their number
-pub count_is : (f : Bytes) (places : List ℕ) (i : ℕ) → length (obligations_in f places i) ≡ obligation_count places i
-unfolding obligations_in obligation_count
+pub count_is : (f : Bytes) (places : List ElementPlaces) (i : ℕ) → length (obligations_in f places i) ≡ obligation_count places i
+unfolding obligations_in count_at
 count_is f places i = go (eqb (obligation_end places i 0) 0) (eqb (obligation_end places i 1) 0)
   where
     go : (a b : Bool) → length (cond a [] (obligation_at f places i 0 ∷ cond b [] (obligation_at f places i 1 ∷ []))) ≡ cond a 0 (cond b 1 2)
@@ -80,7 +85,7 @@ count_is f places i = go (eqb (obligation_end places i 0) 0) (eqb (obligation_en
     go false false = refl
 
 -- they are the element's
-pub obligations_of_lem : (f : Bytes) (table : List Row) (places : List ℕ) (i : ℕ) → obligations_of (element_in f table places i) ≡ obligations_in f places i
+pub obligations_of_lem : (f : Bytes) (table : List Row) (places : List ElementPlaces) (i : ℕ) → obligations_of (element_in f table places i) ≡ obligations_in f places i
 unfolding element_in obligations_in
 obligations_of_lem f table places i = go (eqb (obligation_end places i 0) 0) (eqb (obligation_end places i 1) 0)
   where
@@ -89,41 +94,76 @@ obligations_of_lem f table places i = go (eqb (obligation_end places i 0) 0) (eq
     go false true = refl
     go false false = refl
 
+-- What the places of one element have with another name of an obligation put there
+module _ (p : ElementPlaces) (name : Span) where
+  put_line : (k : ℕ) → (obliging_at p k name).start ≡ p.start
+  put_line zero = refl
+  put_line (suc k) = refl
+
+  put_name : (k : ℕ) → (obliging_at p k name).name_end ≡ p.name_end
+  put_name zero = refl
+  put_name (suc k) = refl
+
+  put_here : (k : ℕ) → obligation_place (obliging_at p k name) k ≡ name
+  put_here zero = refl
+  put_here (suc k) = refl
+
+  put_other : (k l : ℕ) → k < 2 → l < 2 → l ≢ k → obligation_place (obliging_at p k name) l ≡ obligation_place p l
+  put_other zero zero few more other = absurd (other refl)
+  put_other zero (suc l) few more other = refl
+  put_other (suc k) zero few more other = refl
+  put_other (suc k) (suc l) few more other = absurd (other (omega arith))
+
 -- One obligation more of element m, at its place k
-module _ (xs : List ℕ) (m k start end : ℕ) (room : 132 + 4 * m ≤ length xs) (place : k < 2) where
-  abbrev pub obliging : List ℕ
-  obliging = sets xs (obligation_place m k) (start ∷ end ∷ [])
+module _ (xs : List ElementPlaces) (m k start end : ℕ) (room : m < length xs) (place : k < 2) where
+  abbrev name : Span
+  name = record { start = start; end = end }
+
+  abbrev pub obliging : List ElementPlaces
+  obliging = with_obligation xs m k name
 
   pub obliging_length : length obliging ≡ length xs
-  obliging_length = length-sets xs (obligation_place m k) (start ∷ end ∷ [])
+  obliging_length = length-set xs m (obliging_at (places_at xs m) k name)
+
+  here : places_at obliging m ≡ obliging_at (places_at xs m) k name
+  here = get_or-set_same xs m (obliging_at (places_at xs m) k name) no_places room
+
+  elsewhere : (i : ℕ) → i ≢ m → places_at obliging i ≡ places_at xs i
+  elsewhere i other = get_or-set_other xs m i (obliging_at (places_at xs m) k name) no_places other
 
   pub start_here : obligation_start obliging m k ≡ start
-  start_here = get_or-set_other (set xs (obligation_place m k) start) (suc (obligation_place m k)) (obligation_place m k) end 0 (λ e. omega arith) ∙ get_or-set_same xs (obligation_place m k) start 0 (omega arith)
+  start_here = ap (λ p. (obligation_place p k).start) here ∙ ap (λ n. n.start) (put_here (places_at xs m) name k)
 
   pub end_here : obligation_end obliging m k ≡ end
-  end_here = rw (add-one (obligation_place m k)) (get_or-set_same (set xs (obligation_place m k) start) (suc (obligation_place m k)) end 0 (rw length-set (omega arith)))
-
-  pub elsewhere : (j : ℕ) → j ≢ obligation_place m k → j ≢ obligation_place m k + 1 → get_or obliging j 0 ≡ get_or xs j 0
-  elsewhere j a b = get_or-set_other (set xs (obligation_place m k) start) (suc (obligation_place m k)) j end 0 (λ e. b (omega arith)) ∙ get_or-set_other xs (obligation_place m k) j start 0 (λ e. a (omega arith))
+  end_here = ap (λ p. (obligation_place p k).end) here ∙ ap (λ n. n.end) (put_here (places_at xs m) name k)
 
   -- the places of all others stay
   pub other_element : (i : ℕ) → i ≢ m → SameSlots xs obliging i
-  other_element i other l few = (elsewhere (obligation_place i l) (λ e. other (omega arith)) (λ e. other (omega arith)), elsewhere (obligation_place i l + 1) (λ e. other (omega arith)) (λ e. other (omega arith)))
+  other_element i other l few = (ap (λ p. (obligation_place p l).start) (elsewhere i other), ap (λ p. (obligation_place p l).end) (elsewhere i other))
 
   pub other_slot : (l : ℕ) → l < 2 → l ≢ k → (obligation_start obliging m l ≡ obligation_start xs m l) × (obligation_end obliging m l ≡ obligation_end xs m l)
-  other_slot l few other = (elsewhere (obligation_place m l) (λ e. other (omega arith)) (λ e. omega arith), elsewhere (obligation_place m l + 1) (λ e. omega arith) (λ e. other (omega arith)))
+  other_slot l few other =
+      let same = ap (λ p. obligation_place p l) here ∙ put_other (places_at xs m) name k l place few other in (ap (λ n. n.start) same, ap (λ n. n.end) same)
 
-  pub lines_start : (i : ℕ) → i < 64 → start_of obliging i ≡ start_of xs i
-  lines_start i few = elsewhere (2 * i) (λ e. omega arith) (λ e. omega arith)
+  pub lines_start : (i : ℕ) → start_of obliging i ≡ start_of xs i
+  lines_start i = go (test (eqb i m))
+    where
+      go : Test (eqb i m) → start_of obliging i ≡ start_of xs i
+      go (passed e) = rw (eqb-true i m e) (ap (λ p. p.start) here ∙ put_line (places_at xs m) name k)
+      go (failed e) = ap (λ p. p.start) (elsewhere i (eqb-false i m e))
 
-  pub names_end : (i : ℕ) → i < 64 → get_or obliging (2 * i + 1) 0 ≡ get_or xs (2 * i + 1) 0
-  names_end i few = elsewhere (2 * i + 1) (λ e. omega arith) (λ e. omega arith)
+  pub names_end : (i : ℕ) → name_end obliging i ≡ name_end xs i
+  names_end i = go (test (eqb i m))
+    where
+      go : Test (eqb i m) → name_end obliging i ≡ name_end xs i
+      go (passed e) = rw (eqb-true i m e) (ap (λ p. p.name_end) here ∙ put_name (places_at xs m) name k)
+      go (failed e) = ap (λ p. p.name_end) (elsewhere i (eqb-false i m e))
 
   pub clear_still : (n : ℕ) → m < n → Clear xs n → Clear obliging n
   clear_still n l clear i j from few = let same = other_element i (λ e. omega arith) j few in (same.0 ∙ (clear i j from few).0, same.1 ∙ (clear i j from few).1)
 
 -- it comes behind those that are there
-module _ (f : Bytes) (xs : List ℕ) (m start end : ℕ) (room : 132 + 4 * m ≤ length xs) (some : end ≢ 0) (in_order : obligation_end xs m 0 ≡ 0 → obligation_end xs m 1 ≡ 0) where
+module _ (f : Bytes) (xs : List ElementPlaces) (m start end : ℕ) (room : m < length xs) (some : end ≢ 0) (in_order : obligation_end xs m 0 ≡ 0 → obligation_end xs m 1 ≡ 0) where
   abbrev e0 : ℕ
   e0 = obligation_end xs m 0
 
@@ -134,7 +174,7 @@ module _ (f : Bytes) (xs : List ℕ) (m start end : ℕ) (room : 132 + 4 * m ≤
   one = obligation_in f start end ∷ []
 
   pub obligations_more : (k : ℕ) (place : k < 2) → obligation_count xs m ≡ k → obligations_in f (obliging xs m k start end room place) m ≡ obligations_in f xs m ++ one
-  unfolding obligations_in obligation_count
+  unfolding obligations_in count_at
   obligations_more zero place c = go (test (eqb e0 0))
     where
       go : Test (eqb e0 0) → obligations_in f (obliging xs m 0 start end room place) m ≡ obligations_in f xs m ++ one

@@ -1,5 +1,5 @@
 -- Where attributes and elements stand in a file, and what the definitions make of the places.
-use Rattle.std.specs.Prelude.{ℕ, zero, suc, ◌+◌, ◌-◌, ◌*◌, ◌≤◌, ◌<◌, Bool, true, false, cond, List, [], ◌∷◌, map, ◌≡◌, ◌≢◌, eqb, length, take, drop, get_or, set, replicate, Option, Some, None}
+use Rattle.std.specs.Prelude.{ℕ, zero, suc, ◌+◌, ◌-◌, ◌≤◌, ◌<◌, Bool, true, false, cond, List, [], ◌∷◌, map, ◌≡◌, ◌≢◌, eqb, length, take, drop, get_or, set, replicate, Option, Some, None}
 use Rattle.meaning.specs.declared.Kind.{Kind}
 use Rattle.meaning.specs.declared.Kind.TheVariants.{Set, Policy, Rule}
 use Rattle.meaning.specs.declared.Word.{Word}
@@ -13,6 +13,8 @@ use Rattle.table.specs.declared.Row.{Row}
 use Rattle.table.specs.Rows.{element_at}
 use Rattle.layout.specs.declared.AttributePlace.{AttributePlace}
 use Rattle.layout.specs.declared.Attributes.{Attributes}
+use Rattle.layout.specs.declared.Span.{Span}
+use Rattle.layout.specs.declared.ElementPlaces.{ElementPlaces}
 
 -- the bytes from a up to b
 abbrev pub part : Bytes → ℕ → ℕ → Bytes
@@ -95,24 +97,51 @@ added a p = record { all = set a.all a.len p; len = a.len + 1 }
 abbrev pub kind_at : ℕ → Kind
 kind_at b = cond (eqb b 83) Set (cond (eqb b 80) Policy Rule)
 
--- Element i: `places` has a row of two for each, the start of its line and the end of its name, which starts at byte 4 of
--- the line; `table` has a row
-abbrev pub start_of : List ℕ → ℕ → ℕ
-start_of places i = get_or places (2 * i) 0
+-- Element i: `places` says where it stands, the start of its line and the end of its name, which starts at byte 4 of the
+-- line; `table` has a row
+abbrev pub no_name : Span
+no_name = record { start = 0; end = 0 }
 
-abbrev pub name_in : Bytes → List ℕ → ℕ → Bytes
-name_in f places i = part f (start_of places i + 4) (get_or places (2 * i + 1) 0)
+abbrev pub no_places : ElementPlaces
+no_places = record { start = 0; name_end = 0; first = no_name; second = no_name }
 
--- Its obligations: behind the places of 64 elements there are four more for each, where the names of its two obligations
--- start and end; an end of 0 is none. Behind the tab that ends a name stands the effect, told by its first byte
-abbrev pub obligation_place : ℕ → ℕ → ℕ
-obligation_place i k = 128 + 4 * i + 2 * k
+abbrev pub places_at : List ElementPlaces → ℕ → ElementPlaces
+places_at places i = get_or places i no_places
 
-abbrev pub obligation_start : List ℕ → ℕ → ℕ → ℕ
-obligation_start places i k = get_or places (obligation_place i k) 0
+abbrev pub start_of : List ElementPlaces → ℕ → ℕ
+start_of places i = (places_at places i).start
 
-abbrev pub obligation_end : List ℕ → ℕ → ℕ → ℕ
-obligation_end places i k = get_or places (obligation_place i k + 1) 0
+abbrev pub name_end : List ElementPlaces → ℕ → ℕ
+name_end places i = (places_at places i).name_end
+
+abbrev pub name_in : Bytes → List ElementPlaces → ℕ → Bytes
+name_in f places i = part f (start_of places i + 4) (name_end places i)
+
+-- Its obligations: where the names of both start and end; an end of 0 is none. Behind the tab that ends a name stands the
+-- effect, told by its first byte
+abbrev pub obligation_place : ElementPlaces → ℕ → Span
+obligation_place p zero = p.first
+obligation_place p (suc k) = p.second
+
+abbrev pub obligation_start : List ElementPlaces → ℕ → ℕ → ℕ
+obligation_start places i k = (obligation_place (places_at places i) k).start
+
+abbrev pub obligation_end : List ElementPlaces → ℕ → ℕ → ℕ
+obligation_end places i k = (obligation_place (places_at places i) k).end
+
+-- the places with those of the line and the name of element i put there
+abbrev pub with_name : List ElementPlaces → ℕ → (start end : ℕ) → List ElementPlaces
+with_name places i start end =
+    let p = places_at places i in
+    set places i (record { start = start; name_end = end; first = p.first; second = p.second })
+
+-- and with those of the name of its obligation k
+abbrev pub obliging_at : ElementPlaces → ℕ → Span → ElementPlaces
+obliging_at p zero name = record { start = p.start; name_end = p.name_end; first = name; second = p.second }
+obliging_at p (suc k) name = record { start = p.start; name_end = p.name_end; first = p.first; second = name }
+
+abbrev pub with_obligation : List ElementPlaces → ℕ → ℕ → Span → List ElementPlaces
+with_obligation places i k name = set places i (obliging_at (places_at places i) k name)
 
 abbrev pub effect_at : ℕ → Word
 effect_at b = cond (eqb b 112) Permit Deny
@@ -122,19 +151,22 @@ obligation_in f start end =
     let name = part f start end in
     record { name = padded 16 name; len = length name; word = effect_at (get_or f (end + 1) 0) }
 
-abbrev pub obligation_at : Bytes → List ℕ → ℕ → ℕ → Obligation
+abbrev pub obligation_at : Bytes → List ElementPlaces → ℕ → ℕ → Obligation
 obligation_at f places i k = obligation_in f (obligation_start places i k) (obligation_end places i k)
 
-unfoldable pub obligations_in : Bytes → List ℕ → ℕ → List Obligation
+unfoldable pub obligations_in : Bytes → List ElementPlaces → ℕ → List Obligation
 obligations_in f places i =
     let second = cond (eqb (obligation_end places i 1) 0) [] (obligation_at f places i 1 ∷ []) in
     cond (eqb (obligation_end places i 0) 0) [] (obligation_at f places i 0 ∷ second)
 
 -- how many they are
-unfoldable pub obligation_count : List ℕ → ℕ → ℕ
-obligation_count places i = cond (eqb (obligation_end places i 0) 0) 0 (cond (eqb (obligation_end places i 1) 0) 1 2)
+unfoldable pub count_at : ElementPlaces → ℕ
+count_at p = cond (eqb p.first.end 0) 0 (cond (eqb p.second.end 0) 1 2)
 
-unfoldable pub element_in : Bytes → List Row → List ℕ → ℕ → Element
+abbrev pub obligation_count : List ElementPlaces → ℕ → ℕ
+obligation_count places i = count_at (places_at places i)
+
+unfoldable pub element_in : Bytes → List Row → List ElementPlaces → ℕ → Element
 element_in f table places i =
     with_obligations (obligations_in f places i)
     (record {
@@ -150,45 +182,45 @@ element_in f table places i =
     })
 
 -- the first n elements and their names, the nearest first
-unfoldable pub elements_to : Bytes → List Row → List ℕ → ℕ → List Element
+unfoldable pub elements_to : Bytes → List Row → List ElementPlaces → ℕ → List Element
 elements_to f table places zero = []
 elements_to f table places (suc n) = element_in f table places n ∷ elements_to f table places n
 
-unfoldable pub names_to : Bytes → List ℕ → ℕ → List Bytes
+unfoldable pub names_to : Bytes → List ElementPlaces → ℕ → List Bytes
 names_to f places zero = []
 names_to f places (suc n) = name_in f places n ∷ names_to f places n
 
 -- element i has this name, letter case aside
-abbrev pub has_name : Bytes → List ℕ → Bytes → ℕ → Bool
+abbrev pub has_name : Bytes → List ElementPlaces → Bytes → ℕ → Bool
 has_name f places name i = same_name name (name_in f places i)
 
 -- the places of n elements lie in the file
-pub record Named (f : Bytes) (places : List ℕ) (n : ℕ) : Type 0 where
-  pub room : 2 * n ≤ length places
-  pub starts : (i : ℕ) → i < n → start_of places i + 4 ≤ get_or places (2 * i + 1) 0
-  pub ends : (i : ℕ) → i < n → get_or places (2 * i + 1) 0 ≤ length f
+pub record Named (f : Bytes) (places : List ElementPlaces) (n : ℕ) : Type 0 where
+  pub room : n ≤ length places
+  pub starts : (i : ℕ) → i < n → start_of places i + 4 ≤ name_end places i
+  pub ends : (i : ℕ) → i < n → name_end places i ≤ length f
 
 -- element i has a name of at most 16 bytes in the file
-pub record NameAt (f : Bytes) (places : List ℕ) (i : ℕ) : Type 0 where
-  pub room : 2 * i + 2 ≤ length places
-  pub starts : start_of places i + 4 ≤ get_or places (2 * i + 1) 0
-  pub ends : get_or places (2 * i + 1) 0 ≤ length f
-  pub short : get_or places (2 * i + 1) 0 ≤ start_of places i + 4 + 16
+pub record NameAt (f : Bytes) (places : List ElementPlaces) (i : ℕ) : Type 0 where
+  pub room : i < length places
+  pub starts : start_of places i + 4 ≤ name_end places i
+  pub ends : name_end places i ≤ length f
+  pub short : name_end places i ≤ start_of places i + 4 + 16
 
 -- the obligations of element i lie in the file, with names of at most 16 bytes
-pub record Obliged (f : Bytes) (places : List ℕ) (i : ℕ) : Type 0 where
-  pub room : 132 + 4 * i ≤ length places
+pub record Obliged (f : Bytes) (places : List ElementPlaces) (i : ℕ) : Type 0 where
+  pub room : i < length places
   pub starts : (k : ℕ) → k < 2 → obligation_start places i k ≤ obligation_end places i k
   pub ends : (k : ℕ) → k < 2 → obligation_end places i k ≢ 0 → obligation_end places i k + 1 < length f
   pub short : (k : ℕ) → k < 2 → obligation_end places i k ≤ obligation_start places i k + 16
   pub in_order : obligation_end places i 0 ≡ 0 → obligation_end places i 1 ≡ 0
 
 -- and from element n on there are none
-abbrev pub Clear : List ℕ → ℕ → Type 0
+abbrev pub Clear : List ElementPlaces → ℕ → Type 0
 Clear places n = (i k : ℕ) → n ≤ i → k < 2 → (obligation_start places i k ≡ 0) × (obligation_end places i k ≡ 0)
 
 -- each of at most 64 elements has
-pub record Naming (f : Bytes) (places : List ℕ) (n : ℕ) : Type 0 where
+pub record Naming (f : Bytes) (places : List ElementPlaces) (n : ℕ) : Type 0 where
   pub few : n ≤ 64
   pub each : (i : ℕ) → i < n → NameAt f places i
 
@@ -212,11 +244,11 @@ placed f (suc n) =
     added before (line_place at end (same (get_or fields 0 []) (letter_text true)) (get_or fields 1 []) (length fields))
 
 -- how many lines the first n elements have: one each, and one for each obligation
-unfoldable pub lines_to : List ℕ → ℕ → ℕ
+unfoldable pub lines_to : List ElementPlaces → ℕ → ℕ
 lines_to places zero = 0
 lines_to places (suc n) = lines_to places n + suc (obligation_count places n)
 
 -- So many attributes have a line each, and n elements behind them their lines; the next line starts at `at`
-pub record Lined (start : ℕ → ℕ) (places : List ℕ) (attributes n at : ℕ) : Type 0 where
+pub record Lined (start : ℕ → ℕ) (places : List ElementPlaces) (attributes n at : ℕ) : Type 0 where
   pub next : at ≡ start (attributes + lines_to places n)
   pub starts : (i : ℕ) → i < n → start_of places i ≡ start (attributes + lines_to places i)

@@ -5,15 +5,15 @@ mod element_places;
 mod growing;
 mod obligation_places;
 
-ghost use Rattle.std.specs.Prelude.{◌≡◌, map, ◌-◌, ◌≤◌, ◌<◌, IfSome};
+ghost use Rattle.std.specs.Prelude.{◌≡◌, map, ◌-◌, ◌≤◌, ◌<◌, IfSome, not, eqb};
 ghost use Rattle.meaning.specs.Text.{same_name, among_names};
 ghost use Rattle.meaning.specs.Model.{choices_of};
-ghost use Rattle.layout.specs.Places.{attribute_at, attributes_of, Standing, AllStanding, FewValues, sizes_of, values_in, severals_at, counts_at, no_attributes, added, place_named};
+ghost use Rattle.layout.specs.Places.{attribute_at, attributes_of, Standing, AllStanding, FewValues, sizes_of, values_in, severals_at, counts_at, no_attributes, added, place_named, obligation_place, count_at};
 
 pub use element_places::{element_name, element_named, known_element, put_element};
 pub use growing::{well_placed, with_element};
 use meaning::Kind;
-pub use obligation_places::{known_obligation, obligation_count, put_obligation};
+pub use obligation_places::{known_obligation, put_obligation};
 
 // Where an attribute stands, and whether it may have several values in a request: the start of its name, of its first value, the end of its
 // line; and its value count.
@@ -31,6 +31,22 @@ pub struct AttributePlace {
 pub struct Attributes {
     pub all: [AttributePlace; 6],
     pub len: usize,
+}
+
+// From where to where in a file.
+#[derive(Clone, Copy)]
+pub struct Span {
+    pub start: usize,
+    pub end: usize,
+}
+
+// Where an element stands in a file: the start of its line, the end of its name, and the names of its two obligations; one that ends at 0 is none.
+#[derive(Clone, Copy)]
+pub struct ElementPlaces {
+    pub start: usize,
+    pub name_end: usize,
+    pub first: Span,
+    pub second: Span,
 }
 
 // The elements so far: how many, the last one's depth, and for each depth the kind of the nearest.
@@ -125,6 +141,56 @@ impl Attributes {
         ensures { result.now ≡ values_in file.now self i }
     {
         &file[self.all[i].values..self.all[i].end]
+    }
+}
+
+impl Span {
+    const NONE: Span = Span { start: 0, end: 0 };
+
+    // Whether it stands for no obligation.
+    pub fn is_none(self) -> bool
+        ensures { result ≡ eqb self.end 0 }
+    {
+        self.end == 0
+    }
+}
+
+impl ElementPlaces {
+    // Those of no element.
+    pub const NONE: ElementPlaces = ElementPlaces {
+        start: 0,
+        name_end: 0,
+        first: Span::NONE,
+        second: Span::NONE,
+    };
+
+    // The name of the obligation at place k.
+    pub fn obligation(self, k: usize) -> Span
+        ensures { result ≡ obligation_place self k }
+    {
+        if k == 0 { self.first } else { self.second }
+    }
+
+    // Whether there are any obligations.
+    pub fn has_obligations(self) -> bool
+        ensures { result ≡ not (eqb self.first.end 0) }
+    {
+        !self.first.is_none()
+    }
+
+    // How many obligations there are.
+    #[tactic(auto, unfolding(crate::specs::Places::count_at))]
+    pub fn obligation_count(self) -> usize
+        ensures value { result ≡ count_at self }
+        ensures within { result ≤ 2 }
+    {
+        if self.first.is_none() {
+            return 0;
+        }
+        if self.second.is_none() {
+            return 1;
+        }
+        2
     }
 }
 

@@ -22,6 +22,7 @@ use Rattle.laws.proofs.Places.{lines_in}
 use Rattle.laws.proofs.Bounds.{bounded}
 use Rattle.laws.proofs.OtherLines.{at_the_end}
 use Rattle.table.specs.declared.Row.{Row}
+use Rattle.layout.specs.declared.ElementPlaces.{ElementPlaces}
 use Rattle.layout.specs.Places.{part, start_of, obligation_count, lines_to}
 use Rattle.table.specs.declared.Shape.{Shape}
 use Rattle.table.specs.Rows.{word_number}
@@ -61,7 +62,7 @@ map_take F (suc k) [] = refl
 map_take F (suc k) (x ∷ xs) = ap (λ ys. F x ∷ ys) (map_take F k xs)
 
 -- The proposal's bytes from a place on are the text of some lines
-module _ (f : Bytes) (places : List ℕ) (t : List Row) (n : ℕ) (g : Bytes) (at : ℕ) (inside : at ≤ length g) (ls : List Bytes) (text : drop at g ≡ unlines ls) (free : Frees newline ls)
+module _ (f : Bytes) (places : List ElementPlaces) (t : List Row) (n : ℕ) (g : Bytes) (at : ℕ) (inside : at ≤ length g) (ls : List Bytes) (text : drop at g ≡ unlines ls) (free : Frees newline ls)
     (start end : ℕ) (xs : List Bytes) (own : part f start end ≡ unlines xs) (size : end - start ≡ length (unlines xs)) (plain : Frees newline xs) where
   -- they begin with those of an element
   begins_so : (ms : List Bytes) → ls ≡ xs ++ ms → begins f places t n g at start end ≡ true
@@ -103,7 +104,7 @@ one_line : (ys : List Bytes) → 1 ≤ length ys → (l : Bytes) × (take 1 ys �
 one_line [] h = absurd (omega arith)
 one_line (y ∷ ys) h = (y, refl)
 
-module _ (f : List ℕ) (table : List Row) (places : List ℕ) (s : Shape) (held : PolicyHeld f table places s) (g : Bytes) where
+module _ (f : List ℕ) (table : List Row) (places : List ElementPlaces) (s : Shape) (held : PolicyHeld f table places s) (g : Bytes) where
   abbrev p : Policy
   p = held.policy
 

@@ -35,6 +35,7 @@ use Rattle.trimmed_text.proofs.Placed.{text_copied}
 use Rattle.trimmed_text.proofs.Whole.{none_clear}
 use Rattle.trimmed_text.proofs.Held.{sizes, steady_held}
 use Rattle.left_out.specs.Leaving.{leaving_from, leaving, begins}
+use Rattle.layout.specs.declared.ElementPlaces.{ElementPlaces}
 use Rattle.layout.specs.Places.{start_of}
 use Rattle.meaning.specs.Claims.Accepting.{LeavesOut, up_to, kept, left_out}
 use Rattle.left_out.proofs.Text.{ClearFrom, clear_next, Way, stands, is_struck, is_other, way, whole_text}
@@ -64,7 +65,7 @@ strike_leaves os f p h k r x =
     let left : file_lines (strike k f) ≡ without k (file_lines f) = ap front (strike_without f p h k r ∙ ap (without k) ended ∙ less) ∙ front_snoc (without k (file_lines f)) [] in
     subst (λ ls. LeavesOut os ls []) (sym left) (leaves_more x k rule)
 
-module _ (f : List ℕ) (table : List Row) (places : List ℕ) (s : Shape) (held : PolicyHeld f table places s) where
+module _ (f : List ℕ) (table : List Row) (places : List ElementPlaces) (s : Shape) (held : PolicyHeld f table places s) where
   abbrev p : Policy
   p = held.policy
 

@@ -14,6 +14,7 @@ use Rattle.laws.proofs.Bools.{Test, passed, failed, test, contradiction}
 use Rattle.laws.proofs.Text.{same_true}
 use Rattle.table.specs.declared.Row.{Row}
 use Rattle.table.specs.Rows.{word_number}
+use Rattle.layout.specs.declared.ElementPlaces.{ElementPlaces}
 use Rattle.layout.specs.Places.{part, start_of}
 use Rattle.trimmed_text.specs.Copied.{lines_end, piece_at, copied}
 use Rattle.left_out.specs.Leaving.{Leaving, begins, leaving_from, leaving}
@@ -25,7 +26,7 @@ ClearFrom i struck = (j : ℕ) → i ≤ j → get_or struck j 0 ≡ 0
 pub clear_next : (i flag : ℕ) (struck : List ℕ) → ClearFrom i struck → ClearFrom (i + 1) (set struck i flag)
 clear_next i flag struck clear j l = get_or-set_other struck i j flag 0 (λ e. omega (arith, e)) ∙ clear j (omega arith)
 
-module _ (f : Bytes) (places : List ℕ) (t : List Row) (n : ℕ) (g : Bytes) where
+module _ (f : Bytes) (places : List ElementPlaces) (t : List Row) (n : ℕ) (g : Bytes) where
   abbrev from : (m i at : ℕ) → List ℕ → Leaving
   from = leaving_from f places t n g
 

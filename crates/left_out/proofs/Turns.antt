@@ -13,6 +13,7 @@ use Rattle.meaning.specs.Text.{Bytes, same}
 use Rattle.laws.proofs.Text.{same_length, same_true}
 use Rattle.table.specs.declared.Row.{Row}
 use Rattle.table.specs.Rows.{word_number}
+use Rattle.layout.specs.declared.ElementPlaces.{ElementPlaces}
 use Rattle.layout.specs.Places.{part, start_of}
 use Rattle.trimmed_text.specs.Copied.{lines_end}
 use Rattle.left_out.specs.Leaving.{begins, leaving_from, leaving}
@@ -31,7 +32,7 @@ enough g f at start end here inside e =
     let alike : length own ≡ length (part f start end) = ap length (same_true own (part f start end) e) in
     omega (arith, size, alike, length-drop at g, length-take (at + (end - start) - at) (drop at g), min-le_right (at + (end - start) - at) (length (drop at g)))
 
-module _ (f : Bytes) (places : List ℕ) (t : List Row) (n : ℕ) (g : Bytes) (struck : List ℕ) where
+module _ (f : Bytes) (places : List ElementPlaces) (t : List Row) (n : ℕ) (g : Bytes) (struck : List ℕ) where
   -- the bytes before the first element
   pub other_start : begins f places t n g 0 0 (start_of places 0) ≡ false → leaving f places t n g struck ≡ record { whole = false; flags = struck }
   other_start e = rw e
@@ -45,7 +46,7 @@ module _ (f : Bytes) (places : List ℕ) (t : List Row) (n : ℕ) (g : Bytes) (s
   at_end i at l m = let none : n - i ≡ 0 = omega arith in rw none
 
 -- element i, whose lines end at `end`
-module _ (f : Bytes) (places : List ℕ) (t : List Row) (n : ℕ) (g : Bytes) (i at end : ℕ) (struck : List ℕ) (l : i < n) (ends : end ≡ lines_end f places n i) where
+module _ (f : Bytes) (places : List ElementPlaces) (t : List Row) (n : ℕ) (g : Bytes) (i at end : ℕ) (struck : List ℕ) (l : i < n) (ends : end ≡ lines_end f places n i) where
   one_less : n - i ≡ suc (n - (i + 1))
   one_less = omega arith
 

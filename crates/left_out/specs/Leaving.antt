@@ -3,6 +3,7 @@ use Rattle.std.specs.Prelude.{ℕ, zero, suc, ◌+◌, ◌-◌, Bool, false, con
 use Rattle.meaning.specs.Text.{Bytes, same}
 use Rattle.table.specs.declared.Row.{Row}
 use Rattle.table.specs.Rows.{word_number}
+use Rattle.layout.specs.declared.ElementPlaces.{ElementPlaces}
 use Rattle.layout.specs.Places.{part, start_of}
 use Rattle.trimmed_text.specs.Copied.{lines_end}
 
@@ -12,7 +13,7 @@ pub record Leaving : Type 0 where
   pub flags : List ℕ
 
 -- A file, where its elements' lines stand, its table and how many they are, and a proposal
-module _ (f : Bytes) (places : List ℕ) (t : List Row) (n : ℕ) (g : Bytes) where
+module _ (f : Bytes) (places : List ElementPlaces) (t : List Row) (n : ℕ) (g : Bytes) where
   -- the proposal has, from a place on, the file's bytes from start to end
   abbrev pub begins : (at start end : ℕ) → Bool
   begins at start end = same (part g at (at + (end - start))) (part f start end)

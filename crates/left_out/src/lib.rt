@@ -8,6 +8,7 @@ ghost use Rattle.layout.specs.Places.{part};
 ghost use Rattle.trimmed_text.specs.Copied.{Copies};
 ghost use Rattle.left_out.specs.Leaving.{leaving};
 
+use layout::ElementPlaces;
 use meaning::Word;
 use table::Row;
 
@@ -26,7 +27,7 @@ fn begins(text: &[u8], at: usize, file: &[u8], start: usize, end: usize) -> bool
 // Sets the flag of each rule whose line the proposal leaves out, up to the first line of another element that it lacks. Whether it is the file's lines without those, is the result.
 pub fn leave_out(
     file: &[u8],
-    places: &[usize],
+    places: &[ElementPlaces],
     table: &[Row],
     n: usize,
     proposal: &[u8],
@@ -35,13 +36,13 @@ pub fn leave_out(
     requires { Copies file.now places.now struck.old n × Rows table.now n }
     ensures { (result ≡ (leaving file.now places.now table.now n proposal.now struck.old).whole) × (struck.new ≡ (leaving file.now places.now table.now n proposal.now struck.old).flags) }
 {
-    let first = places[0];
+    let first = places[0].start;
     if !begins(proposal, 0, file, 0, first) {
         return false;
     }
     let mut at = first;
     for i in 0..n {
-        let start = places[2 * i];
+        let start = places[i].start;
         let end = trimmed_text::lines_end(file, places, n, i);
         if begins(proposal, at, file, start, end) {
             at += end - start;

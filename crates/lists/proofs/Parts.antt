@@ -19,6 +19,7 @@ use Rattle.meaning.specs.Text.{Bytes}
 use Rattle.meaning.specs.Model.{padded, unused}
 use Rattle.table.specs.declared.Row.{Row}
 use Rattle.table.specs.Rows.{word_at, depth_of, element_at, word_number, masks_at}
+use Rattle.layout.specs.declared.ElementPlaces.{ElementPlaces}
 use Rattle.layout.specs.Places.{part, kind_at, start_of, name_in, effect_at, obligation_start, obligation_end, obligation_at, obligations_in, obligation_count, element_in, NameAt, Obliged}
 use Rattle.layout.proofs.Slots.{count_is as counted}
 use Rattle.laws.proofs.Bools.{Test, passed, failed, test}
@@ -42,7 +43,7 @@ module _ (name all : List ℕ) (i : ℕ) (so_far : all ≡ laid name i (replicat
   name_whole short within over = so_far ∙ ap (λ n. laid name n (replicate 16 0)) (le_antisymm within over) ∙ laid_all name 16 0 short
 
 -- the obligations, place by place
-module _ (f : Bytes) (places : List ℕ) (i : ℕ) where
+module _ (f : Bytes) (places : List ElementPlaces) (i : ℕ) where
   pub none_placed : (k : ℕ) → obligation_end places i k ≡ 0 → unused ≡ place_in f places i k
   none_placed k none = sym (rw (eq-eqb (obligation_end places i k) 0 none))
 
@@ -75,13 +76,13 @@ module _ (f : Bytes) (places : List ℕ) (i : ℕ) where
       go (failed some) = sym (rw some (sym (later (eqb (obligation_end places i 1) 0))))
 
 -- the element
-module _ (f : Bytes) (table : List Row) (places : List ℕ) (i : ℕ) (named : NameAt f places i) (obliged : Obliged f places i) where
+module _ (f : Bytes) (table : List Row) (places : List ElementPlaces) (i : ℕ) (named : NameAt f places i) (obliged : Obliged f places i) where
   pub element_made : (k : Kind) → k ≡ kind_at (get_or f (start_of places i) 0) → (depth : ℕ) → depth ≡ depth_of table i → (name : List ℕ) → name ≡ padded 16 (name_in f places i) → (w : Word) → w ≡ word_at (word_number table i)
       → (masks : List ℕ) → masks ≡ masks_at table i → (count : ℕ) → count ≡ obligation_count places i → (first : Obligation) → first ≡ place_in f places i 0 → (second : Obligation) → second ≡ place_in f places i 1
-      → ◌≡◌ {A = Element} (record { kind = k; depth = depth; name = name; len = get_or places (2 * i + 1) 0 - (start_of places i + 4); word = w; masks = masks; obligations = count; first = first; second = second }) (element_in f table places i)
+      → ◌≡◌ {A = Element} (record { kind = k; depth = depth; name = name; len = name_end places i - (start_of places i + 4); word = w; masks = masks; obligations = count; first = first; second = second }) (element_in f table places i)
   unfolding element_in element_at
   element_made k k-is depth depth_is name name_is w w-is masks masks-are count count_is first first-place second second-place =
       let start = start_of places i + 4 in
-      let end = get_or places (2 * i + 1) 0 in
+      let end = name_end places i in
       let size : length (name_in f places i) ≡ end - start = length-take-le (end - start) (drop start f) (omega (arith, length-drop start f, named.ends)) in
       rw (k-is, depth_is, name_is, w-is, masks-are, size, count_is, ← counted f places i, first-place, first_is f places i, second-place, second_is f places i obliged)

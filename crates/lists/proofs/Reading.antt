@@ -23,6 +23,7 @@ use Rattle.laws.proofs.Reading.{refused-given, given_given}
 use Rattle.laws.proofs.Bools.{Test, passed, failed, test}
 use Rattle.table.specs.declared.Row.{Row}
 use Rattle.table.specs.Rows.{element_at}
+use Rattle.layout.specs.declared.ElementPlaces.{ElementPlaces}
 use Rattle.layout.specs.Places.{element_in, elements_to}
 use Rattle.layout.proofs.Laws.{elements_length}
 use Rattle.reader.specs.declared.Policy.{Policy as PolicyRead}
@@ -34,12 +35,12 @@ use Rattle.elements.proofs.Listing.{one_more}
 use Rattle.lists.specs.Listed.{Filled, Listed}
 
 -- the first i of them
-pub record Upto (f : Bytes) (table : List Row) (places : List ℕ) (all : Elements) (i : ℕ) : Type 0 where
+pub record Upto (f : Bytes) (table : List Row) (places : List ElementPlaces) (all : Elements) (i : ℕ) : Type 0 where
   pub room : length all.all ≡ 65
   pub count : all.len ≡ i
   pub listed : elements_of all ≡ reverse (elements_to f table places i)
 
-module _ (f : Bytes) (table : List Row) (places : List ℕ) where
+module _ (f : Bytes) (table : List Row) (places : List ElementPlaces) where
   pub none_yet : (none : Elements) → none ≡ no_elements → Upto f table places none 0
   unfolding elements_to
   none_yet none is = record { room = ap (λ l. length l.all) is ∙ length-replicate 65 blank; count = ap (λ l. l.len) is; listed = ap elements_of is }
@@ -62,7 +63,7 @@ pub refusal_listed : (f : Bytes) (room : ℕ) (r : Refused) → read f ≡ refus
 unfolding list_file
 refusal_listed f room r e = rw e
 
-module _ (f : List ℕ) (table : List Row) (places : List ℕ) (r : PolicyRead) (p : Policy) (h : read f ≡ given p) (holds : ReadPolicy f table places r p) where
+module _ (f : List ℕ) (table : List Row) (places : List ElementPlaces) (r : PolicyRead) (p : Policy) (h : read f ≡ given p) (holds : ReadPolicy f table places r p) where
   -- of a short list
   pub short_listed : (room : ℕ) → room < r.elements → Listed f room (Err (record { why = ShortList; second = r.elements }))
   unfolding list_file

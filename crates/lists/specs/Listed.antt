@@ -8,16 +8,17 @@ use Rattle.refusals.specs.declared.Refused.{Refused}
 use Rattle.refusals.specs.Numbers.{number_of}
 use Rattle.table.specs.declared.Row.{Row}
 use Rattle.table.specs.Rows.{Rows, depth_of}
+use Rattle.layout.specs.declared.ElementPlaces.{ElementPlaces}
 use Rattle.layout.specs.Places.{obligation_end, obligation_at, Naming, Obliged}
 use Rattle.elements.specs.declared.Elements.{Elements}
 use Rattle.elements.specs.Listed.{elements_of}
 
 -- what place k for an obligation of element i holds
-abbrev pub place_in : Bytes → List ℕ → ℕ → ℕ → Obligation
+abbrev pub place_in : Bytes → List ElementPlaces → ℕ → ℕ → Obligation
 place_in f places i k = cond (eqb (obligation_end places i k) 0) unused (obligation_at f places i k)
 
 -- what the table and the places hold of n elements: a row, a name and obligations each, and a depth that is no number of a refused file
-pub record Filled (f : Bytes) (table : List Row) (places : List ℕ) (n : ℕ) : Type 0 where
+pub record Filled (f : Bytes) (table : List Row) (places : List ElementPlaces) (n : ℕ) : Type 0 where
   pub rows : Rows table n
   pub naming : Naming f places n
   pub obliged : (i : ℕ) → i < n → Obliged f places i

@@ -5,6 +5,7 @@ ghost use Rattle.table.specs.Rows.{depth_of, Rows};
 ghost use Rattle.layout.specs.Places.{kind_at, effect_at, element_in, NameAt, Obliged};
 ghost use Rattle.lists.specs.Listed.{place_in};
 
+use layout::ElementPlaces;
 use meaning::{Element, Kind, Obligation, Word};
 use table::Row;
 
@@ -40,32 +41,31 @@ fn effect_at(b: u8) -> Word
 }
 
 // What place k for an obligation of element i holds.
-fn obligation_at(file: &[u8], places: &[usize], i: usize, k: usize) -> Obligation
+fn obligation_at(file: &[u8], places: &[ElementPlaces], i: usize, k: usize) -> Obligation
     requires { Obliged file.now places.now i × (k < 2) }
     ensures { result ≡ place_in file.now places.now i k }
 {
-    let end = places[128 + 4 * i + 2 * k + 1];
-    if end == 0 {
+    let at = places[i].obligation(k);
+    if at.is_none() {
         return elements::unused();
     }
-    let start = places[128 + 4 * i + 2 * k];
-    let name = padded_name(&file[start..end]);
-    let word = effect_at(file[end + 1]);
+    let name = padded_name(&file[at.start..at.end]);
+    let word = effect_at(file[at.end + 1]);
     Obligation {
         name,
-        len: (end - start) as u8,
+        len: (at.end - at.start) as u8,
         word,
     }
 }
 
 // Element i.
-pub(crate) fn element_at(file: &[u8], table: &[Row], places: &[usize], i: usize) -> Element
+pub(crate) fn element_at(file: &[u8], table: &[Row], places: &[ElementPlaces], i: usize) -> Element
     requires { NameAt file.now places.now i × Obliged file.now places.now i × Rows table.now (i + 1) × (depth_of table.now i ≤ 7) }
     ensures { result ≡ element_in file.now table.now places.now i }
 {
-    let line = places[2 * i];
+    let line = places[i].start;
     let start = line + 4;
-    let end = places[2 * i + 1];
+    let end = places[i].name_end;
     let kind = kind_at(file[line]);
     let name = padded_name(&file[start..end]);
     let word = table::word_at(table, i);
@@ -79,7 +79,7 @@ pub(crate) fn element_at(file: &[u8], table: &[Row], places: &[usize], i: usize)
         len: (end - start) as u8,
         word,
         masks,
-        obligations: layout::obligation_count(places, i) as u8,
+        obligations: places[i].obligation_count() as u8,
         first,
         second,
     }

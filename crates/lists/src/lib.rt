@@ -13,12 +13,13 @@ ghost use Rattle.lists.specs.Listed.{Filled, Listed};
 
 pub use element::kind_at;
 use elements::Elements;
+use layout::ElementPlaces;
 use meaning::{Answer, Element};
 use refusals::{Refusal, Refused};
 use table::Row;
 
 // The elements of a file that was read.
-fn all_elements(file: &[u8], table: &[Row], places: &[usize], n: usize) -> Elements
+fn all_elements(file: &[u8], table: &[Row], places: &[ElementPlaces], n: usize) -> Elements
     requires { Filled file.now table.now places.now n }
     ensures { (elements_of result ≡ reverse (elements_to file.now table.now places.now n)) × (result.len ≡ n) }
 {
@@ -34,7 +35,7 @@ pub fn read_elements(file: &[u8], room: usize) -> Result<Elements, Refused>
     ensures { Listed file.now room result }
 {
     let mut table = [Row::NONE; 64];
-    let mut places = [0usize; 384];
+    let mut places = [ElementPlaces::NONE; 64];
     let n = reader::read(file, &mut table, &mut places)?.elements;
     if room < n {
         return Err(Refused {

@@ -24,6 +24,7 @@ use Rattle.laws.proofs.Reading.{Passes, lowest_zero, obligation_numbered}
 use Rattle.refusals.specs.declared.Refusal.{Refusal}
 use Rattle.table.specs.declared.Row.{Row}
 use Rattle.layout.specs.declared.Tree.{Tree}
+use Rattle.layout.specs.declared.ElementPlaces.{ElementPlaces}
 use Rattle.layout.specs.Nearest.{nearest, Stands}
 use Rattle.layout.specs.Places.{part, effect_at, obligation_place, obligation_in, obligation_count, elements_to, Named, line_start, lines_to, Lined}
 use Rattle.layout.proofs.Slots.{count_is, clear_still}
@@ -39,12 +40,12 @@ use Rattle.obligation_lines.specs.Obligations.{last_obligations, Follows, oblige
 use Rattle.obligation_lines.proofs.ObligationTests.{rule_found, none_followed, followed}
 
 -- What was read so far is what the state stands for
-last_are : (f : List ℕ) (table : List Row) (places : List ℕ) (n : ℕ) → nearest_obligations (elements_to f table places n) ≡ last_obligations f places n
+last_are : (f : List ℕ) (table : List Row) (places : List ElementPlaces) (n : ℕ) → nearest_obligations (elements_to f table places n) ≡ last_obligations f places n
 unfolding elements_to
 last_are f table places zero = refl
 last_are f table places (suc n) = obligations_in_lem f table places n
 
-pub follows : {f : List ℕ} {table : List Row} {places : List ℕ} {st : State} → BeforeLine f table places st → Follows f places st.tree (read_sofar f table places st)
+pub follows : {f : List ℕ} {table : List Row} {places : List ElementPlaces} {st : State} → BeforeLine f table places st → Follows f places st.tree (read_sofar f table places st)
 follows ready = record { stands = ready.tree; obligations = last_are _ _ _ _ }
 
 -- A tree stands for the elements whatever their obligations are
@@ -79,7 +80,7 @@ stood f at end name word inside some are =
     let size = sym (part_length f (at + 2 + length name + 1) end inside) ∙ ap length third in
     record { name_is = second.here; word_at = sym (first_byte f (at + 2 + length name + 1) end (omega (arith, size))) ∙ ap (λ x. get_or x 0 0) third; within = second.within }
 
-module _ {f : List ℕ} {table : List Row} {places : List ℕ} {st : State} {end n : ℕ} (ready : BeforeLine f table places st) (here : EndedLine f st end) (line : ObligationLine (cut tab (part f st.at end)) n) where
+module _ {f : List ℕ} {table : List Row} {places : List ElementPlaces} {st : State} {end n : ℕ} (ready : BeforeLine f table places st) (here : EndedLine f st end) (line : ObligationLine (cut tab (part f st.at end)) n) where
   abbrev fs : List Bytes
   fs = cut tab (part f st.at end)
 
@@ -140,7 +141,7 @@ module _ {f : List ℕ} {table : List Row} {places : List ℕ} {st : State} {end
           short = omega (arith, leb-true (length name) 16 short);
         }
 
-    abbrev places' : List ℕ
+    abbrev places' : List ElementPlaces
     places' = obliged places st.tree st.at fs
 
     -- the nearest element has it

@@ -4,13 +4,13 @@ use Prim.Native.Nat.{ℕ, ◌+◌}
 use mathlib.Core.Path.{◌≡◌, refl, sym, ap₂, ◌∙◌}
 use mathlib.Core.List.{List, [], ◌∷◌}
 use lib.ListN.{length}
-use lib.Seq.{sets}
 use Rattle.meaning.specs.Text.{Bytes, cut, tab}
 use Rattle.meaning.specs.Reading.{Sofar, line_tests}
 use Rattle.refusals.specs.declared.Refusal.{Refusal}
 use Rattle.refusals.specs.declared.Refusal.TheVariants.{BadLine}
 use Rattle.refusals.specs.Numbers.{number_of}
-use Rattle.layout.specs.Places.{part, obligation_place}
+use Rattle.layout.specs.declared.ElementPlaces.{ElementPlaces}
+use Rattle.layout.specs.Places.{part, with_obligation}
 use Rattle.attribute_lines.specs.declared.State.{State}
 use Rattle.attribute_lines.specs.Sofar.{refusal_of, ObligationLine}
 use Rattle.attribute_lines.proofs.LineKinds.{wrong_refused}
@@ -18,10 +18,10 @@ use Rattle.attribute_lines.proofs.ObligationShape.{not_three, by_obligation_test
 use Rattle.obligation_lines.specs.Obligations.{Follows, ObligationRefusal, obliged, behind_obligation, ObligationStep}
 
 -- equal places of a name
-pub same_slot : (places : List ℕ) (i start : ℕ) {k k' : ℕ} {name name' : Bytes} → k ≡ k' → name ≡ name' → sets places (obligation_place i k) (start ∷ (start + length name) ∷ []) ≡ sets places (obligation_place i k') (start ∷ (start + length name') ∷ [])
-same_slot places i start e g = ap₂ (λ k n. sets places (obligation_place i k) (start ∷ (start + length n) ∷ [])) e g
+pub same_slot : (places : List ElementPlaces) (i start : ℕ) {k k' : ℕ} {name name' : Bytes} → k ≡ k' → name ≡ name' → with_obligation places i k (record { start = start; end = start + length name }) ≡ with_obligation places i k' (record { start = start; end = start + length name' })
+same_slot places i start e g = ap₂ (λ k n. with_obligation places i k (record { start = start; end = start + length n })) e g
 
-module _ (f places : List ℕ) (st : State) (end n : ℕ) (line : ObligationLine (cut tab (part f st.at end)) n) where
+module _ (f : List ℕ) (places : List ElementPlaces) (st : State) (end n : ℕ) (line : ObligationLine (cut tab (part f st.at end)) n) where
   abbrev fs : List Bytes
   fs = cut tab (part f st.at end)
 

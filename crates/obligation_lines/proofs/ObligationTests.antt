@@ -20,6 +20,7 @@ use Rattle.std.specs.Prelude.{Some, None}
 use Rattle.std.specs.Prelude.{Option as Found}
 use Rattle.std.specs.Option.{option_eq}
 use Rattle.layout.specs.declared.Tree.{Tree}
+use Rattle.layout.specs.declared.ElementPlaces.{ElementPlaces}
 use Rattle.layout.specs.Nearest.{nearest, Stands}
 use Rattle.layout.specs.Places.{obligations_in, obligation_count}
 use Rattle.layout.proofs.Slots.{count_is}
@@ -48,7 +49,7 @@ kind_may set = refl
 kind_may policy = refl
 kind_may rule = refl
 
-module _ (f : Bytes) (places : List ℕ) (tree : Tree) (fs : List Bytes) where
+module _ (f : Bytes) (places : List ElementPlaces) (tree : Tree) (fs : List Bytes) where
   abbrev pub last_names : List Bytes
   last_names = map obligation_name (last_obligations f places tree.len)
 

@@ -10,12 +10,17 @@ ghost use Rattle.attribute_lines.specs.Steps.{InFile, EndedLine};
 ghost use Rattle.obligation_lines.specs.Obligations.{AllObliged, ObligationRefusal, ObligationStep};
 
 use attribute_lines::State;
-use layout::Tree;
+use layout::{ElementPlaces, Span, Tree};
 use meaning::Kind;
 use refusals::Refusal;
 
 // The lowest of 3, 4, 14 and 7 that refuses an obligation's line, in that order.
-fn obligation_refusal(file: &[u8], places: &[usize], tree: Tree, line: &[u8]) -> Result<(), Refusal>
+fn obligation_refusal(
+    file: &[u8],
+    places: &[ElementPlaces],
+    tree: Tree,
+    line: &[u8],
+) -> Result<(), Refusal>
     requires { (tree.depth ≤ 7) × AllObliged file.now places.now tree.len }
     ensures { ObligationRefusal file.now places.now tree (cut tab line.now) (number_in result) }
 {
@@ -34,7 +39,7 @@ fn obligation_refusal(file: &[u8], places: &[usize], tree: Tree, line: &[u8]) ->
     if tree.kinds[tree.depth] == Some(Kind::Rule) {
         return Err(Refusal::NoObligation);
     }
-    if 2 <= layout::obligation_count(places, last) {
+    if 2 <= places[last].obligation_count() {
         return Err(Refusal::NoObligation);
     }
     if syntax::word_of(Kind::Rule, fields::field(line, 2)).is_none() {
@@ -49,7 +54,7 @@ pub fn obligation_line(
     st: State,
     end: usize,
     fields: usize,
-    places: &mut [usize],
+    places: &mut [ElementPlaces],
 ) -> Result<State, Refusal>
     requires { InFile file.now st × EndedLine file.now st end × ObligationLine (cut tab (part file.now st.at end)) fields × AllObliged file.now places.old st.tree.len }
     ensures { ObligationStep file.now places.old places.new st end result }
@@ -62,10 +67,13 @@ pub fn obligation_line(
     let line = &file[at..end];
     obligation_refusal(file, places, tree, line)?;
     let last = tree.len - 1;
-    let count = layout::obligation_count(places, last);
+    let count = places[last].obligation_count();
     let start = at + 2;
-    let name = fields::field(line, 1);
-    layout::put_obligation(places, last, count, start, start + name.len());
+    let name = Span {
+        start,
+        end: start + fields::field(line, 1).len(),
+    };
+    layout::put_obligation(places, last, count, name);
     let attributes = st.attributes;
     Ok(State {
         at: end + 1,

@@ -21,6 +21,7 @@ use Rattle.decisions.specs.Replies.{reply_at}
 use Rattle.decisions.proofs.Children.{first_left}
 use Rattle.chains.specs.Chain.{alike, chained}
 use Rattle.chains.proofs.Chained.{marks_left, chain_is, chain_struck}
+use Rattle.layout.specs.declared.ElementPlaces.{ElementPlaces}
 use Rattle.layout.specs.Places.{obligation_end, obligation_at, obligations_in, element_in, elements_to}
 use Rattle.layout.proofs.Laws.{bare, replies_bare, decision_bare}
 use Rattle.obligations.specs.Given.{spelling, own_text, given_text, left_elements, outcome_left}
@@ -38,7 +39,7 @@ module _ (bs : List Bool) (q : List ℕ) (d : Decision) where
       rw (replies_bare bs q (suc k) es, nones_bare es, chain_bare k who es, chain_bare k (drop 1 who) es, chain_bare (suc k) (asked e.word (child_replies (matches bs q) (suc k) es)) es)
 
 -- The elements that flags leave
-module _ (f : Bytes) (table : List Row) (places struck : List ℕ) where
+module _ (f : Bytes) (table : List Row) (places : List ElementPlaces) (struck : List ℕ) where
   -- an element's obligations, by the tests of its two places
   abbrev some_of : ℕ → (a b : Bool) → List Obligation
   some_of i a b = cond a [] (obligation_at f places i 0 ∷ cond b [] (obligation_at f places i 1 ∷ []))
@@ -100,7 +101,7 @@ module _ (f : Bytes) (table : List Row) (places struck : List ℕ) where
       left_more 0 n (λ k l. live k (omega arith)) ∙ rw (here, all_elements n (λ k l. live k (omega arith)), reverse-cons)
 
 -- The outcome, of elements of which the first is left and stands at depth 0
-module _ (f : Bytes) (table : List Row) (places struck : List ℕ) (n : ℕ) (some : 0 < n) (live : get_or struck 0 0 ≡ 0) (top : depth_of table 0 ≡ 0) (bs : List Bool) (q : List ℕ) where
+module _ (f : Bytes) (table : List Row) (places : List ElementPlaces) (struck : List ℕ) (n : ℕ) (some : 0 < n) (live : get_or struck 0 0 ≡ 0) (top : depth_of table 0 ≡ 0) (bs : List Bool) (q : List ℕ) where
   abbrev hit : Element → Bool
   hit = matches bs q
 
@@ -138,7 +139,7 @@ module _ (f : Bytes) (table : List Row) (places struck : List ℕ) (n : ℕ) (so
   outcome_left_lem = λ i. record { decision = decision_left i; obligations = (ap (λ e. obligations_from hit e 0 (true ∷ []) es) decision_left ∙ obligations_left) i }
 
 -- what it gets from a policy whose elements they are, where nothing is struck
-pub outcome_whole : (f : Bytes) (table : List Row) (places struck : List ℕ) (n : ℕ) (p : Policy) (q : List ℕ) → p.elements ≡ reverse (elements_to f table places n) → ((k : ℕ) → k < n → get_or struck k 0 ≡ 0) → 0 < n → depth_of table 0 ≡ 0
+pub outcome_whole : (f : Bytes) (table : List Row) (places : List ElementPlaces) (struck : List ℕ) (n : ℕ) (p : Policy) (q : List ℕ) → p.elements ≡ reverse (elements_to f table places n) → ((k : ℕ) → k < n → get_or struck k 0 ≡ 0) → 0 < n → depth_of table 0 ≡ 0
     → decide p q ≡ outcome_left (matches (severals p.attributes) q) f table places struck n
 outcome_whole f table places struck n p q is live some top =
     ap (outcome_of (matches (severals p.attributes) q)) (is ∙ sym (all_elements f table places struck n live))

@@ -16,6 +16,7 @@ use Rattle.laws.proofs.Bools.{Test, passed, failed, test, contradiction, or_fals
 use Rattle.table.specs.declared.Row.{Row}
 use Rattle.blocks.specs.Bits.{Answers}
 use Rattle.chains.specs.Chain.{alike, chained, ChainLaid}
+use Rattle.layout.specs.declared.ElementPlaces.{ElementPlaces}
 use Rattle.layout.specs.Places.{part, obligation_start, obligation_end, effect_at, obligation_at, obligations_in, Obliged}
 use Rattle.layout.proofs.Slots.{none_in}
 use Rattle.printing.specs.Wrote.{Wrote}
@@ -44,7 +45,7 @@ spelling_more d o os = go (test (same (word_text o.word) (decision_text d)))
     go (passed x) = rw (x, append-nil)
     go (failed x) = rw x
 
-module _ (d : Decision) (f : Bytes) (places : List ℕ) where
+module _ (d : Decision) (f : Bytes) (places : List ElementPlaces) where
   -- those of an element, place by place
   pub own_slots : (i : ℕ) → Obliged f places i → spelling d (obligations_in f places i) ≡ slot_text d f places i 0 ++ slot_text d f places i 1
   unfolding obligations_in
@@ -113,11 +114,11 @@ module _ (d : Decision) (f : Bytes) (places : List ℕ) where
       not_false false e = contradiction refl e
 
 -- A name in the file has at most 16 bytes
-pub name_length : (f : Bytes) (places : List ℕ) (i k : ℕ) → Obliged f places i → k < 2 → length (part f (obligation_start places i k) (obligation_end places i k)) ≤ 16
+pub name_length : (f : Bytes) (places : List ElementPlaces) (i k : ℕ) → Obliged f places i → k < 2 → length (part f (obligation_start places i k) (obligation_end places i k)) ≤ 16
 name_length f places i k o l = omega (arith, length-take (obligation_end places i k - obligation_start places i k) (drop (obligation_start places i k) f), o.short k l)
 
 -- The text of one place is stored: none, one of the other effect, or a name of at most 16 bytes and its newline
-module _ (f : Bytes) (places : List ℕ) (i k : ℕ) (permit : Bool) where
+module _ (f : Bytes) (places : List ElementPlaces) (i k : ℕ) (permit : Bool) where
   abbrev Stored : (x : List ℕ) (n : ℕ) (y : List ℕ) (m : ℕ) → Type 0
   Stored x n y m = Wrote x n (slot_text (effect permit) f places i k) y m × (m ≤ n + 17)
 
@@ -150,7 +151,7 @@ deny_spelled true = refl
 deny_spelled false = refl
 
 -- Whether there are any, from the last element on
-module _ (places : List ℕ) (j : ℕ) where
+module _ (places : List ElementPlaces) (j : ℕ) where
   at_place : obligation_end places j 0 ≡ get_or places (129 + 4 * j) 0
   at_place = let at : 128 + 4 * j + 0 + 1 ≡ 129 + 4 * j = omega arith in ap (λ m. get_or places m 0) at
 

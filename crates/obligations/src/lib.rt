@@ -8,6 +8,8 @@ ghost use Rattle.layout.specs.Places.{effect_at, obligations_in, Obliged};
 ghost use Rattle.printing.specs.Wrote.{Wrote};
 ghost use Rattle.obligations.specs.Given.{spelling, slot_text, given_text, effect, marks_in, any_obliged, Giving};
 
+use layout::ElementPlaces;
+
 // Whether the effect that starts with this byte is the one that permits, or the one that denies.
 fn spells(byte: u8, permit: bool) -> bool
     ensures { result ≡ same (word_text (effect_at byte)) (decision_text (effect permit)) }
@@ -21,7 +23,7 @@ fn spells(byte: u8, permit: bool) -> bool
 // Stores the name in place k of element i's obligations, if there is one and its effect is that one.
 fn put_obligation(
     file: &[u8],
-    places: &[usize],
+    places: &[ElementPlaces],
     i: usize,
     k: usize,
     permit: bool,
@@ -31,22 +33,20 @@ fn put_obligation(
     requires { Obliged file.now places.now i × (k < 2) × (at + 17 < 2 ^ 64) }
     ensures { Wrote out.old at (slot_text (effect permit) file.now places.now i k) out.new result × (result ≤ at + 17) }
 {
-    let place = 128 + 4 * i + 2 * k;
-    let start = places[place];
-    let end = places[place + 1];
-    if end == 0 {
+    let name = places[i].obligation(k);
+    if name.is_none() {
         return at;
     }
-    if !spells(file[end + 1], permit) {
+    if !spells(file[name.end + 1], permit) {
         return at;
     }
-    printing::put_field(out, at, &file[start..end], 10)
+    printing::put_field(out, at, &file[name.start..name.end], 10)
 }
 
 // Stores those of element i.
 fn put_own(
     file: &[u8],
-    places: &[usize],
+    places: &[ElementPlaces],
     i: usize,
     permit: bool,
     out: &mut [u8],
@@ -63,7 +63,7 @@ fn put_own(
 #[derive(Clone, Copy)]
 pub struct Marks<'a> {
     pub file: &'a [u8],
-    pub places: &'a [usize],
+    pub places: &'a [ElementPlaces],
     pub n: usize,
     pub words: &'a [u64],
 }
@@ -97,12 +97,12 @@ impl<'a> Marks<'a> {
 }
 
 // Whether one of n elements has obligations.
-pub fn any_obligations(places: &[usize], n: usize) -> bool
-    requires { 128 + 4 * n ≤ length places.now }
+pub fn any_obligations(places: &[ElementPlaces], n: usize) -> bool
+    requires { n ≤ length places.now }
     ensures { result ≡ any_obliged places.now n }
 {
     for i in (0..n).rev() {
-        if places[129 + 4 * i] != 0 {
+        if places[i].has_obligations() {
             return true;
         }
     }

@@ -11,6 +11,7 @@ use Rattle.meaning.specs.Model.{refused}
 use Rattle.meaning.specs.Reading.{finished}
 use Rattle.laws.proofs.Bools.{Test, passed, failed, test}
 use Rattle.table.specs.declared.Row.{Row}
+use Rattle.layout.specs.declared.ElementPlaces.{ElementPlaces}
 use Rattle.layout.specs.Places.{Lined, line_start}
 use Rattle.attribute_lines.specs.declared.State.{State}
 use Rattle.attribute_lines.proofs.AttributeLines.{no_elements_lem}
@@ -18,7 +19,7 @@ use Rattle.attribute_lines.specs.Steps.{BeforeLine, read_sofar}
 use Rattle.reader.specs.Told.{ended_at, ReadAs}
 
 -- at the end: bytes behind the last newline, no tree line, or the policy
-pub ending : (f : List ℕ) (table : List Row) (places : List ℕ) (st : State) (end : ℕ) → BeforeLine f table places st → st.line ≤ 16385 → end ≡ length f
+pub ending : (f : List ℕ) (table : List Row) (places : List ElementPlaces) (st : State) (end : ℕ) → BeforeLine f table places st → st.line ≤ 16385 → end ≡ length f
     → ReadAs f table places (ended_at st end) (cond (eqb st.at end) (finished (read_sofar f table places st)) (refused 2 st.line))
 ending f table places st end ready l whole = go (test (eqb st.at end)) (test (eqb st.tree.len 0))
   where

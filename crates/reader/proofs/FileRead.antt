@@ -16,17 +16,18 @@ use Rattle.laws.proofs.Bounds.{GoodElement, bounded, all_reverse, named}
 use Rattle.laws.proofs.Bools.{and_true}
 use Rattle.table.specs.declared.Row.{Row}
 use Rattle.table.specs.Rows.{Rows}
-use Rattle.layout.specs.Places.{Clear, FewValues, start_of, name_in, element_in, elements_to, Naming}
-use Rattle.layout.proofs.Slots.{zeros_clear}
+use Rattle.layout.specs.declared.ElementPlaces.{ElementPlaces}
+use Rattle.layout.specs.Places.{Clear, FewValues, no_places, start_of, name_end, name_in, element_in, elements_to, Naming}
+use Rattle.layout.proofs.Slots.{none_clear}
 use Rattle.layout.proofs.Laws.{elements_length, of_each}
 use Rattle.reader.specs.declared.Policy.{Policy as PolicyRead}
 use Rattle.reader.specs.Told.{ReadPolicy, ReadAs, ReadIs}
 
--- what reading asks of the memory that it is lent, where all of it is 0
-pub unread : (row : Row) → let zeros : List ℕ = replicate 384 0 in Rows (replicate 64 row) 64 × (384 ≤ length zeros) × Clear zeros 0
-unread row = (lit≤ tt, lit≤ tt, zeros_clear 384)
+-- what reading asks of the memory that it is lent, where it holds no element
+pub unread : (row : Row) → let none = replicate 64 no_places in Rows (replicate 64 row) 64 × (64 ≤ length none) × Clear none 0
+unread row = (lit≤ tt, lit≤ tt, none_clear 64)
 
-module _ {f : List ℕ} {table₀ : List Row} {places₀ : List ℕ} {table : List Row} {places : List ℕ} where
+module _ {f : List ℕ} {table₀ : List Row} {places₀ : List ElementPlaces} {table : List Row} {places : List ElementPlaces} where
   pub file_refused : {x : Refused} → ReadIs f table₀ places₀ table places (Err x) → read f ≡ refused (number_of x.why) x.second
   file_refused {x} is_read = go (read f) refl is_read.answer
     where
@@ -46,7 +47,7 @@ module _ {f : List ℕ} {table₀ : List Row} {places₀ : List ℕ} {table : Li
   sizable is_read = let spaced = (file_read is_read).2.spaced in (spaced.standing.few, spaced.few_values)
 
 -- The elements of a file that was read
-module _ (f : List ℕ) (table : List Row) (places : List ℕ) (r : PolicyRead) (p : Policy) (h : read f ≡ given p) (holds : ReadPolicy f table places r p) where
+module _ (f : List ℕ) (table : List Row) (places : List ElementPlaces) (r : PolicyRead) (p : Policy) (h : read f ≡ given p) (holds : ReadPolicy f table places r p) where
   pub elements_are : length p.elements ≡ r.elements
   elements_are = ap length holds.elements ∙ length-reverse (elements_to f table places r.elements) ∙ elements_length f table places r.elements
 
@@ -68,7 +69,7 @@ module _ (f : List ℕ) (table : List Row) (places : List ℕ) (r : PolicyRead) 
         few = few;
         each = λ i l. let named = holds.rooms.named in
             let start = start_of places i + 4 in
-            let end = get_or places (2 * i + 1) 0 in
+            let end = name_end places i in
             let size : length (name_in f places i) ≡ end - start = length-take-le (end - start) (drop start f) (omega (arith, length-drop start f, named.ends i l)) in
             record { room = omega (arith, named.room); starts = named.starts i l; ends = named.ends i l; short = omega (arith, size, name_fits i l, named.starts i l) };
       }

@@ -18,6 +18,7 @@ use Rattle.refusals.specs.declared.Refusal.TheVariants.{LongFile}
 use Rattle.refusals.specs.Numbers.{number_of, answer_of}
 use Rattle.refusals.proofs.Numbers.{not_zero}
 use Rattle.table.specs.declared.Row.{Row}
+use Rattle.layout.specs.declared.ElementPlaces.{ElementPlaces}
 use Rattle.layout.specs.Places.{part}
 use Rattle.attribute_lines.specs.declared.State.{State}
 use Rattle.reader.specs.declared.Policy.{Policy as PolicyRead}
@@ -91,25 +92,25 @@ module _ (f : Bytes) (at end : ℕ) (x : Laid) (ends : end ≡ at + length (get_
     next_laid none = one_laid ∙ rw (eq-eqb _ 0 none)
 
 -- What the loop keeps: the file reads as the lines that remain behind what was read so far, and lays down what they do
-pub record Keeps (f : List ℕ) (table₀ : List Row) (places₀ : List ℕ) (table : List Row) (places : List ℕ) (st : State) : Type 0 where
+pub record Keeps (f : List ℕ) (table₀ : List Row) (places₀ : List ElementPlaces) (table : List Row) (places : List ElementPlaces) (st : State) : Type 0 where
   pub reads : read f ≡ remaining f st.at st.line (read_sofar f table places st)
   pub lays : laid_in f table₀ places₀ ≡ laid_by st.at (laid_at f table places st) (lines_at f st.at)
 
-pub keeps_first : (f : List ℕ) (table : List Row) (places : List ℕ) → length f ≤ 16384 → read_sofar f table places beginning ≡ nothing → Keeps f table places table places beginning
+pub keeps_first : (f : List ℕ) (table : List Row) (places : List ElementPlaces) → length f ≤ 16384 → read_sofar f table places beginning ≡ nothing → Keeps f table places table places beginning
 keeps_first f table places l e = record { reads = all_remains f l ∙ sym (rw e); lays = rw (le-ltb 16384 (length f) l, ← e) }
 
 -- what is told of a file, and what it laid down
-told : {f : List ℕ} {table₀ : List Row} {places₀ : List ℕ} {table : List Row} {places : List ℕ} {s : Sofar} {r : Told PolicyRead Refused} → ReadAs f table places r (read f) → laid_in f table₀ places₀ ≡ record { sofar = s; table = table; places = places } → ReadIs f table₀ places₀ table places r
+told : {f : List ℕ} {table₀ : List Row} {places₀ : List ElementPlaces} {table : List Row} {places : List ElementPlaces} {s : Sofar} {r : Told PolicyRead Refused} → ReadAs f table places r (read f) → laid_in f table₀ places₀ ≡ record { sofar = s; table = table; places = places } → ReadIs f table₀ places₀ table places r
 told is lays = record { answer = is; table_is = sym (ap (λ x. x.table) lays); places_are = sym (ap (λ x. x.places) lays) }
 
 -- a refusal of numbers as small as these
-refusal_told : (f : List ℕ) (table : List Row) (places : List ℕ) (r : Refused) (n m : ℕ) → read f ≡ refused n m → answer_of r ≡ record { number = n; second = m } → n ≤ 14 → m ≤ 16385 → ReadAs f table places (Err r) (read f)
+refusal_told : (f : List ℕ) (table : List Row) (places : List ElementPlaces) (r : Refused) (n m : ℕ) → read f ≡ refused n m → answer_of r ≡ record { number = n; second = m } → n ≤ 14 → m ≤ 16385 → ReadAs f table places (Err r) (read f)
 refusal_told f table places r n m e is low l = subst⁻¹ (ReadAs f table places (Err r)) e (record { is = is; low = low; small = l })
 
-pub long_told : (f : List ℕ) (table : List Row) (places : List ℕ) → 16384 < length f → ReadIs f table places table places (Err (record { why = LongFile; second = 0 }))
+pub long_told : (f : List ℕ) (table : List Row) (places : List ElementPlaces) → 16384 < length f → ReadIs f table places table places (Err (record { why = LongFile; second = 0 }))
 long_told f table places l = told {s = nothing} (refusal_told f table places _ 1 0 (too_long f l) refl (lit≤ tt) zero-le) (rw (lt-ltb 16384 (length f) l))
 
-module _ (f : List ℕ) (table₀ : List Row) (places₀ : List ℕ) (table : List Row) (places : List ℕ) (st : State) (ready : BeforeLine f table places st) (size : length f ≤ 16384) (keeps : Keeps f table₀ places₀ table places st)
+module _ (f : List ℕ) (table₀ : List Row) (places₀ : List ElementPlaces) (table : List Row) (places : List ElementPlaces) (st : State) (ready : BeforeLine f table places st) (size : length f ≤ 16384) (keeps : Keeps f table₀ places₀ table places st)
     (end : ℕ) (ends : end ≡ st.at + length (get_or (cut newline (drop st.at f)) 0 [])) where
   pub few_lines : st.line ≤ 16385
   few_lines = omega (arith, ready.in_file.inside, ready.in_file.lines_passed)

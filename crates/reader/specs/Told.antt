@@ -5,6 +5,7 @@ use Rattle.meaning.specs.Model.{Policy, space, Result, refused, given}
 use Rattle.meaning.specs.Reading.{read}
 use Rattle.table.specs.declared.Row.{Row}
 use Rattle.table.specs.declared.Shape.{Shape}
+use Rattle.layout.specs.declared.ElementPlaces.{ElementPlaces}
 use Rattle.layout.specs.Places.{part, attributes_of, severals_at, sizes_of, elements_to, Obliged, line_start, placed, Lined}
 use Rattle.attribute_lines.specs.declared.State.{State}
 use Rattle.reader.specs.declared.Policy.{Policy as PolicyRead}
@@ -44,7 +45,7 @@ pub record ReadRefusal (n m : ℕ) (r : Refused) : Type 0 where
   pub low : n ≤ 14
   pub small : m ≤ 16385
 
-pub record ReadPolicy (f : List ℕ) (table : List Row) (places : List ℕ) (r : PolicyRead) (p : Policy) : Type 0 where
+pub record ReadPolicy (f : List ℕ) (table : List Row) (places : List ElementPlaces) (r : PolicyRead) (p : Policy) : Type 0 where
   pub attributes : p.attributes ≡ attributes_of f r.attributes
   pub elements : p.elements ≡ reverse (elements_to f table places r.elements)
   pub space_is : r.space ≡ space (attributes_of f r.attributes)
@@ -55,14 +56,14 @@ pub record ReadPolicy (f : List ℕ) (table : List Row) (places : List ℕ) (r :
   pub places_are : r.attributes ≡ placed f r.attributes.len
   pub obliged : (i : ℕ) → i < r.elements → Obliged f places i
 
-abbrev pub ReadAs : List ℕ → List Row → List ℕ → Told PolicyRead Refused → Result Policy → Type 0
+abbrev pub ReadAs : List ℕ → List Row → List ElementPlaces → Told PolicyRead Refused → Result Policy → Type 0
 ReadAs f table places (Err r) (refused n m) = ReadRefusal n m r
 ReadAs f table places (Err r) (given p) = ⊥
 ReadAs f table places (Ok r) (refused n m) = ⊥
 ReadAs f table places (Ok r) (given p) = ReadPolicy f table places r p
 
 -- and what it laid down in the table and the places that were lent
-pub record ReadIs (f : List ℕ) (table₀ : List Row) (places₀ : List ℕ) (table : List Row) (places : List ℕ) (r : Told PolicyRead Refused) : Type 0 where
+pub record ReadIs (f : List ℕ) (table₀ : List Row) (places₀ : List ElementPlaces) (table : List Row) (places : List ElementPlaces) (r : Told PolicyRead Refused) : Type 0 where
   pub answer : ReadAs f table places r (read f)
   pub table_is : table ≡ (laid_in f table₀ places₀).table
   pub places_are : places ≡ (laid_in f table₀ places₀).places

@@ -10,7 +10,7 @@ ghost use Rattle.attribute_lines.specs.Steps.{BeforeLine, EndedLine, StepIs};
 ghost use Rattle.reader.specs.Told.{LineAt, policy_shape, ended_at, ReadIs};
 
 use attribute_lines::State;
-use layout::Attributes;
+use layout::{Attributes, ElementPlaces};
 use refusals::{Refusal, Refused};
 use syntax::LineKind;
 use table::{Row, Shape};
@@ -59,7 +59,7 @@ fn read_line(
     end: usize,
     fields: usize,
     table: &mut [Row],
-    places: &mut [usize],
+    places: &mut [ElementPlaces],
 ) -> Result<State, Refusal>
     requires { BeforeLine file.now table.old places.old st × EndedLine file.now st end × CountIs (cut tab (part file.now st.at end)) fields }
     ensures { StepIs file.now table.old places.old table.new places.new st end result }
@@ -106,8 +106,8 @@ fn finish(st: State, end: usize) -> Result<Policy, Refused>
 }
 
 // Reads a file into the table and the places, which have no obligation before; a refused one up to the line that is refused.
-pub fn read(file: &[u8], table: &mut [Row], places: &mut [usize]) -> Result<Policy, Refused>
-    requires { Rows table.old 64 × (384 ≤ length places.old) × Clear places.old 0 }
+pub fn read(file: &[u8], table: &mut [Row], places: &mut [ElementPlaces]) -> Result<Policy, Refused>
+    requires { Rows table.old 64 × (64 ≤ length places.old) × Clear places.old 0 }
     ensures { ReadIs file.now table.old places.old table.new places.new result }
 {
     if 16384 < file.len() {

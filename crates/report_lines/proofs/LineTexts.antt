@@ -10,6 +10,7 @@ use Rattle.meaning.specs.declared.Decision.{Decision}
 use Rattle.meaning.specs.Text.{Bytes, bytes, decimal}
 use Rattle.meaning.specs.Model.{decision_text}
 use Rattle.meaning.specs.Report.{or_dash}
+use Rattle.layout.specs.declared.ElementPlaces.{ElementPlaces}
 use Rattle.layout.specs.Places.{name_in}
 use Rattle.printing.specs.Wrote.{Wrote}
 use Rattle.printing.proofs.Laws.{then, nothing, line_next}
@@ -18,7 +19,7 @@ use Rattle.report_lines.specs.declared.segment_lines.Segment.{Segment}
 use Rattle.report_lines.specs.declared.conflict_lines.Conflict.{Conflict}
 use Rattle.report_lines.specs.Lines.{names_of, segment_row, segment_line, conflict_row, struck_line, kept_line}
 
-module _ (f : Bytes) (places : List ℕ) {x : List ℕ} {at : ℕ} where
+module _ (f : Bytes) (places : List ElementPlaces) {x : List ℕ} {at : ℕ} where
   -- `G`
   pub segment : (n : ℕ) (s : Segment) {u v w z y : List ℕ} {a b c d r : ℕ} (size : ℕ) → size ≡ s.size → s.first < 4096 → size < 65536
       → Wrote x at (field (bytes "G")) u a
@@ -68,7 +69,7 @@ module _ (f : Bytes) (places : List ℕ) {x : List ℕ} {at : ℕ} where
     )
 
 -- a request with a size has a segment line
-module _ (f : Bytes) (places : List ℕ) (n : ℕ) (words sizes : List ℕ) (decided : List Decision) (m : ℕ) where
+module _ (f : Bytes) (places : List ElementPlaces) (n : ℕ) (words sizes : List ℕ) (decided : List Decision) (m : ℕ) where
   pub no_segment : get_or sizes m 0 ≡ 0 → segment_line f places n words sizes decided m ≡ []
   unfolding segment_line
   no_segment e = rw e

@@ -7,13 +7,14 @@ use mathlib.Core.List.{List, [], ◌∷◌, ◌++◌, map}
 use Rattle.meaning.specs.Text.{Bytes, bytes, keep, gathered, counting, comma}
 use Rattle.meaning.specs.Deciding.{bit}
 use Rattle.meaning.specs.Report.{or_dash}
+use Rattle.layout.specs.declared.ElementPlaces.{ElementPlaces}
 use Rattle.layout.specs.Places.{name_in}
 use Rattle.laws.proofs.Rewritten.{gathered_map}
 use Rattle.printing.proofs.Laws.{join_behind}
 use Rattle.report_lines.specs.Lines.{names_of, later_names}
 use Rattle.laws.proofs.Lists.{gathered_keep}
 
-module _ (f : Bytes) (places : List ℕ) (n w : ℕ) where
+module _ (f : Bytes) (places : List ElementPlaces) (n w : ℕ) where
   -- the names of k elements from i on, if their bits are set
   unfoldable pub names_from : ℕ → ℕ → List Bytes
   names_from i k = map (name_in f places) (keep (bit w) (counting i k))

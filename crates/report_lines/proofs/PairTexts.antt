@@ -8,8 +8,9 @@ use borrow.Author.Tests.{eq-eqb, ne_eqb, lt-ltb, le-ltb}
 use Rattle.meaning.specs.Text.{Bytes, gathered, counting}
 use Rattle.printing.specs.Wrote.{Wrote}
 use Rattle.report_lines.specs.Lines.{pair_at, conflict_row, conflict_line, later_line, later_lines}
+use Rattle.layout.specs.declared.ElementPlaces.{ElementPlaces}
 
-module _ (f : Bytes) (places : List ℕ) (n : ℕ) (parents pairs : List ℕ) (space i j : ℕ) where
+module _ (f : Bytes) (places : List ElementPlaces) (n : ℕ) (parents pairs : List ℕ) (space i j : ℕ) where
   -- k is no child of i, or a child that is in no conflict with j, or in one
   pub not_child : (k : ℕ) → get_or parents k 0 ≢ i → later_line f places n parents pairs space i j k ≡ []
   unfolding later_line

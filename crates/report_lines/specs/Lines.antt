@@ -5,12 +5,13 @@ use Rattle.meaning.specs.Text.{Bytes, bytes, keep, gathered, counting, comma, li
 use Rattle.meaning.specs.Model.{decision_text}
 use Rattle.meaning.specs.Deciding.{bit}
 use Rattle.meaning.specs.Report.{or_dash}
+use Rattle.layout.specs.declared.ElementPlaces.{ElementPlaces}
 use Rattle.layout.specs.Places.{name_in}
 use Rattle.report_lines.specs.declared.segment_lines.Segment.{Segment}
 use Rattle.report_lines.specs.declared.conflict_lines.Conflict.{Conflict}
 
 -- A file, and the places of its elements' names
-module _ (f : Bytes) (places : List ℕ) where
+module _ (f : Bytes) (places : List ElementPlaces) where
   -- `C`: for a pair j and k of children of i; at 64 j + k stands the request that shows their conflict, or the number of requests
   abbrev pub pair_at : List ℕ → ℕ → ℕ → ℕ
   pair_at pairs j k = get_or pairs (64 * j + k) 0

@@ -14,6 +14,7 @@ use Rattle.meaning.specs.Segments.{applying, applying_to}
 use Rattle.laws.proofs.Bools.{Test, passed, failed, test}
 use Rattle.table.specs.declared.Row.{Row}
 use Rattle.table.specs.Rows.{element_at}
+use Rattle.layout.specs.declared.ElementPlaces.{ElementPlaces}
 use Rattle.layout.specs.Places.{element_in, elements_to}
 use Rattle.layout.proofs.Laws.{bare, elements_bare}
 use Rattle.rows.specs.Words.{marks, word_from, applies_at, applying_at}
@@ -47,7 +48,7 @@ module _ (bs : List Bool) (q : List ℕ) where
   applies_bare es e = ap (λ b. matches bs q e && b) (all_bare e.depth es)
 
 -- an element of the table
-module _ (f : Bytes) (table : List Row) (places : List ℕ) (bs : List Bool) (q : List ℕ) where
+module _ (f : Bytes) (table : List Row) (places : List ElementPlaces) (bs : List Bool) (q : List ℕ) where
   applies_is : (n : ℕ) → applies (matches bs q) (elements_to f table places n) (element_in f table places n) ≡ applies_at table (matches bs q) n
   unfolding applies_at element_in element_at
   applies_is n = sym (applies_bare bs q (elements_to f table places n) (element_in f table places n)) ∙ ap (λ es. applies (matches bs q) es (element_at table n)) (elements_bare f table places n)
@@ -67,7 +68,7 @@ module _ (f : Bytes) (table : List Row) (places : List ℕ) (bs : List Bool) (q 
       ∙ rw (front, applies_is n, all_applying n)
       (sym (map-append (applies_at table (matches bs q)) (counting 0 n) (n ∷ [])) ∙ ap (map (applies_at table (matches bs q))) (sym more))
 
-module _ (f : Bytes) (table : List Row) (places : List ℕ) (n : ℕ) (p : Policy) (is : p.elements ≡ reverse (elements_to f table places n)) (hit : ℕ → Element → Bool) (hits_are : (m : ℕ) → hit m ≡ hits p m) where
+module _ (f : Bytes) (table : List Row) (places : List ElementPlaces) (n : ℕ) (p : Policy) (is : p.elements ≡ reverse (elements_to f table places n)) (hit : ℕ → Element → Bool) (hits_are : (m : ℕ) → hit m ≡ hits p m) where
   pub applying_is : (m : ℕ) → applying_to p m ≡ map (applies_at table (hit m)) (counting 0 n)
   applying_is m =
       ap (applying (hits p m) []) is

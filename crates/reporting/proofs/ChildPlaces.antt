@@ -16,6 +16,7 @@ use Rattle.laws.proofs.Lists.{keep_alike}
 use Rattle.table.specs.declared.Row.{Row}
 use Rattle.table.specs.Rows.{depth_of, element_at}
 use Rattle.table.specs.Tree.{parent_of as parent_in, place_or}
+use Rattle.layout.specs.declared.ElementPlaces.{ElementPlaces}
 use Rattle.layout.specs.Places.{element_in, elements_to}
 use Rattle.trimmed_text.proofs.Table.{count_is, element_at_lem}
 use Rattle.trimmed_text.proofs.Tabled.{last_alike}
@@ -33,7 +34,7 @@ place_test : (n i : ℕ) (o : Option ℕ) → i < n → eqb (place_or n o) i ≡
 place_test n i none l = ne_eqb n i (λ e. omega arith)
 place_test n i (some j) l = eqb_turned j i
 
-module _ (f : Bytes) (table : List Row) (places : List ℕ) (n : ℕ) (p : Policy) (is : p.elements ≡ reverse (elements_to f table places n)) where
+module _ (f : Bytes) (table : List Row) (places : List ElementPlaces) (n : ℕ) (p : Policy) (is : p.elements ≡ reverse (elements_to f table places n)) where
   -- the elements' depths and their parents
   depth_is : (i : ℕ) → i < n → depth_at p.elements i ≡ depth_of table i
   unfolding element_in element_at

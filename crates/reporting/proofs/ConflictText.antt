@@ -21,6 +21,7 @@ use Rattle.laws.proofs.Lists.{gathered_alike, gathered_keep, gathered_twice, gat
 use Rattle.table.specs.declared.Row.{Row}
 use Rattle.table.specs.Tree.{parent_of, place_or}
 use Rattle.outcomes.proofs.Searching.{first_alike}
+use Rattle.layout.specs.declared.ElementPlaces.{ElementPlaces}
 use Rattle.layout.specs.Places.{name_in, elements_to}
 use Rattle.trimmed_text.proofs.Table.{count_is, name_at_lem}
 use Rattle.rows.specs.Words.{gives_at}
@@ -32,7 +33,7 @@ use Rattle.reporting.proofs.ChildPlaces.{children_are}
 use Rattle.reporting.proofs.Giving.{gives_is}
 
 -- the line of a pair, the children among c places from j on, and the lines of their pairs
-module _ (f : Bytes) (places : List ℕ) (n : ℕ) (parents pairs : List ℕ) (s i : ℕ) where
+module _ (f : Bytes) (places : List ElementPlaces) (n : ℕ) (parents pairs : List ℕ) (s i : ℕ) where
   abbrev line_of : ℕ × ℕ → Bytes
   line_of q = conflict_line f places pairs s i q.0 q.1
 
@@ -57,7 +58,7 @@ module _ (f : Bytes) (places : List ℕ) (n : ℕ) (parents pairs : List ℕ) (s
           rw (e, behind, add-one j) (ap₂ (λ xs ys. xs ++ ys) (sym (gathered_keep child (λ k. line_of (j, k)) (counting (suc j) c))) later ∙ sym (pairs_first line_of j (kept (suc j) c)))
       go (failed e) later = rw e later
 
-module _ (f : Bytes) (table : List Row) (places : List ℕ) (n : ℕ) (p : Policy) (is : p.elements ≡ reverse (elements_to f table places n)) (hit : ℕ → Element → Bool) (space : ℕ) (hits_are : (m : ℕ) → hit m ≡ hits p m) (space_is : space ≡ space_of p.attributes) where
+module _ (f : Bytes) (table : List Row) (places : List ElementPlaces) (n : ℕ) (p : Policy) (is : p.elements ≡ reverse (elements_to f table places n)) (hit : ℕ → Element → Bool) (space : ℕ) (hits_are : (m : ℕ) → hit m ≡ hits p m) (space_is : space ≡ space_of p.attributes) where
   -- the line of a conflict, and the conflicts of a parent
   abbrev written : Conflict → Bytes
   written c = line (conflict_fields p.elements c)

@@ -22,6 +22,7 @@ use Rattle.trimming.specs.Decided.{onward, shown_at, next_at, trimming_at}
 use Rattle.trials.specs.Trial.{Laid}
 use Rattle.trimming.specs.Trims.{Trims}
 use Rattle.trimmed_text.proofs.Steadying.{steady}
+use Rattle.layout.specs.declared.ElementPlaces.{ElementPlaces}
 use Rattle.layout.specs.Places.{Naming}
 use Rattle.rows.specs.Rows.{Applied, Given}
 use Rattle.segments.specs.Sizes.{size_at}
@@ -35,7 +36,7 @@ use Rattle.trimmed_text.specs.Held.{PolicyHeld}
 use Rattle.reporting.proofs.StruckText.{order_below}
 
 -- striking takes no more steps than there are
-order_few : (f : Bytes) (places : List ℕ) (t : List Row) (n : ℕ) (hit : ℕ → Element → Bool) (space : ℕ) (steps : ℕ) (struck : List ℕ) → length (trimming_at f places t n hit space steps struck).order ≤ steps
+order_few : (f : Bytes) (places : List ElementPlaces) (t : List Row) (n : ℕ) (hit : ℕ → Element → Bool) (space : ℕ) (steps : ℕ) (struck : List ℕ) → length (trimming_at f places t n hit space steps struck).order ≤ steps
 unfolding trimming_at
 order_few f places t n hit space zero struck = omega arith
 order_few f places t n hit space (suc k) struck = go (next_at f places t n hit space struck) (λ i. order_few f places t n hit space k (set struck i 1))
@@ -46,7 +47,7 @@ order_few f places t n hit space (suc k) struck = go (next_at f places t n hit s
 
 module _ (t : List Row) (s : Shape) where
   -- the rules, from the flags that striking left
-  module _ (f : Bytes) (places outcomes flags old order behind shown : List ℕ) (count : ℕ) (trims : Trims f places t outcomes s none_struck flags old order count) where
+  module _ (f : Bytes) (places : List ElementPlaces) (outcomes flags old order behind shown : List ℕ) (count : ℕ) (trims : Trims f places t outcomes s none_struck flags old order count) where
     pub rules_found : shown ≡ map (shown_at f places t s.n (hit_of s) s.space flags) (counting 0 s.n) ++ behind → RulesFound f places t s.n (hit_of s) s.space order shown count
     rules_found e =
         let end = trimmed_at f places t s.n (hit_of s) s.space in
@@ -78,11 +79,11 @@ module _ (t : List Row) (s : Shape) where
       }
 
 -- what trimming asks, of a policy that is held
-pub laid : (f : List ℕ) (table : List Row) (places hits outcomes : List ℕ) (s : Shape) (held : PolicyHeld f table places s) → HitsLaid table hits s → OutcomesLaid table none_struck outcomes s → Laid f places table none_struck hits outcomes s
+pub laid : (f : List ℕ) (table : List Row) (places : List ElementPlaces) (hits outcomes : List ℕ) (s : Shape) (held : PolicyHeld f table places s) → HitsLaid table hits s → OutcomesLaid table none_struck outcomes s → Laid f places table none_struck hits outcomes s
 laid f table places hits outcomes s held matched holds = record { steady = steady f held.policy held.is_read table places s held.elements held.obliged; ready = held.ready; matched = matched; holds = holds }
 
 -- each place struck has a name
-pub struck_named : (f : Bytes) (places : List ℕ) (t : List Row) (n : ℕ) (hit : ℕ → Element → Bool) (space : ℕ) (order shown : List ℕ) (count : ℕ) → Naming f places n → RulesFound f places t n hit space order shown count → Ordered f places order count
+pub struck_named : (f : Bytes) (places : List ElementPlaces) (t : List Row) (n : ℕ) (hit : ℕ → Element → Bool) (space : ℕ) (order shown : List ℕ) (count : ℕ) → Naming f places n → RulesFound f places t n hit space order shown count → Ordered f places order count
 struck_named f places t n hit space order shown count naming rules =
     record {
       few = omega (arith, naming.few, rules.few);

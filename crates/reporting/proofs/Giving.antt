@@ -16,6 +16,7 @@ use Rattle.meaning.specs.declared.Element.{Element}
 use Rattle.table.specs.declared.Row.{Row}
 use Rattle.table.specs.Tree.{left}
 use Rattle.decisions.proofs.Children.{first_left}
+use Rattle.layout.specs.declared.ElementPlaces.{ElementPlaces}
 use Rattle.layout.specs.Places.{elements_to}
 use Rattle.layout.proofs.Laws.{bare, decision_bare}
 use Rattle.trimmed_text.proofs.Table.{whole_left}
@@ -41,7 +42,7 @@ module _ (table : List Row) (struck : List ℕ) (clear : (k : ℕ) → get_or st
       let fewer : suc c - suc j ≡ c - j = omega arith in
       rw (eq-eqb (get_or struck i 0) 0 (clear i), next, fewer) (left_behind (i + 1) c j)
 
-module _ (f : Bytes) (table : List Row) (places : List ℕ) (n : ℕ) (p : Policy) (is : p.elements ≡ reverse (elements_to f table places n)) (hit : ℕ → Element → Bool) (hits_are : (m : ℕ) → hit m ≡ hits p m)
+module _ (f : Bytes) (table : List Row) (places : List ElementPlaces) (n : ℕ) (p : Policy) (is : p.elements ≡ reverse (elements_to f table places n)) (hit : ℕ → Element → Bool) (hits_are : (m : ℕ) → hit m ≡ hits p m)
     (struck : List ℕ) (clear : (k : ℕ) → get_or struck k 0 ≡ 0) where
   -- the elements from a place on
   left_from_lem : (j : ℕ) → left table struck j (n - j) ≡ map bare (drop j p.elements)

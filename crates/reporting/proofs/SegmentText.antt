@@ -20,6 +20,7 @@ use Rattle.laws.proofs.Search.{counting_has, counting_only, keep_has}
 use Rattle.laws.proofs.Segments.{together_same, same_together}
 use Rattle.table.specs.declared.Row.{Row}
 use Rattle.outcomes.specs.Decided.{decided_at}
+use Rattle.layout.specs.declared.ElementPlaces.{ElementPlaces}
 use Rattle.layout.specs.Places.{name_in, elements_to}
 use Rattle.layout.proofs.Laws as layout-laws
 use Rattle.laws.proofs.Lists.{keep_alike, any_alike, has_some, gathered_alike, gathered_keep, first_any}
@@ -51,7 +52,7 @@ marked_from F t i (b ∷ bs) (e ∷ es) l names tests =
     go (passed x) name here later = rw (here, x, name, later)
     go (failed x) name here later = rw (here, x, later)
 
-module _ (f : Bytes) (table : List Row) (places : List ℕ) (n : ℕ) (p : Policy) (is : p.elements ≡ reverse (elements_to f table places n)) (hit : ℕ → Element → Bool) (space : ℕ) (hits_are : (m : ℕ) → hit m ≡ hits p m) (space_is : space ≡ space_of p.attributes) where
+module _ (f : Bytes) (table : List Row) (places : List ElementPlaces) (n : ℕ) (p : Policy) (is : p.elements ≡ reverse (elements_to f table places n)) (hit : ℕ → Element → Bool) (space : ℕ) (hits_are : (m : ℕ) → hit m ≡ hits p m) (space_is : space ≡ space_of p.attributes) where
   -- equal words are those of requests in one segment
   same_words : (m k : ℕ) → eqb (applying_at table n hit k) (applying_at table n hit m) ≡ together p m k
   same_words m k = rw (word m, word k) (go (test (eqb (marks (applying_to p k)) (marks (applying_to p m)))) (test (together p m k)))

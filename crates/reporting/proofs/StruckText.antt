@@ -25,6 +25,7 @@ use Rattle.table.specs.declared.Row.{Row}
 use Rattle.table.specs.Tree.{place_or, rule_left}
 use Rattle.trimming.specs.Decided as table-level
 use Rattle.laws.proofs.Lists.{has_at, gathered_alike, gathered_keep}
+use Rattle.layout.specs.declared.ElementPlaces.{ElementPlaces}
 use Rattle.layout.specs.Places.{name_in, elements_to}
 use Rattle.trimmed_text.specs.Flags.{kept_at, trimming_at, kept_places, kept_line_at}
 use Rattle.trimmed_text.proofs.Whole.{none_clear}
@@ -37,7 +38,7 @@ use Rattle.reporting.specs.Found.{trimmed_at}
 use Rattle.reporting.proofs.Searched.{first_or}
 
 -- What is struck is one of n
-module _ (f : Bytes) (places : List ℕ) (table : List Row) (n : ℕ) (hit : ℕ → Element → Bool) (space : ℕ) where
+module _ (f : Bytes) (places : List ElementPlaces) (table : List Row) (n : ℕ) (hit : ℕ → Element → Bool) (space : ℕ) where
   -- the next one
   next_below : (struck : List ℕ) (i : ℕ) → table-level.next_at f places table n hit space struck ≡ some i → i < n
   unfolding table-level.next_at
@@ -67,7 +68,7 @@ module _ (f : Bytes) (places : List ℕ) (table : List Row) (n : ℕ) (hit : ℕ
   pub order_below : (k : ℕ) → k < length order → get_or order k 0 < n
   order_below k l = struck_below n none_struck (get_or order k 0) (has_at order 0 k l)
 
-module _ (f : Bytes) (p : Policy) (h : read f ≡ given p) (table : List Row) (places : List ℕ) (n : ℕ) (is : p.elements ≡ reverse (elements_to f table places n)) (hit : ℕ → Element → Bool) (space : ℕ) (hits_are : (m : ℕ) → hit m ≡ hits p m) (space_is : space ≡ space_of p.attributes) where
+module _ (f : Bytes) (p : Policy) (h : read f ≡ given p) (table : List Row) (places : List ElementPlaces) (n : ℕ) (is : p.elements ≡ reverse (elements_to f table places n)) (hit : ℕ → Element → Bool) (space : ℕ) (hits_are : (m : ℕ) → hit m ≡ hits p m) (space_is : space ≡ space_of p.attributes) where
   -- how many elements there are, and their names
   size : length p.elements ≡ n
   size = count_is f table places n p is

@@ -10,9 +10,10 @@ use Rattle.trimming.specs.Decided.{Struck, shown_at, trimming_at}
 use Rattle.rows.specs.Words.{applying_at}
 use Rattle.segments.specs.Sizes.{size_at}
 use Rattle.conflicts.specs.Pairs.{shows_at, Pairs}
+use Rattle.layout.specs.declared.ElementPlaces.{ElementPlaces}
 
 -- what striking gives, from there on
-abbrev pub trimmed_at : Bytes → (places : List ℕ) (table : List Row) → ℕ → (ℕ → Element → Bool) → ℕ → Struck
+abbrev pub trimmed_at : Bytes → (places : List ElementPlaces) (table : List Row) → ℕ → (ℕ → Element → Bool) → ℕ → Struck
 trimmed_at f places table n hit space = trimming_at f places table n hit space n none_struck
 
 -- Of a table of n elements, which requests match an element's own target, and how many there are: what there is to say of each request
@@ -32,7 +33,7 @@ pub record ConflictsFound (table : List Row) (n : ℕ) (hit : ℕ → Element �
   pub paired : Pairs parents (shows_at table none_struck n hit) n space pairs
 
 -- the rules: those struck, in order, and the first request that needs each one kept; the first element is left
-pub record RulesFound (f : Bytes) (places : List ℕ) (table : List Row) (n : ℕ) (hit : ℕ → Element → Bool) (space : ℕ) (order shown : List ℕ) (count : ℕ) : Type 0 where
+pub record RulesFound (f : Bytes) (places : List ElementPlaces) (table : List Row) (n : ℕ) (hit : ℕ → Element → Bool) (space : ℕ) (order shown : List ℕ) (count : ℕ) : Type 0 where
   pub struck : take count order ≡ (trimmed_at f places table n hit space).order
   pub counted : count ≡ length (trimmed_at f places table n hit space).order
   pub few : count ≤ n

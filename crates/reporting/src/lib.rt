@@ -16,6 +16,7 @@ ghost use Rattle.report_lines.specs.Ready.{Ordered};
 ghost use Rattle.reporting.specs.Found.{SegmentsFound, ConflictsFound, RulesFound};
 
 use differences::{PolicyFile, PolicyOutcomes};
+use layout::ElementPlaces;
 use meaning::{Answer, Decision};
 use report_lines::{put_conflicts, put_kept, put_segments, put_struck};
 use table::{Row, Shape};
@@ -169,7 +170,13 @@ fn write_lines(o: &PolicyOutcomes, out: &mut [u8]) -> Answer
 }
 
 // The report of the policy that was read from a file, in a lent buffer.
-pub fn report(file: &[u8], table: &[Row], places: &[usize], shape: Shape, out: &mut [u8]) -> Answer
+pub fn report(
+    file: &[u8],
+    table: &[Row],
+    places: &[ElementPlaces],
+    shape: Shape,
+    out: &mut [u8],
+) -> Answer
     requires { PolicyHeld file.now table.now places.now shape }
     ensures value { result ≡ report_answer file.now out.old }
     ensures out_after { out.new ≡ report_lent file.now out.old }

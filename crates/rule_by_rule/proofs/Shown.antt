@@ -15,6 +15,7 @@ use Rattle.meaning.specs.RuleByRule.{next_name, next_rule_file}
 use Rattle.meaning.specs.Operations.{next_rule_answer, next_rule_lent}
 use Rattle.table.specs.declared.Row.{Row}
 use Rattle.table.specs.declared.Shape.{Shape}
+use Rattle.layout.specs.declared.ElementPlaces.{ElementPlaces}
 use Rattle.layout.specs.Places.{NameAt}
 use Rattle.printing.specs.Fitted.{Fitted}
 use Rattle.trimmed_text.specs.Held.{PolicyHeld}
@@ -24,10 +25,10 @@ use Rattle.trimmed_text.proofs.Held.{sizes, found, found_needless, line_found}
 use Rattle.rule_by_rule.specs.Shown.{name_or_none}
 
 -- what the search finds has a name in the file
-pub named_found : (f : List ℕ) (table : List Row) (places : List ℕ) (s : Shape) (held : PolicyHeld f table places s) {next : Found ℕ} → next ≡ as_found (found f table places s held) → ForSome next (λ i. NameAt f places i)
+pub named_found : (f : List ℕ) (table : List Row) (places : List ElementPlaces) (s : Shape) (held : PolicyHeld f table places s) {next : Found ℕ} → next ≡ as_found (found f table places s held) → ForSome next (λ i. NameAt f places i)
 named_found f table places s held is = λ i e. held.naming.each i (found_needless f table places s held i (found_some _ (sym is ∙ e))).0
 
-module _ (f : List ℕ) (table : List Row) (places : List ℕ) (s : Shape) (held : PolicyHeld f table places s) (next : Found ℕ) (is : next ≡ as_found (found f table places s held)) where
+module _ (f : List ℕ) (table : List Row) (places : List ElementPlaces) (s : Shape) (held : PolicyHeld f table places s) (next : Found ℕ) (is : next ≡ as_found (found f table places s held)) where
   name_is : next_name f ≡ name_or_none f places next
   unfolding next_name
   name_is = ap (λ o. if_some o (name_at f)) (line_found f table places s held) ∙ rw is (go (found f table places s held) refl)

@@ -24,6 +24,7 @@ use Rattle.table.specs.declared.Row.{Row}
 use Rattle.table.specs.declared.Shape.{Shape}
 use Rattle.table.specs.Shape.{hit_of}
 use Rattle.outcomes.specs.Decided.{none_struck}
+use Rattle.layout.specs.declared.ElementPlaces.{ElementPlaces}
 use Rattle.layout.specs.Places.{has_name}
 use Rattle.printing.specs.Fitted.{Fitted}
 use Rattle.trimming.specs.Decided as table-level
@@ -36,7 +37,7 @@ use Rattle.trimmed_text.proofs.Placed.{text_copied}
 use Rattle.trimmed_text.proofs.Whole.{line_of, name_of_line, needless_line, line_needless, strike_line}
 use Rattle.trimmed_text.proofs.Held.{sizes}
 
-module _ (f : List ℕ) (table : List Row) (places : List ℕ) (s : Shape) (held : PolicyHeld f table places s) (name : Bytes) where
+module _ (f : List ℕ) (table : List Row) (places : List ElementPlaces) (s : Shape) (held : PolicyHeld f table places s) (name : Bytes) where
   abbrev p : Policy
   p = held.policy
 

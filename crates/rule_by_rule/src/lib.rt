@@ -10,11 +10,12 @@ ghost use Rattle.trimmed_text.specs.Held.{PolicyHeld};
 ghost use Rattle.rule_by_rule.specs.Shown.{name_or_none};
 
 use differences::PolicyFile;
+use layout::ElementPlaces;
 use meaning::Answer;
 use table::{Row, Shape};
 
 // Lays down the name of the next element, or nothing if there is none.
-fn put_name(file: &[u8], places: &[usize], next: Option<usize>, out: &mut [u8]) -> usize
+fn put_name(file: &[u8], places: &[ElementPlaces], next: Option<usize>, out: &mut [u8]) -> usize
     requires { ForSome next (λ i. NameAt file.now places.now i) }
     ensures { Wrote out.old 0 (name_or_none file.now places.now next) out.new result × (result ≤ 16) }
 {
@@ -25,7 +26,13 @@ fn put_name(file: &[u8], places: &[usize], next: Option<usize>, out: &mut [u8]) 
 }
 
 // The name of the rule that trimming would strike next, in a lent buffer; no byte where no rule is needless.
-pub fn show(file: &[u8], table: &[Row], places: &[usize], shape: Shape, out: &mut [u8]) -> Answer
+pub fn show(
+    file: &[u8],
+    table: &[Row],
+    places: &[ElementPlaces],
+    shape: Shape,
+    out: &mut [u8],
+) -> Answer
     requires { PolicyHeld file.now table.now places.now shape }
     ensures value { result ≡ next_rule_answer file.now out.old }
     ensures out_after { out.new ≡ next_rule_lent file.now out.old }
@@ -50,7 +57,7 @@ pub fn show(file: &[u8], table: &[Row], places: &[usize], shape: Shape, out: &mu
 pub fn strike(
     file: &[u8],
     table: &[Row],
-    places: &[usize],
+    places: &[ElementPlaces],
     shape: Shape,
     rule: &[u8],
     out: &mut [u8],

@@ -19,8 +19,9 @@ use Rattle.differences.specs.Apart.{apart, Compared, Suspects}
 use Rattle.trials.specs.Decided.{apart_at}
 use Rattle.trials.specs.Trial.{Trial, Copied}
 use Rattle.trials.proofs.Copying.{outcome_copied, copied_kept}
+use Rattle.layout.specs.declared.ElementPlaces.{ElementPlaces}
 
-module _ (f : Bytes) (places : List ℕ) (t : List Row) (struck hits outcomes : List ℕ) (s : Shape) (rule : ℕ) (trial : Trial f places t struck hits outcomes s rule) (copy : List ℕ) (room : s.n ≤ length copy) (copied : Copied struck s.n copy) where
+module _ (f : Bytes) (places : List ElementPlaces) (t : List Row) (struck hits outcomes : List ℕ) (s : Shape) (rule : ℕ) (trial : Trial f places t struck hits outcomes s rule) (copy : List ℕ) (room : s.n ≤ length copy) (copied : Copied struck s.n copy) where
   abbrev before : List ℕ
   before = kept copy rule
 

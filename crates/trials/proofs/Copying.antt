@@ -21,6 +21,7 @@ use Rattle.chains.specs.Chain.{chained_in, chained}
 use Rattle.moves.specs.Moved.{kept}
 use Rattle.obligations.specs.Given.{given_text, outcome_left}
 use Rattle.trials.specs.Trial.{Copied}
+use Rattle.layout.specs.declared.ElementPlaces.{ElementPlaces}
 
 module _ (t : List Row) (a b : List ℕ) (n : ℕ) (copied : Copied a n b) where
   left_copied : (m i : ℕ) → i + m ≤ n → left t b i m ≡ left t a i m
@@ -45,7 +46,7 @@ module _ (t : List Row) (a b : List ℕ) (n : ℕ) (copied : Copied a n b) where
     chained_copied some j = rw (reply_copied 0 some) (chained_in_lem _ Word.FirstApplicable _ _ j (n - 0) 0 (omega arith))
 
     -- what a request gets
-    pub outcome_copied : 0 < n → (f : Bytes) (places : List ℕ) → outcome_left hit f t places b n ≡ outcome_left hit f t places a n
+    pub outcome_copied : 0 < n → (f : Bytes) (places : List ElementPlaces) → outcome_left hit f t places b n ≡ outcome_left hit f t places a n
     outcome_copied some f places =
         let es : left t b 0 n ≡ left t a 0 n = left_copied n 0 (omega arith) in
         λ i. let d = first_decision hit (es i) in record { decision = d; obligations = given_text d (λ j. chained_copied some j i) f places n }

@@ -27,9 +27,10 @@ use Rattle.differences.proofs.Apart.{first_is, decided_apart}
 use Rattle.trials.specs.Decided.{apart_at}
 use Rattle.trials.specs.Steady.{Unchanged}
 use Rattle.trials.specs.Trial.{Grouped, Trial, Reached}
+use Rattle.layout.specs.declared.ElementPlaces.{ElementPlaces}
 
 -- Rule `rule`, which is tried
-module _ (f : Bytes) (places : List ℕ) (t : List Row) (struck hits outcomes : List ℕ) (s : Shape) (rule : ℕ) (trial : Trial f places t struck hits outcomes s rule) where
+module _ (f : Bytes) (places : List ElementPlaces) (t : List Row) (struck hits outcomes : List ℕ) (s : Shape) (rule : ℕ) (trial : Trial f places t struck hits outcomes s rule) where
   abbrev parted : ℕ → Bool
   parted = apart_at f places t s.n (hit_of s) struck rule
 

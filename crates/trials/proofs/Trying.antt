@@ -31,6 +31,7 @@ use Rattle.trials.specs.Decided.{changes_at, apart_at, first_change_at, shown_at
 use Rattle.trials.specs.Steady.{Aside, Steady}
 use Rattle.trials.specs.declared.Tried.TheVariants.{Needed}
 use Rattle.trials.specs.Trial.{Laid, Trial, Tries, Tells}
+use Rattle.layout.specs.declared.ElementPlaces.{ElementPlaces}
 
 -- Whether a search finds nothing, by the number that it gives, or by any that passes
 module _ (p : ℕ → Bool) (size : ℕ) where
@@ -71,7 +72,7 @@ pub set_back : (struck : List ℕ) (i flag : ℕ) → get_or struck i 0 ≡ flag
 set_back struck i flag e = set-set struck i 1 flag ∙ ap (set struck i) (sym e) ∙ set-get_or struck i 0
 
 -- Element i, which is left: what is apart with its flag set is what changes without it
-module _ (f : Bytes) (places : List ℕ) (t : List Row) (struck : List ℕ) (s : Shape) (i : ℕ) (live : get_or struck i 0 ≡ 0) where
+module _ (f : Bytes) (places : List ElementPlaces) (t : List Row) (struck : List ℕ) (s : Shape) (i : ℕ) (live : get_or struck i 0 ≡ 0) where
   abbrev parted : ℕ → Bool
   parted = apart_at f places t s.n (hit_of s) (set struck i 1) i
 
@@ -116,7 +117,7 @@ module _ (t : List Row) (struck : List ℕ) (i : ℕ) (rule : rule_left t struck
       }
 
   -- it is tried by its flag
-  pub trial : (f : Bytes) (places hits outcomes : List ℕ) (s : Shape) → Laid f places t struck hits outcomes s → i < s.n → Trial f places t (set struck i 1) hits outcomes s i
+  pub trial : (f : Bytes) (places : List ElementPlaces) (hits outcomes : List ℕ) (s : Shape) → Laid f places t struck hits outcomes s → i < s.n → Trial f places t (set struck i 1) hits outcomes s i
   trial f places hits outcomes s laid l =
       record {
         steady = laid.steady;
@@ -126,7 +127,7 @@ module _ (t : List Row) (struck : List ℕ) (i : ℕ) (rule : rule_left t struck
       }
 
 -- An element that is no rule left, and the request shown for each
-module _ (f : Bytes) (places : List ℕ) (t : List Row) (struck : List ℕ) (s : Shape) (i : ℕ) where
+module _ (f : Bytes) (places : List ElementPlaces) (t : List Row) (struck : List ℕ) (s : Shape) (i : ℕ) where
   pub needless_other : rule_left t struck i ≡ false → needless_at f places t s.n (hit_of s) s.space struck i ≡ false
   unfolding needless_at
   needless_other other = rw other
@@ -144,9 +145,9 @@ module _ (f : Bytes) (places : List ℕ) (t : List Row) (struck : List ℕ) (s :
   shown_other other = rw other
 
 -- Flags that are those of the start
-pub asks : {f : Bytes} {places : List ℕ} {t : List Row} {first struck hits outcomes : List ℕ} {s : Shape} → struck ≡ first → Laid f places t first hits outcomes s → Laid f places t struck hits outcomes s
+pub asks : {f : Bytes} {places : List ElementPlaces} {t : List Row} {first struck hits outcomes : List ℕ} {s : Shape} → struck ≡ first → Laid f places t first hits outcomes s → Laid f places t struck hits outcomes s
 asks same laid = rw same laid
 
 -- The places have room for the obligations of all elements
-pub obligation_room : {f : Bytes} {places : List ℕ} {t : List Row} {struck : List ℕ} {s : Shape} → Steady f places t s → PolicyTable t struck s → 128 + 4 * s.n ≤ length places
+pub obligation_room : {f : Bytes} {places : List ElementPlaces} {t : List Row} {struck : List ℕ} {s : Shape} → Steady f places t s → PolicyTable t struck s → s.n ≤ length places
 obligation_room steady ready = differences.obligation_room steady.obliged ready

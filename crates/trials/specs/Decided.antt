@@ -9,9 +9,10 @@ use Rattle.table.specs.Tree.{place_or, rule_left}
 use Rattle.moves.specs.Moved.{kept}
 use Rattle.obligations.specs.Given.{outcome_left}
 use Rattle.differences.specs.Apart.{apart}
+use Rattle.layout.specs.declared.ElementPlaces.{ElementPlaces}
 
 -- A policy: its file, where its elements and their obligations stand there, its table, the number of its elements, which requests match an element's own target, and how many there are
-module _ (f : Bytes) (places : List ℕ) (t : List Row) (n : ℕ) (hit : ℕ → Element → Bool) where
+module _ (f : Bytes) (places : List ElementPlaces) (t : List Row) (n : ℕ) (hit : ℕ → Element → Bool) where
   -- request m gets another decision, or other obligations, without element i
   unfoldable pub changes_at : List ℕ → ℕ → ℕ → Bool
   changes_at struck i m = not (same_outcome (outcome_left (hit m) f t places struck n) (outcome_left (hit m) f t places (set struck i 1) n))

@@ -16,6 +16,7 @@ use Rattle.trials.specs.declared.Tried.{Tried}
 use Rattle.trials.specs.declared.Tried.TheVariants.{Other, Needless, Needed}
 use Rattle.trials.specs.Decided.{changes_at, needless_at}
 use Rattle.trials.specs.Steady.{Aside, Steady}
+use Rattle.layout.specs.declared.ElementPlaces.{ElementPlaces}
 
 -- element `up`, unless it is n, has the rule as a child and looks at its children's decisions alone
 pub record Grouped (t : List Row) (n rule up : ℕ) : Type 0 where
@@ -23,14 +24,14 @@ pub record Grouped (t : List Row) (n rule up : ℕ) : Type 0 where
   pub under : up < n → Under t up rule
 
 -- a file, its table and the flags, which requests match, and the decisions laid down: what is asked where rules are tried
-pub record Laid (f : Bytes) (places : List ℕ) (t : List Row) (struck hits outcomes : List ℕ) (s : Shape) : Type 0 where
+pub record Laid (f : Bytes) (places : List ElementPlaces) (t : List Row) (struck hits outcomes : List ℕ) (s : Shape) : Type 0 where
   pub steady : Steady f places t s
   pub ready : PolicyTable t struck s
   pub matched : HitsLaid t hits s
   pub holds : OutcomesLaid t struck outcomes s
 
 -- rule `rule` is tried by its flag: the decisions laid down are those with it
-pub record Trial (f : Bytes) (places : List ℕ) (t : List Row) (struck hits outcomes : List ℕ) (s : Shape) (rule : ℕ) : Type 0 where
+pub record Trial (f : Bytes) (places : List ElementPlaces) (t : List Row) (struck hits outcomes : List ℕ) (s : Shape) (rule : ℕ) : Type 0 where
   pub steady : Steady f places t s
   pub aside : Aside t struck s rule
   pub matched : HitsLaid t hits s
@@ -47,7 +48,7 @@ Tries test space None = first_from test 0 space ≡ none
 Tries test space (Some m) = (m < space) × (test m ≡ true)
 
 -- what trying element i tells: no rule that is left, a needless one, or one that request m shows needed
-abbrev pub Tells : Bytes → (places : List ℕ) (t : List Row) (struck : List ℕ) → Shape → (i : ℕ) → Tried → Type 0
+abbrev pub Tells : Bytes → (places : List ElementPlaces) (t : List Row) (struck : List ℕ) → Shape → (i : ℕ) → Tried → Type 0
 Tells f places t struck s i Other = rule_left t struck i ≡ false
 Tells f places t struck s i Needless = needless_at f places t s.n (hit_of s) s.space struck i ≡ true
 Tells f places t struck s i (Needed m) =

@@ -24,6 +24,7 @@ use Rattle.laws.proofs.Policies.{parent_next, parent_farther}
 use Rattle.table.specs.declared.Row.{Row}
 use Rattle.table.specs.Rows.{word_at, depth_of, element_at, word_number}
 use Rattle.table.specs.Tree.{Leaves, Over}
+use Rattle.layout.specs.declared.ElementPlaces.{ElementPlaces}
 use Rattle.layout.specs.Places.{element_in, elements_to}
 use Rattle.layout.proofs.Laws.{elements_length}
 use Rattle.trimmed_text.specs.Flags.{rule_in}
@@ -47,7 +48,7 @@ words_alike : (es : List Element) → All WordFits es → map (λ e. is_effect e
 words_alike [] fit = refl
 words_alike (e ∷ es) fit = ap₂ (λ b bs. b ∷ bs) fit.0 (words_alike es fit.1)
 
-module _ (f : Bytes) (table : List Row) (places : List ℕ) where
+module _ (f : Bytes) (table : List Row) (places : List ElementPlaces) where
   each_at : (P : List Element → Element → Type 0) (n : ℕ) (xs : List Element) → Each P [] (reverse_aux (elements_to f table places n) xs) → (i : ℕ) → i < n → P (elements_to f table places i) (element_in f table places i)
   unfolding elements_to
   each_at P zero xs e i l = absurd (omega arith)
@@ -57,7 +58,7 @@ module _ (f : Bytes) (table : List Row) (places : List ℕ) where
       go (passed x) earlier = rw (eqb-true i n x) (each_behind P (elements_to f table places n) (element_in f table places n ∷ xs) e).0
       go (failed x) earlier = let other : i ≢ n = eqb-false i n x in earlier (omega arith)
 
-module _ (f : Bytes) (p : Policy) (h : read f ≡ given p) (table : List Row) (places : List ℕ) (n : ℕ) (is : p.elements ≡ reverse (elements_to f table places n)) where
+module _ (f : Bytes) (p : Policy) (h : read f ≡ given p) (table : List Row) (places : List ElementPlaces) (n : ℕ) (is : p.elements ≡ reverse (elements_to f table places n)) where
   pub placed_at : (i : ℕ) → i < n → Placed (elements_to f table places i) (element_in f table places i)
   placed_at = each_at f table places Placed n [] (subst (Each Placed []) is ((well_formed f p).0 h).good.placed)
 

@@ -10,6 +10,7 @@ use lib.Seq.{length-take-le}
 use borrow.Author.Tests.{ltb-true, lt-ltb, le-ltb, eq-eqb, ne_eqb}
 use Rattle.meaning.specs.Text.{Bytes}
 use Rattle.laws.proofs.Bools.{Test, passed, failed, test}
+use Rattle.layout.specs.declared.ElementPlaces.{ElementPlaces}
 use Rattle.layout.specs.Places.{part, start_of}
 use Rattle.printing.specs.Wrote.{Wrote}
 use Rattle.trimmed_text.specs.Copied.{lines_end, piece_at, Copies, Piece}
@@ -17,7 +18,7 @@ use Rattle.trimmed_text.specs.Copied.{lines_end, piece_at, Copies, Piece}
 length_part : (f : Bytes) (a b : ℕ) → b ≤ length f → length (part f a b) ≡ b - a
 length_part f a b l = length-take-le (b - a) (drop a f) (omega (arith, length-drop a f))
 
-module _ (f : Bytes) (places : List ℕ) (n : ℕ) where
+module _ (f : Bytes) (places : List ElementPlaces) (n : ℕ) where
   -- where element i's line starts, or the file's end where there is no such element
   abbrev pub reached : ℕ → ℕ
   reached i = cond (ltb i n) (start_of places i) (length f)
@@ -28,7 +29,7 @@ module _ (f : Bytes) (places : List ℕ) (n : ℕ) where
   pub reached_end : (i : ℕ) → n ≤ i → reached i ≡ length f
   reached_end i l = rw (le-ltb i n l)
 
-module _ (f : Bytes) (places struck : List ℕ) (n : ℕ) where
+module _ (f : Bytes) (places : List ElementPlaces) (struck : List ℕ) (n : ℕ) where
   -- What is left of an element's lines: nothing, or all up to the next element or the file's end
   module _ (h : Copies f places struck n) (i : ℕ) (l : i < n) where
     pub lines_lie : (start_of places i ≤ lines_end f places n i) × (lines_end f places n i ≤ length f)

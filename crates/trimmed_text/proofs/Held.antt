@@ -14,6 +14,7 @@ use Rattle.table.specs.declared.Row.{Row}
 use Rattle.table.specs.declared.Shape.{Shape}
 use Rattle.table.specs.Shape.{hit_of}
 use Rattle.outcomes.specs.Decided.{none_struck}
+use Rattle.layout.specs.declared.ElementPlaces.{ElementPlaces}
 use Rattle.layout.specs.Places.{Naming, Named}
 use Rattle.trials.specs.Steady.{Steady}
 use Rattle.trimming.specs.Decided as table-level
@@ -26,14 +27,14 @@ use Rattle.trimmed_text.proofs.Steadying.{steady}
 use Rattle.trimmed_text.proofs.Whole.{line_of, next_line}
 
 -- the places of names that lie in the file
-pub naming_room : (f : Bytes) (places : List ℕ) (n : ℕ) → 1 ≤ n → Naming f places n → 2 * n ≤ length places
+pub naming_room : (f : Bytes) (places : List ElementPlaces) (n : ℕ) → 1 ≤ n → Naming f places n → n ≤ length places
 naming_room f places n l naming = omega (arith, (naming.each (n - 1) (omega arith)).room)
 
-module _ (f : List ℕ) (table : List Row) (places : List ℕ) (s : Shape) (held : PolicyHeld f table places s) where
+module _ (f : List ℕ) (table : List Row) (places : List ElementPlaces) (s : Shape) (held : PolicyHeld f table places s) where
   pub sizes : length held.policy.elements ≡ s.n
   sizes = count_is f table places s.n held.policy held.elements
 
-  pub places_room : 2 * s.n ≤ length places
+  pub places_room : s.n ≤ length places
   places_room = naming_room f places s.n held.ready.some held.naming
 
   pub steady_held : Steady f places table s

@@ -21,6 +21,7 @@ use Rattle.laws.proofs.Lines.{unlines, unlines_append, text_unlines}
 use Rattle.laws.proofs.Places.{lines_in}
 use Rattle.laws.proofs.ElementLines.{file_count}
 use Rattle.table.specs.declared.Row.{Row}
+use Rattle.layout.specs.declared.ElementPlaces.{ElementPlaces}
 use Rattle.layout.specs.Places.{part, start_of, obligation_count, elements_to, line_start, lines_to, Lined}
 use Rattle.layout.proofs.Slots.{count_is, obligations_of_lem}
 use Rattle.trimmed_text.specs.Flags.{is_left, left_from, line_count, lines_by_element, text_left}
@@ -86,7 +87,7 @@ module _ (f : Bytes) (ls : List Bytes) (free : Frees newline ls) (text : f ≡ u
       ∙ take-append_seam x (unlines (drop m (drop k ls)))
 
 -- The places of an accepted file's lines copy the text left
-module _ (f : Bytes) (p : Policy) (h : read f ≡ given p) (table : List Row) (places struck : List ℕ) (a n : ℕ) (attributes : length p.attributes ≡ a)
+module _ (f : Bytes) (p : Policy) (h : read f ≡ given p) (table : List Row) (places : List ElementPlaces) (struck : List ℕ) (a n : ℕ) (attributes : length p.attributes ≡ a)
     (is : p.elements ≡ reverse (elements_to f table places n)) (elements : length p.elements ≡ n) (lined : Lined (line_start f) places a n (length f)) where
   abbrev own : List Bytes
   own = front (lines f)
@@ -172,12 +173,12 @@ start_rises : (f : Bytes) (k : ℕ) → line_start f k ≤ line_start f (suc k)
 unfolding line_start
 start_rises f k = omega arith
 
-lines_rise : (places : List ℕ) (i : ℕ) → lines_to places i ≤ lines_to places (suc i)
+lines_rise : (places : List ElementPlaces) (i : ℕ) → lines_to places i ≤ lines_to places (suc i)
 unfolding lines_to
 lines_rise places i = omega arith
 
 -- so elements whose lines stand one behind the other are copied so
-pub copies_lined : (f : Bytes) (places struck : List ℕ) (a n : ℕ) → Lined (line_start f) places a n (length f) → 1 ≤ n → 2 * n ≤ length places → n ≤ length struck → Copies f places struck n
+pub copies_lined : (f : Bytes) (places : List ElementPlaces) (struck : List ℕ) (a n : ℕ) → Lined (line_start f) places a n (length f) → 1 ≤ n → n ≤ length places → n ≤ length struck → Copies f places struck n
 copies_lined f places struck a n lined some room flags =
     record {
       some = some;

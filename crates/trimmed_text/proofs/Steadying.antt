@@ -28,6 +28,7 @@ use Rattle.decisions.specs.Replies.{replies_from, reply_at}
 use Rattle.decisions.proofs.Leaves.{FirstWithin, first_within, replies_without}
 use Rattle.moves.specs.Moved.{kept, moved_at}
 use Rattle.moves.proofs.Rules.{group_word}
+use Rattle.layout.specs.declared.ElementPlaces.{ElementPlaces}
 use Rattle.layout.specs.Places.{element_in, elements_to, Obliged}
 use Rattle.layout.proofs.Laws.{bare, replies_bare}
 use Rattle.obligations.specs.Given.{left_elements, outcome_left}
@@ -35,7 +36,7 @@ use Rattle.obligations.proofs.Left.{left_bare, all_elements, outcome_left_lem}
 use Rattle.trials.specs.Steady.{Aside, Steady}
 use Rattle.trimmed_text.proofs.ByPlace.{some_element, top_depth, parent_of, policy_over}
 
-module _ (f : Bytes) (table : List Row) (places : List ℕ) (n : ℕ) where
+module _ (f : Bytes) (table : List Row) (places : List ElementPlaces) (n : ℕ) where
   -- what is left behind element i
   abbrev behind : List ℕ → ℕ → List Element
   behind struck i = left_elements f table places struck (i + 1) (n - (i + 1))
@@ -49,7 +50,7 @@ module _ (f : Bytes) (table : List Row) (places : List ℕ) (n : ℕ) where
       (sym (replies_bare bs q (suc (depth_of table i)) (behind struck i)) ∙ ap (child_replies (matches bs q) (suc (depth_of table i))) (left_bare f table places struck (i + 1) (n - (i + 1))))
 
 -- Flags that are set for rules alone leave no obligations where there were none
-module _ (f : Bytes) (table : List Row) (places : List ℕ) (n : ℕ) (leaves : Leaves table n) (struck : List ℕ) (rules : RulesStruck table struck n) (d : Decision) (c : ℕ) where
+module _ (f : Bytes) (table : List Row) (places : List ElementPlaces) (n : ℕ) (leaves : Leaves table n) (struck : List ℕ) (rules : RulesStruck table struck n) (d : Decision) (c : ℕ) where
   within_bare : (es : List Element) → FirstWithin c (map bare es) → Bare d (suc c) es
   within_bare [] w = tt
   within_bare (e ∷ es) w = inl (omega arith)
@@ -72,7 +73,7 @@ module _ (f : Bytes) (table : List Row) (places : List ℕ) (n : ℕ) (leaves : 
       go (failed x) (inr (none, b)) further = rw x (further b)
 
 -- A rule of a policy, with it and without it
-module _ (f : Bytes) (table : List Row) (places : List ℕ) (n : ℕ) (struck : List ℕ) (rule up : ℕ) (over : Over table up rule) (earlier : up < rule) (inside : rule < n) (room : n ≤ length struck) (flag : get_or struck rule 0 ≡ 1) where
+module _ (f : Bytes) (table : List Row) (places : List ElementPlaces) (n : ℕ) (struck : List ℕ) (rule up : ℕ) (over : Over table up rule) (earlier : up < rule) (inside : rule < n) (room : n ≤ length struck) (flag : get_or struck rule 0 ≡ 1) where
   live : get_or (kept struck rule) rule 0 ≡ 0
   live = get_or-set_same struck rule 0 0 (omega arith)
 
@@ -119,7 +120,7 @@ module _ (f : Bytes) (table : List Row) (places : List ℕ) (n : ℕ) (struck : 
           let other : j ≢ up = eqb-false j up x in
           rw (get_or-set_other struck rule j 0 0 (omega arith), y) (further (omega arith))
 
-module _ (f : Bytes) (p : Policy) (h : read f ≡ given p) (table : List Row) (places : List ℕ) (s : Shape) (is : p.elements ≡ reverse (elements_to f table places s.n)) where
+module _ (f : Bytes) (p : Policy) (h : read f ≡ given p) (table : List Row) (places : List ElementPlaces) (s : Shape) (is : p.elements ≡ reverse (elements_to f table places s.n)) where
   abbrev n : ℕ
   n = s.n
 

@@ -15,6 +15,7 @@ use Rattle.meaning.specs.Report.{name_in}
 use Rattle.laws.proofs.Bools.{Test, passed, failed, test}
 use Rattle.table.specs.declared.Row.{Row}
 use Rattle.table.specs.Tree.{left}
+use Rattle.layout.specs.declared.ElementPlaces.{ElementPlaces}
 use Rattle.layout.specs.Places.{name_in as name_in_file, element_in, elements_to}
 use Rattle.layout.proofs.Laws.{elements_length, bare, map_reverse, elements_bare, all_left}
 use Rattle.obligations.specs.Given.{left_elements}
@@ -22,13 +23,13 @@ use Rattle.obligations.proofs.Left.{all_elements}
 use Rattle.trimmed_text.specs.Flags.{left_from}
 
 -- flags leave of a table's elements what they leave of all
-left_again : (f : Bytes) (table : List Row) (places struck : List ℕ) (i n : ℕ) → left_elements f table places struck i n ≡ left_from struck i (left_elements f table places [] i n)
+left_again : (f : Bytes) (table : List Row) (places : List ElementPlaces) (struck : List ℕ) (i n : ℕ) → left_elements f table places struck i n ≡ left_from struck i (left_elements f table places [] i n)
 unfolding left_elements left_from
 left_again f table places struck i zero = refl
 left_again f table places struck i (suc n) = rw (left_again f table places struck (i + 1) n)
 
 -- elements that were read, by their places
-module _ (f : Bytes) (table : List Row) (places : List ℕ) where
+module _ (f : Bytes) (table : List Row) (places : List ElementPlaces) where
   elements_at : {A : Type 0} (F : Element → A) (d : A) (n i : ℕ) → i < n → get_or (map F (reverse (elements_to f table places n))) i d ≡ F (element_in f table places i)
   unfolding elements_to
   elements_at F d zero i l = absurd (omega arith)
@@ -48,7 +49,7 @@ module _ (f : Bytes) (table : List Row) (places : List ℕ) where
           let other : i ≢ n = eqb-false i n e in
           get_or-append (map F before) (F (element_in f table places n) ∷ []) d i (omega (arith, size)) ∙ earlier (omega arith)
 
-module _ (f : Bytes) (table : List Row) (places : List ℕ) (n : ℕ) (p : Policy) (is : p.elements ≡ reverse (elements_to f table places n)) where
+module _ (f : Bytes) (table : List Row) (places : List ElementPlaces) (n : ℕ) (p : Policy) (is : p.elements ≡ reverse (elements_to f table places n)) where
   -- how many elements there are
   pub count_is : length p.elements ≡ n
   count_is = ap length is ∙ length-reverse (elements_to f table places n) ∙ elements_length f table places n

@@ -18,6 +18,7 @@ use Rattle.laws.proofs.ElementKinds.{kinds}
 use Rattle.table.specs.declared.Row.{Row}
 use Rattle.table.specs.Tree.{rule_left}
 use Rattle.trimming.specs.Decided as table-level
+use Rattle.layout.specs.declared.ElementPlaces.{ElementPlaces}
 use Rattle.layout.specs.Places.{elements_to}
 use Rattle.obligations.specs.Given.{outcome_left}
 use Rattle.obligations.proofs.Left.{outcome_left_lem}
@@ -32,7 +33,7 @@ pub last_alike : (F G : ℕ → Bool) (n : ℕ) → ((i : ℕ) → i < n → F i
 last_alike F G zero alike = refl
 last_alike F G (suc n) alike = ap₂ (λ b o. cond b (some n) o) (alike n (omega arith)) (last_alike F G n (λ i l. alike i (omega arith)))
 
-module _ (f : Bytes) (p : Policy) (h : read f ≡ given p) (table : List Row) (places : List ℕ) (n : ℕ) (is : p.elements ≡ reverse (elements_to f table places n)) (size : length p.elements ≡ n)
+module _ (f : Bytes) (p : Policy) (h : read f ≡ given p) (table : List Row) (places : List ElementPlaces) (n : ℕ) (is : p.elements ≡ reverse (elements_to f table places n)) (size : length p.elements ≡ n)
     (hit : ℕ → Element → Bool) (space : ℕ) (hits_are : (m : ℕ) → hit m ≡ hits p m) (space_is : space ≡ space_of p.attributes) where
   -- what a request gets from the elements that are left, of which the first is one
   pub outcome_is : (struck : List ℕ) → get_or struck 0 0 ≡ 0 → (m : ℕ) → outcome_left (hit m) f table places struck n ≡ outcome (left_policy p struck) m

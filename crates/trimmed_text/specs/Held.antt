@@ -8,11 +8,12 @@ use Rattle.table.specs.declared.Row.{Row}
 use Rattle.table.specs.declared.Shape.{Shape}
 use Rattle.table.specs.Shape.{hit_of}
 use Rattle.outcomes.specs.PolicyTable.{PolicyTable}
+use Rattle.layout.specs.declared.ElementPlaces.{ElementPlaces}
 use Rattle.layout.specs.Places.{elements_to, Naming, Obliged, line_start, Lined}
 use Rattle.outcomes.specs.Decided.{none_struck}
 
 -- they hold the policy that reading f gives, which has this shape, and where its lines start
-pub record PolicyHeld (f : Bytes) (table : List Row) (places : List ℕ) (s : Shape) : Type 0 where
+pub record PolicyHeld (f : Bytes) (table : List Row) (places : List ElementPlaces) (s : Shape) : Type 0 where
   pub policy : Policy
   pub is_read : read f ≡ given policy
   pub elements : policy.elements ≡ reverse (elements_to f table places s.n)

@@ -24,8 +24,9 @@ use Rattle.trials.specs.Trial.{Laid}
 use Rattle.trimming.specs.Known.{IsSet, Known, Forgets}
 use Rattle.trials.proofs.Trying.{one_shown, ready_set, set_back, rule_flag, rule_word, aside}
 use Rattle.trimming.proofs.Strikes.{needless_both, outcome_same}
+use Rattle.layout.specs.declared.ElementPlaces.{ElementPlaces}
 
-module _ (f : Bytes) (places : List ℕ) (t : List Row) (s : Shape) where
+module _ (f : Bytes) (places : List ElementPlaces) (t : List Row) (s : Shape) where
   abbrev Knows : (struck hints known : List ℕ) → Type 0
   Knows = Known f places t s
 

@@ -28,13 +28,14 @@ use Rattle.trimming.specs.Decided.{changes_at, first_change_at, needless_at, nex
 use Rattle.trials.specs.Trial.{Laid}
 use Rattle.trimming.specs.Trims.{Trims}
 use Rattle.trials.proofs.Trying.{ready_set, rule_word}
+use Rattle.layout.specs.declared.ElementPlaces.{ElementPlaces}
 
 none_of : (o : Option ℕ) → is_none o ≡ true → o ≡ none
 none_of none e = refl
 none_of (some m) e = contradiction e refl
 
 -- The next rule to strike
-module _ (f : Bytes) (places : List ℕ) (t : List Row) (n : ℕ) (hit : ℕ → Element → Bool) (space : ℕ) (struck : List ℕ) where
+module _ (f : Bytes) (places : List ElementPlaces) (t : List Row) (n : ℕ) (hit : ℕ → Element → Bool) (space : ℕ) (struck : List ℕ) where
   pub record Next (i : ℕ) : Type 0 where
     pub found : next_at f places t n hit space struck ≡ some i
     pub below : i < n
@@ -54,7 +55,7 @@ module _ (f : Bytes) (places : List ℕ) (t : List Row) (n : ℕ) (hit : ℕ →
   trimming_stops (suc fuel) e = rw e
 
 -- A needless rule struck: what was asked of the flags holds again, for every request gets the same
-module _ (f : Bytes) (places : List ℕ) (t : List Row) (struck : List ℕ) (s : Shape) (i : ℕ) (needless : needless_at f places t s.n (hit_of s) s.space struck i ≡ true) where
+module _ (f : Bytes) (places : List ElementPlaces) (t : List Row) (struck : List ℕ) (s : Shape) (i : ℕ) (needless : needless_at f places t s.n (hit_of s) s.space struck i ≡ true) where
   pub needless_both : (rule_left t struck i ≡ true) × (is_none (first_change_at f places t s.n (hit_of s) s.space struck i) ≡ true)
   unfolding needless_at
   needless_both = and_true (rule_left t struck i) (is_none (first_change_at f places t s.n (hit_of s) s.space struck i)) needless
@@ -77,15 +78,15 @@ module _ (f : Bytes) (places : List ℕ) (t : List Row) (struck : List ℕ) (s :
       }
 
 -- From the flags `first` and the places `old`, `count` rules were struck: what is to come completes what striking gives
-pub record Strikes (f : Bytes) (places : List ℕ) (t : List Row) (s : Shape) (first old struck order : List ℕ) (count : ℕ) : Type 0 where
+pub record Strikes (f : Bytes) (places : List ElementPlaces) (t : List Row) (s : Shape) (first old struck order : List ℕ) (count : ℕ) : Type 0 where
   pub flags_left : (trimming_at f places t s.n (hit_of s) s.space (s.n - count) struck).flags ≡ (trimming_at f places t s.n (hit_of s) s.space s.n first).flags
   pub order_left : sets order count (trimming_at f places t s.n (hit_of s) s.space (s.n - count) struck).order ≡ sets old 0 (trimming_at f places t s.n (hit_of s) s.space s.n first).order
   pub count_left : count + length (trimming_at f places t s.n (hit_of s) s.space (s.n - count) struck).order ≡ length (trimming_at f places t s.n (hit_of s) s.space s.n first).order
 
-pub strikes_none : (f : Bytes) (places : List ℕ) (t : List Row) (s : Shape) (first old : List ℕ) → Strikes f places t s first old first old 0
+pub strikes_none : (f : Bytes) (places : List ElementPlaces) (t : List Row) (s : Shape) (first old : List ℕ) → Strikes f places t s first old first old 0
 strikes_none f places t s first old = let all : s.n - 0 ≡ s.n = omega arith in record { flags_left = rw all; order_left = rw all; count_left = rw (all, zero-add) }
 
-module _ (f : Bytes) (places : List ℕ) (t : List Row) (s : Shape) (first old struck order : List ℕ) (count : ℕ) (so_far : Strikes f places t s first old struck order count) where
+module _ (f : Bytes) (places : List ElementPlaces) (t : List Row) (s : Shape) (first old struck order : List ℕ) (count : ℕ) (so_far : Strikes f places t s first old struck order count) where
   -- one rule more; `flags` are the flags that `next_rule` gave back
   pub strikes_next : (flags : List ℕ) (i : ℕ) → count < s.n → flags ≡ struck → Next f places t s.n (hit_of s) s.space struck i → Strikes f places t s first old (set flags i 1) (set order count i) (count + 1)
   unfolding trimming_at

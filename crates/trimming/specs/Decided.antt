@@ -4,6 +4,7 @@ use Rattle.std.proofs.Math.Option.{Option, none, some}
 use Rattle.meaning.specs.Text.{Bytes, last_below}
 use Rattle.meaning.specs.declared.Element.{Element}
 use Rattle.table.specs.declared.Row.{Row}
+use Rattle.layout.specs.declared.ElementPlaces.{ElementPlaces}
 unfoldable pub use Rattle.trials.specs.Decided.{changes_at, first_change_at, shown_at, needless_at}
 
 -- the flags at the end, and the places struck in order
@@ -19,7 +20,7 @@ onward none struck next = record { flags = struck; order = [] }
 onward (some i) struck next = struck_first i (next i)
 
 -- A policy: its file, where its elements and their obligations stand there, its table, the number of its elements, which requests match an element's own target, and how many there are
-module _ (f : Bytes) (places : List ℕ) (t : List Row) (n : ℕ) (hit : ℕ → Element → Bool) (space : ℕ) where
+module _ (f : Bytes) (places : List ElementPlaces) (t : List Row) (n : ℕ) (hit : ℕ → Element → Bool) (space : ℕ) where
   -- the next rule to strike: the last needless one
   unfoldable pub next_at : List ℕ → Option ℕ
   next_at struck = last_below (needless_at f places t n hit space struck) n

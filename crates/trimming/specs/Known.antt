@@ -7,6 +7,7 @@ use Rattle.table.specs.declared.Shape.{Shape}
 use Rattle.table.specs.Shape.{hit_of}
 use Rattle.matching.specs.Hits.{bit_of}
 use Rattle.trimming.specs.Decided.{changes_at}
+use Rattle.layout.specs.declared.ElementPlaces.{ElementPlaces}
 
 -- a flag that is set
 abbrev pub IsSet : List ℕ → ℕ → Type 0
@@ -17,7 +18,7 @@ abbrev pub HintsFit : ℕ → List ℕ → List ℕ → Type 0
 HintsFit n hints known = (i : ℕ) → i < n → IsSet known i → get_or hints i 0 < 4096
 
 -- each rule that is known, and left, is shown needed by its hint
-abbrev pub Known : Bytes → (places : List ℕ) (t : List Row) → Shape → (struck hints known : List ℕ) → Type 0
+abbrev pub Known : Bytes → (places : List ElementPlaces) (t : List Row) → Shape → (struck hints known : List ℕ) → Type 0
 Known f places t s struck hints known =
     (i : ℕ) → i < s.n → IsSet known i
     → (get_or hints i 0 < s.space) × (rule_left t struck i ≡ true → changes_at f places t s.n (hit_of s) struck i (get_or hints i 0) ≡ true)

@@ -3,6 +3,7 @@ ghost use Rattle.std.specs.Prelude.{◌*◌, ◌≤◌, ◌<◌};
 ghost use Rattle.table.specs.Rows.{Rows};
 ghost use Rattle.outcomes.specs.PolicyTable.{PolicyTable};
 
+use layout::ElementPlaces;
 use meaning::Decision;
 use requests::Request;
 use table::{Row, Shape};
@@ -134,7 +135,7 @@ fn step_all(
 // Whether all requests of a file are as its report says; refused files count, and of one that has no report the numbers.
 pub(crate) fn stepped(file: &[u8], report: &[u8]) -> bool {
     let mut table = [Row::NONE; 64];
-    let mut places = [0usize; 384];
+    let mut places = [ElementPlaces::NONE; 64];
     let shape = match reader::read(file, &mut table, &mut places) {
         Ok(policy) => policy.shape(),
         Err(_) => return true,

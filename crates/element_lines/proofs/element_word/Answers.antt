@@ -18,13 +18,14 @@ use Rattle.refusals.specs.declared.Refusal.TheVariants.{BadWord}
 use Rattle.refusals.specs.Numbers.{number_in}
 use Rattle.layout.specs.declared.Attributes.{Attributes}
 use Rattle.layout.specs.declared.Tree.{Tree}
+use Rattle.layout.specs.declared.ElementPlaces.{ElementPlaces}
 use Rattle.layout.specs.Places.{names_to}
 use Rattle.layout.specs.Nearest.{Stands}
 use Rattle.element_lines.specs.Elements.{element_from, Behind, earlier_tests}
 use Rattle.element_lines.proofs.ElementTests.{first_found, tests_found}
 use Rattle.element_lines.proofs.element_word.Goals as goal
 
-module _ (f : Bytes) (a : Attributes) (places : List ℕ) (tree : Tree) (k : Kind) (fs : List Bytes) where
+module _ (f : Bytes) (a : Attributes) (places : List ElementPlaces) (tree : Tree) (k : Kind) (fs : List Bytes) where
   -- what the tests look at: whether field 2 is a name, and one of the elements'; whether kind and depth fit; the word
   abbrev named : Bool
   named = is_name (get_or fs 2 [])

@@ -6,6 +6,7 @@ use mathlib.Core.List.{List}
 use native.Mathlib.Omega.{arith}
 use borrow.Author.Rules.{rules}
 use Rattle.table.specs.declared.Row.{Row}
+use Rattle.layout.specs.declared.ElementPlaces.{ElementPlaces}
 use Rattle.layout.proofs.Laws.{element_names}
 use Rattle.attribute_lines.specs.declared.State.{State}
 use Rattle.element_lines.specs.Elements.{Behind}
@@ -14,7 +15,7 @@ use Rattle.element_lines.proofs.TreeSteps.{count_told, earlier_told, some_attrib
 use Rattle.element_lines.proofs.tree_line.Goals as goal
 
 -- what was read so far is what the state stands for
-behind : {f : List ℕ} {table : List Row} {places : List ℕ} {st : State} → BeforeLine f table places st → Behind f st.attributes places st.tree (read_sofar f table places st)
+behind : {f : List ℕ} {table : List Row} {places : List ElementPlaces} {st : State} → BeforeLine f table places st → Behind f st.attributes places st.tree (read_sofar f table places st)
 behind ready = record { attributes = refl; stands = ready.tree; names = element_names _ _ _ _ }
 
 pub returns-then-fields-attributes : goal.returns-then-fields-attributes

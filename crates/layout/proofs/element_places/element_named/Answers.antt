@@ -1,29 +1,24 @@
 -- `element_named` meets its contract. The loop keeps the answer: the last element that has the name is the last before `i`.
-use Prim.Native.Nat.{ℕ, ◌+◌, ◌-◌, ◌*◌, ◌≤◌, ◌<◌}
+use Prim.Native.Nat.{ℕ, ◌+◌, ◌-◌, ◌≤◌, ◌<◌}
 use mathlib.Core.List.{List}
 use mathlib.Core.Path.{refl, sym, ap, ◌∙◌}
 use native.Mathlib.Omega.{arith}
-use lib.ListN.{length, get_or}
+use lib.ListN.{length}
 use borrow.Author.Rules.{rules}
 use Rattle.meaning.specs.Text.{Bytes}
 use Rattle.laws.proofs.Search.{last_here, last_earlier, last_nowhere}
 use Rattle.names.proofs.Ends.{other_end}
 use Rattle.laws.specs.Found.{found}
-use Rattle.layout.specs.Places.{start_of, has_name, Named}
+use Rattle.layout.specs.declared.ElementPlaces.{ElementPlaces}
+use Rattle.layout.specs.Places.{start_of, name_end, has_name, Named}
 use Rattle.layout.proofs.element_places.element_named.Goals as goal
 
 -- the places of the element below `i`
-placed : {f : Bytes} {places : List ℕ} {n : ℕ} → Named f places n → (i : ℕ) → 0 < i → i ≤ n → let k = i - 1 in (2 * k + 2 ≤ length places) × (start_of places k + 4 ≤ get_or places (2 * k + 1) 0) × (get_or places (2 * k + 1) 0 ≤ length f)
+placed : {f : Bytes} {places : List ElementPlaces} {n : ℕ} → Named f places n → (i : ℕ) → 0 < i → i ≤ n → let k = i - 1 in (k < length places) × (start_of places k + 4 ≤ name_end places k) × (name_end places k ≤ length f)
 placed named i some inside = (omega (arith, named.room), named.starts (i - 1) (omega arith), named.ends (i - 1) (omega arith))
 
 pub loop-i-init : goal.loop-i-init
 loop-i-init c = refl
-
-pub overflow_mul-end : goal.overflow_mul-end
-overflow_mul-end c = let (room, start, end) = placed c.requires c.loop-i.i (omega arith) (omega arith) in search rules
-
-pub overflow_add-end : goal.overflow_add-end
-overflow_add-end c = let (room, start, end) = placed c.requires c.loop-i.i (omega arith) (omega arith) in search rules
 
 pub offset_bounds-places-i : goal.offset_bounds-places-i
 offset_bounds-places-i c = let (room, start, end) = placed c.requires c.loop-i.i (omega arith) (omega arith) in search rules
@@ -41,12 +36,8 @@ loop-i-preserved-then-ends_otherwise c =
     let a = c.args in
     let (room, start, end) = placed c.requires c.loop-i.i (omega arith) (omega arith) in
     let i = c.loop-i.i - 1 in
-    let other = other_end a.file.now a.name.now (start_of a.places.now i + 4) (get_or a.places.now (2 * i + 1) 0) start end (sym c.ends_otherwise.ensures ∙ c.if-ends_otherwise.true) in
+    let other = other_end a.file.now a.name.now (start_of a.places.now i + 4) (name_end a.places.now i) start end (sym c.ends_otherwise.ensures ∙ c.if-ends_otherwise.true) in
     c.loop-i.invariant ∙ last_earlier (has_name a.file.now a.places.now a.name.now) c.loop-i.i (omega arith) other
-
-pub overflow_mul-start : goal.overflow_mul-start
-overflow_mul-start c =
-    let (room, start, end) = placed c.requires c.loop-i.i (omega arith) (omega arith) in search rules
 
 pub offset_bounds-places-i-in-loop-i : goal.offset_bounds-places-i-in-loop-i
 offset_bounds-places-i-in-loop-i c =

@@ -6,12 +6,13 @@ use mathlib.Core.List.{List, [], ◌∷◌, map}
 use lib.ListN.{take}
 use Rattle.meaning.specs.Text.{Bytes, among_names}
 use Rattle.meaning.specs.Model.{obligation_name}
+use Rattle.layout.specs.declared.ElementPlaces.{ElementPlaces}
 use Rattle.layout.specs.Places.{obligations_in, obligation_count}
 use Rattle.layout.proofs.Obligations.{obligation_name_at, obligation_names, of_none, of_first, of_one, of_two_lem}
 use Rattle.layout.proofs.obligation_places.known_obligation.Goals as goal
 
 -- an answer on the first so many names is one on the obligations
-answer : (f : Bytes) (places : List ℕ) (i : ℕ) (name : Bytes) (n : ℕ) → n ≡ obligation_count places i → (r : Bool) → let at = obligation_name_at f places i in r ≡ among_names name (take n (at 0 ∷ at 1 ∷ []))
+answer : (f : Bytes) (places : List ElementPlaces) (i : ℕ) (name : Bytes) (n : ℕ) → n ≡ obligation_count places i → (r : Bool) → let at = obligation_name_at f places i in r ≡ among_names name (take n (at 0 ∷ at 1 ∷ []))
     → r ≡ among_names name (map obligation_name (obligations_in f places i))
 answer f places i name n count r is =
     let at = obligation_name_at f places i in

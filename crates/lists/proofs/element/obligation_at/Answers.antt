@@ -6,13 +6,14 @@ use native.Mathlib.Omega.{arith}
 use mathlib.Core.List.{List}
 use lib.ListN.{length}
 use Rattle.meaning.specs.Text.{Bytes}
+use Rattle.layout.specs.declared.ElementPlaces.{ElementPlaces}
 use Rattle.layout.specs.Places.{obligation_start, obligation_end, Obliged}
 use Rattle.lists.proofs.Parts.{none_placed, one_placed}
 use borrow.Author.Rules.{rules}
 use Rattle.lists.proofs.element.obligation_at.Goals as goal
 
 -- where an obligation's name stands, and that it is short
-standing : (f : Bytes) (places : List ℕ) (i k : ℕ) → Obliged f places i → k < 2 → obligation_end places i k ≢ 0
+standing : (f : Bytes) (places : List ElementPlaces) (i k : ℕ) → Obliged f places i → k < 2 → obligation_end places i k ≢ 0
     → (obligation_start places i k ≤ obligation_end places i k) × (obligation_end places i k + 1 < length f) × (obligation_end places i k ≤ obligation_start places i k + 16)
 standing f places i k obliged which some = (obliged.starts k which, obliged.ends k which some, obliged.short k which)
 
