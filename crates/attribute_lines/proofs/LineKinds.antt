@@ -19,6 +19,7 @@ use Rattle.refusals.specs.declared.Refusal.{Refusal}
 use Rattle.refusals.specs.declared.Refusal.TheVariants.{BadLine}
 use Rattle.refusals.specs.Numbers.{number_of}
 use Rattle.table.specs.declared.Row.{Row}
+use Rattle.layout.specs.declared.ElementPlaces.{ElementPlaces}
 use Rattle.layout.specs.Places.{part}
 use Rattle.attribute_lines.specs.declared.State.{State}
 use Rattle.attribute_lines.specs.declared.LineShape.{LineShape}
@@ -26,7 +27,7 @@ use Rattle.attribute_lines.specs.Sofar.{refusal_by, refusal_of, AttributeLine, T
 use Rattle.attribute_lines.specs.Steps.{read_sofar, StepIs}
 
 -- A refused line leaves all as it was
-pub stopped : {f : List ℕ} {t : List Row} {p : List ℕ} {st : State} {end : ℕ} (why : Refusal) → number_of why ≡ refusal_of (read_sofar f t p st) (cut tab (part f st.at end)) → StepIs f t p t p st end (Err why)
+pub stopped : {f : List ℕ} {t : List Row} {p : List ElementPlaces} {st : State} {end : ℕ} (why : Refusal) → number_of why ≡ refusal_of (read_sofar f t p st) (cut tab (part f st.at end)) → StepIs f t p t p st end (Err why)
 stopped why is = record { refusal = is; next = tt; stays = record { table_is = refl; places_are = refl } }
 
 -- Test 2 refuses first
@@ -34,7 +35,7 @@ pub wrong_refused : (tests : Sofar → Line → Tests) (s : Sofar) (fs : List By
 unfolding refusal_by
 wrong_refused tests s fs h = rw h
 
-pub refused_2 : (f : List ℕ) (t : List Row) (p : List ℕ) (st : State) (end : ℕ) → wrong_fields (read_sofar f t p st) (cut tab (part f st.at end)) (line_of (cut tab (part f st.at end))) ≡ true → StepIs f t p t p st end (Err BadLine)
+pub refused_2 : (f : List ℕ) (t : List Row) (p : List ElementPlaces) (st : State) (end : ℕ) → wrong_fields (read_sofar f t p st) (cut tab (part f st.at end)) (line_of (cut tab (part f st.at end))) ≡ true → StepIs f t p t p st end (Err BadLine)
 refused_2 f t p st end h = stopped BadLine (sym (wrong_refused line_tests (read_sofar f t p st) (cut tab (part f st.at end)) h))
 
 -- A line by its kind; any other is wrong by test 2, whatever was read so far

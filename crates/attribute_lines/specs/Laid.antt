@@ -1,5 +1,5 @@
 -- What reading lays down: a row of the table and the places of each element, and those of each obligation.
-use Rattle.std.specs.Prelude.{ℕ, ◌+◌, ◌*◌, ◌-◌, List, [], ◌∷◌, length}
+use Rattle.std.specs.Prelude.{ℕ, ◌+◌, ◌-◌, List, length}
 use Rattle.meaning.specs.Model.{padded}
 use Rattle.meaning.specs.Reading.{Line, attribute_line, tree_line, obligation_line, other_line, depth_of, word_of, masks_of, Sofar, nearest_obligations, extended}
 use Rattle.table.specs.declared.Row.{Row}

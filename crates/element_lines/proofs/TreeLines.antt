@@ -1,6 +1,6 @@
 -- A tree line: its refusals, and the element that it adds.
-use mathlib.Core.Path.{◌≡◌, refl, sym, ap, ap₂, ◌∙◌, subst, subst⁻¹}
-use Prim.Native.Nat.{ℕ, suc, ◌+◌, ◌*◌, ◌≤◌, ◌<◌, zero-le, suc-le-suc}
+use mathlib.Core.Path.{◌≡◌, refl, sym, ap, ◌∙◌, subst, subst⁻¹}
+use Prim.Native.Nat.{ℕ, suc, ◌+◌, ◌≤◌, ◌<◌, zero-le, suc-le-suc}
 use native.Mathlib.Numerals.{add-one}
 use native.Mathlib.Omega.{arith}
 use mathlib.Core.Bool.{false, not, cond, false≢true}
@@ -18,15 +18,15 @@ use Rattle.meaning.specs.Model.{padded, unused, kind_text}
 use Rattle.meaning.specs.Reading.{depth_of, word_of, or_permit, masks_of, Sofar, well_placed, Tests, lowest, bad_masks, line_tests}
 use Rattle.laws.proofs.Bools.{Test, passed, failed, test, or_false}
 use Rattle.laws.proofs.Reading.{Passes, Numbered, lowest_zero}
-use Rattle.laws.proofs.Bounds.{placed_depth, length_padded, masks_count}
+use Rattle.laws.proofs.Bounds.{placed_depth}
 use Rattle.table.specs.declared.Row.{Row}
 use Rattle.table.specs.Rows.{word_at, number_of_word, row_of, with_row}
 use Rattle.table.proofs.Rows.{row_length}
 use Rattle.layout.specs.declared.ElementPlaces.{ElementPlaces}
-use Rattle.layout.specs.Places.{part, kind_at, elements_to, Clear, line_start, lines_to}
+use Rattle.layout.specs.Places.{part, with_name, kind_at, elements_to, Clear, line_start, lines_to}
 use Rattle.layout.specs.Nearest.{Stands}
 use Rattle.layout.proofs.Placing.{stands_more}
-use Rattle.layout.proofs.Laws.{attributes_length, elements_more, named_more, lined_more, clear_more, obliged_more}
+use Rattle.layout.proofs.Laws.{elements_more, more_length, named_more, lined_more, clear_more, obliged_more}
 use Rattle.attribute_lines.specs.declared.State.{State}
 use Rattle.attribute_lines.specs.Sofar.{refusal_of, TreeLine}
 use Rattle.element_lines.specs.Elements.{element_from, earlier_tests, Fits, behind_tree}
@@ -171,12 +171,12 @@ module _ (f : List ℕ) (table : List Row) (places : List ElementPlaces) (st : S
       ends = l;
     }
 
-    pair_room : 2 * size + 2 ≤ length places
+    pair_room : size < length places
     pair_room = omega (arith, ready.rooms.pairs, few)
 
     added : elements_to f table' places' (suc size) ≡ el s fs k n line ∷ s.before
     added =
-        elements_more f table places size st.at name_end row (omega (arith, ready.rooms.rows, few)) pair_room few ready.clear
+        elements_more f table places size st.at name_end row (omega (arith, ready.rooms.rows, few)) pair_room ready.clear
         ∙ ap (λ x. x ∷ s.before) (λ i. record {
           kind = named.letter i;
           depth = depth_of (get_or fs 1 []);
@@ -207,14 +207,14 @@ module _ (f : List ℕ) (table : List Row) (places : List ElementPlaces) (st : S
             };
             rooms = subst⁻¹ (Rooms f table' places') (add-one size) (record {
               rows = omega (arith, row_length table size row, ready.rooms.rows);
-              pairs = omega (arith, length-sets places (2 * size) (st.at ∷ name_end ∷ []), ready.rooms.pairs);
+              pairs = omega (arith, more_length f places size st.at name_end pair_room, ready.rooms.pairs);
               named = named_more f places size st.at name_end pair_room (omega arith) (omega (arith, named.within, at.ends)) ready.rooms.named;
             });
             tree = subst⁻¹ (Stands (behind_tree st end k fs).tree) more (stands_more st.tree k (depth_of (get_or fs 1 [])) (el s fs k n line) s.before ready.tree refl refl known.1 refl);
-            lined = rw (add-one size) (lined_more f places size st.at name_end pair_room (line_start f) st.attributes.len (end + 1) few ready.clear ready.lined (next_start (st.attributes.len + lines_to places size) at ready.lined.next));
+            lined = rw (add-one size) (lined_more f places size st.at name_end pair_room (line_start f) st.attributes.len (end + 1) ready.clear ready.lined (next_start (st.attributes.len + lines_to places size) at ready.lined.next));
             places_are = ready.places_are;
-            clear = subst⁻¹ (Clear places') (add-one size) (clear_more f places size st.at name_end pair_room few ready.clear);
-            obliged = λ i l. obliged_more f places size st.at name_end pair_room few ready.rooms.pairs ready.clear ready.obliged i (omega arith);
+            clear = subst⁻¹ (Clear places') (add-one size) (clear_more f places size st.at name_end pair_room ready.clear);
+            obliged = λ i l. obliged_more f places size st.at name_end pair_room ready.clear ready.obliged i (omega arith);
           };
           at_next = refl;
           line_next = refl;

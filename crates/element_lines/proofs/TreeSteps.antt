@@ -1,10 +1,10 @@
 -- The step over a tree line: each of its refusals, and the line that is read.
 use Rattle.std.specs.Prelude.{Ok, Err, Some, None}
 use mathlib.Core.Path.{◌≡◌, sym, ap, ◌∙◌}
-use Prim.Native.Nat.{ℕ, ◌+◌, ◌*◌, ◌≤◌, ◌<◌}
+use Prim.Native.Nat.{ℕ, ◌+◌, ◌≤◌, ◌<◌}
 use native.Mathlib.Omega.{arith}
 use mathlib.Core.Bool.{true, false, not}
-use mathlib.Core.List.{List, [], ◌∷◌}
+use mathlib.Core.List.{List, []}
 use mathlib.Core.Option.{some}
 use lib.ListN.{length, drop, get_or}
 use Rattle.meaning.specs.declared.Kind.{Kind}
@@ -22,7 +22,7 @@ use Rattle.refusals.proofs.Numbers.{not_zero}
 use Rattle.table.specs.declared.Row.{Row}
 use Rattle.table.specs.Rows.{number_of_word, row_of, with_row}
 use Rattle.layout.specs.declared.ElementPlaces.{ElementPlaces}
-use Rattle.layout.specs.Places.{part}
+use Rattle.layout.specs.Places.{part, with_name}
 use Rattle.layout.proofs.Laws.{attributes_length}
 use Rattle.attribute_lines.specs.declared.State.{State}
 use Rattle.attribute_lines.specs.Sofar.{TreeLine}
@@ -83,7 +83,7 @@ module _ (f : List ℕ) (table : List Row) (places : List ElementPlaces) (st : S
       targets_told none = stopped BadTarget (sym (earlier_passed s fs k n line count passed_earlier ∙ rw (masks_bad s.attributes (drop 4 fs) none)))
 
       -- the line is read
-      pub tree_told : (r : State) (word : Word) (masks : List ℕ) (t' : List Row) (p' : List ℕ) → word_of k (get_or fs 3 []) ≡ some word → masks_in s.attributes (drop 4 fs) ≡ Some masks → r ≡ behind_tree st end k fs
+      pub tree_told : (r : State) (word : Word) (masks : List ℕ) (t' : List Row) (p' : List ElementPlaces) → word_of k (get_or fs 3 []) ≡ some word → masks_in s.attributes (drop 4 fs) ≡ Some masks → r ≡ behind_tree st end k fs
           → t' ≡ with_row table st.tree.len (row_of (some word) (depth_of (get_or fs 1 [])) masks)
           → p' ≡ with_name places st.tree.len st.at (st.at + 4 + length (get_or fs 2 []))
           → StepIs f table places t' p' st end (Ok r)

@@ -68,13 +68,16 @@ module _ (f : Bytes) (places : List ElementPlaces) (n start end : ℕ) (room : n
   end_old : (i : ℕ) → i < n → name_end more i ≡ name_end places i
   end_old i l = ap (λ p. p.name_end) (old i (λ e. omega arith))
 
+  pub more_length : length more ≡ length places
+  more_length = length-set places n here
+
   last : (i : ℕ) → i < suc n → i ≤ n
   last i l = omega arith
 
   pub named_more : start + 4 ≤ end → end ≤ length f → Named f places n → Named f more (suc n)
   named_more name inside named =
       record {
-        room = rw (length-set places n here) (omega arith);
+        room = omega (arith, more_length);
         starts = λ i l. ⊎_elim (λ (e : i ≡ n). rw (e, start_new, end_new) name) (λ (below : i < n). rw (start_old i below, end_old i below) (named.starts i below)) (eq-or-lt_of_le (last i l));
         ends = λ i l. ⊎_elim (λ (e : i ≡ n). rw (e, end_new) inside) (λ (below : i < n). rw (end_old i below) (named.ends i below)) (eq-or-lt_of_le (last i l));
       }
@@ -109,12 +112,9 @@ module _ (f : Bytes) (places : List ElementPlaces) (n start end : ℕ) (room : n
   pub obliged_more : Clear places n → ((i : ℕ) → i < n → Obliged f places i) → (i : ℕ) → i < suc n → Obliged f more i
   obliged_more clear each i l =
       ⊎_elim
-      (λ (e : i ≡ n). rw e (none_obliged f more n (omega (arith, size)) (λ k m. let same = same_slots n k m in (same.0 ∙ (clear n k (omega arith) m).0, same.1 ∙ (clear n k (omega arith) m).1))))
-      (λ (below : i < n). obliged_alike places more f i size (same_slots i) (each i below))
+      (λ (e : i ≡ n). rw e (none_obliged f more n (omega (arith, more_length)) (λ k m. let same = same_slots n k m in (same.0 ∙ (clear n k (omega arith) m).0, same.1 ∙ (clear n k (omega arith) m).1))))
+      (λ (below : i < n). obliged_alike places more f i more_length (same_slots i) (each i below))
       (eq-or-lt_of_le (last i l))
-    where
-      size : length more ≡ length places
-      size = length-set places n here
 
 -- One element more, put where there is room
 module _ (f : Bytes) (table : List Row) (places : List ElementPlaces) (n start end : ℕ) (row : Row) (rows : Rows table (n + 1)) (room : n < length places) (clear : Clear places n) where

@@ -8,7 +8,6 @@ use mathlib.Core.Bool.{true, false, not}
 use mathlib.Core.List.{List, [], ◌∷◌}
 use lib.Dec.{eqb, leb, ltb}
 use lib.ListN.{length, get_or}
-use lib.Seq.{length-sets}
 use borrow.Author.Tests.{leb-true, ltb-true, eqb-true, eqb-false, not-false}
 use Rattle.meaning.specs.declared.Word.{Word}
 use Rattle.meaning.specs.Text.{Bytes, bytes, is_none, cut, join, tab}
@@ -26,8 +25,8 @@ use Rattle.table.specs.declared.Row.{Row}
 use Rattle.layout.specs.declared.Tree.{Tree}
 use Rattle.layout.specs.declared.ElementPlaces.{ElementPlaces}
 use Rattle.layout.specs.Nearest.{nearest, Stands}
-use Rattle.layout.specs.Places.{part, effect_at, obligation_place, obligation_in, obligation_count, elements_to, Named, line_start, lines_to, Lined}
-use Rattle.layout.proofs.Slots.{count_is, clear_still}
+use Rattle.layout.specs.Places.{part, effect_at, obligation_in, obligation_count, elements_to, Named, line_start, lines_to, Lined}
+use Rattle.layout.proofs.Slots.{count_is, obliging_length, clear_still}
 use Rattle.layout.proofs.Obligations.{obligations_in_lem}
 use Rattle.layout.proofs.Obliging.{Oblige, elements_obliged, named_still, lined_obliged, obliged_still}
 use Rattle.attribute_lines.specs.declared.State.{State}
@@ -132,7 +131,6 @@ module _ {f : List ℕ} {table : List Row} {places : List ElementPlaces} {st : S
     behind =
         let (long, short) = and_true (leb 1 (length name)) (leb (length name) 16) (stored (length name) (padded 16 name) passes.0).size in
         record {
-          few = omega (arith, ready.in_file.few, one_more);
           place = free;
           counted = refl;
           obliged = ready.obliged m (omega (arith, one_more));
@@ -174,7 +172,7 @@ module _ {f : List ℕ} {table : List Row} {places : List ElementPlaces} {st : S
             };
             rooms = record {
               rows = ready.rooms.rows;
-              pairs = omega (arith, ready.rooms.pairs, length-sets places (obligation_place m (obligation_count places m)) (start ∷ (start + length name) ∷ []));
+              pairs = omega (arith, ready.rooms.pairs, obliging_length places m (obligation_count places m) start (start + length name) behind.obliged.room free);
               named = subst⁻¹ (Named f places') one_more (named_still f places m (obligation_count places m) start (start + length name) behind (subst (Named f places) one_more ready.rooms.named));
             };
             tree = subst⁻¹ (Stands st.tree) elements (stands_with (obligation_of name word) s.before ready.tree);
@@ -190,7 +188,7 @@ module _ {f : List ℕ} {table : List Row} {places : List ElementPlaces} {st : S
         }
 
   -- what the code tells of the line is the step of reading over it
-  pub obligation_told : {p : List ℕ} {r : Result State Refusal} → ObligationStep f places p st end r → StepIs f table places table p st end r
+  pub obligation_told : {p : List ElementPlaces} {r : Result State Refusal} → ObligationStep f places p st end r → StepIs f table places table p st end r
   obligation_told {p} {r} step = go r step
     where
       go : (r : Result State Refusal) → ObligationStep f places p st end r → StepIs f table places table p st end r

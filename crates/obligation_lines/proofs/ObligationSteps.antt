@@ -2,7 +2,7 @@
 use Rattle.std.specs.Prelude.{Ok, Err}
 use Prim.Native.Nat.{ℕ, ◌+◌}
 use mathlib.Core.Path.{◌≡◌, refl, sym, ap₂, ◌∙◌}
-use mathlib.Core.List.{List, [], ◌∷◌}
+use mathlib.Core.List.{List}
 use lib.ListN.{length}
 use Rattle.meaning.specs.Text.{Bytes, cut, tab}
 use Rattle.meaning.specs.Reading.{Sofar, line_tests}
@@ -38,5 +38,5 @@ module _ (f : List ℕ) (places : List ElementPlaces) (st : State) (end n : ℕ)
     refused_told why is = record { refusal = line_refusal is; state = tt; laid = tt; stays = refl }
 
     -- the line is read
-    pub read_told : ObligationRefusal f places st.tree fs 0 → {next : State} {p : List ℕ} → next ≡ behind_obligation st end → p ≡ obliged places st.tree st.at fs → ObligationStep f places p st end (Ok next)
+    pub read_told : ObligationRefusal f places st.tree fs 0 → {next : State} {p : List ElementPlaces} → next ≡ behind_obligation st end → p ≡ obliged places st.tree st.at fs → ObligationStep f places p st end (Ok next)
     read_told is is_state is-places = record { refusal = line_refusal is; state = is_state; laid = is-places; stays = tt }

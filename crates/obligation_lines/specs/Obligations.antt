@@ -1,5 +1,5 @@
 -- An obligation's line: its tests by what the places and the tree show, and what it does to state and places.
-use Rattle.std.specs.Prelude.{ℕ, zero, suc, ◌+◌, ◌-◌, ◌≤◌, ◌<◌, ◌≡◌, List, [], ◌∷◌, length, get_or, Result, IfOk, OnOk, OnErr}
+use Rattle.std.specs.Prelude.{ℕ, zero, suc, ◌+◌, ◌-◌, ◌≤◌, ◌<◌, ◌≡◌, List, [], length, get_or, Result, IfOk, OnOk, OnErr}
 use Rattle.meaning.specs.declared.Obligation.{Obligation}
 use Rattle.meaning.specs.Text.{Bytes, cut, tab}
 use Rattle.meaning.specs.Reading.{Sofar, lowest, nearest_obligations, obligation_of, obligation_tests}

@@ -1,11 +1,11 @@
 -- A file that was read, or refused.
 use mathlib.Core.Path.{◌≡◌, refl, sym, ap, ◌∙◌}
 use Rattle.std.specs.Prelude.{Ok, Err}
-use Prim.Native.Nat.{ℕ, ◌+◌, ◌-◌, ◌*◌, ◌≤◌, ◌<◌}
+use Prim.Native.Nat.{ℕ, ◌+◌, ◌-◌, ◌≤◌, ◌<◌}
 use native.Mathlib.Omega.{arith}
 use mathlib.Core.List.{List, reverse-reverse}
 use lib.Dec.{leb, lit≤}
-use lib.ListN.{length, drop, get_or, replicate, length-drop, length-reverse}
+use lib.ListN.{length, drop, replicate, length-drop, length-reverse}
 use lib.Seq.{length-take-le}
 use borrow.Author.Tests.{leb-true}
 use Rattle.meaning.specs.Model.{Policy, Result, refused, given}

@@ -122,7 +122,7 @@ module _ (f : List ℕ) (table₀ : List Row) (places₀ : List ElementPlaces) (
       told (rw is (subst⁻¹ (ReadAs f table places (ended_at st end)) reads (ending f table places st end ready few_lines e))) (keeps.lays ∙ none_laid f st.at end (laid_at f table places st) ends e)
 
   -- a line that is refused, and one that is not
-  module _ (inside : end < length f) {t : List Row} {p : List ℕ} where
+  module _ (inside : end < length f) {t : List Row} {p : List ElementPlaces} where
     pub refused_here : {why : Refusal} → StepIs f table places t p st end (Err why) → ReadIs f table₀ places₀ t p (Err (record { why = why; second = st.line }))
     refused_here {why} is-step =
         let s = read_sofar f table places st in

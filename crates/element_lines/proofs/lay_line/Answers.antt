@@ -1,7 +1,6 @@
 -- `lay_line` meets its contract: the element's row and places, and the tree with it.
 use mathlib.Core.Path.{ap, ◌∙◌}
 use native.Mathlib.Omega.{arith}
-use Prim.Native.Nat.{◌*◌}
 use lib.ListN.{length}
 use Rattle.meaning.specs.Reading.{depth_of}
 use Rattle.layout.specs.Nearest.{grown}
@@ -28,5 +27,5 @@ returns c =
     record {
       value = rw tree;
       table_after = rw (laid.table_after, c.new-row.ensures, depth);
-      places_after = laid.places_after ∙ same_end args.places.now (2 * args.st.tree.len) args.st.at c.name_field-name.ensures;
+      places_after = laid.places_after ∙ same_end args.places.now args.st.tree.len args.st.at c.name_field-name.ensures;
     }

@@ -18,10 +18,6 @@ returns-in_err-obligation_refusal c =
 pub overflow_sub-last : goal.overflow_sub-last
 overflow_sub-last c = c.in_ok-obligation_refusal.ensures.some refl
 
-pub obligation_count-count-requires : goal.obligation_count-count-requires
-obligation_count-count-requires c =
-    (c.requires.3 (c.args.st.tree.len - 1) (omega (arith, c.in_ok-obligation_refusal.ensures.some refl))).room
-
 pub put_obligation-requires : goal.put_obligation-requires
 put_obligation-requires c =
     let passed = c.in_ok-obligation_refusal.ensures in
@@ -32,5 +28,5 @@ pub returns : goal.returns
 returns c =
     let args = c.args in
     let counted = c.obligation_count-count.ensures.value in
-    let named = c.field-name.ensures in
+    let named = c.field.ensures in
     read_told _ _ _ _ _ c.requires.2 c.if-fields-ne3.false c.in_ok-obligation_refusal.ensures refl (c.put_obligation.ensures ∙ same_slot args.places.now (args.st.tree.len - 1) (args.st.at + 2) counted named)

@@ -46,10 +46,6 @@ returns-then-eq c =
     sym (ap (λ n. among_names n (map obligation_name (obligations_in a.file.now a.places.now (a.tree.len - 1)))) c.field-name.ensures) ∙ sym c.known_obligation.ensures in
     behind_rule _ _ _ _ named c.if-tree-eq0.false (known_found ∙ c.if-known_obligation.false) c.requires.0 (rule_told _ refl refl refl _ c.eq.ensures ∙ c.if-eq.true)
 
-pub obligation_count-requires : goal.obligation_count-requires
-obligation_count-requires c =
-    (c.requires.1 (c.args.tree.len - 1) (omega arith)).room
-
 pub returns-then-obligation_count-ge2 : goal.returns-then-obligation_count-ge2
 returns-then-obligation_count-ge2 c =
     let name_found : is_name (get_or (cut tab c.args.line.now) 1 []) ≡ c.is_name.result = sym (ap is_name c.field-name.ensures) ∙ sym c.is_name.ensures in
