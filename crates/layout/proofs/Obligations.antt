@@ -1,6 +1,6 @@
 -- The obligations of an element by its places: how many there are, their names, and that the element has them.
 use Prim.Native.Nat.{ℕ, zero, suc, ◌-◌, ◌≤◌}
-use mathlib.Core.Path.{◌≡◌, refl}
+use mathlib.Core.Path.{◌≡◌, refl, sym, ap, ◌∙◌}
 use mathlib.Core.Logic.{◌≢◌}
 use mathlib.Core.Bool.{Bool, true, false, cond}
 use mathlib.Core.List.{List, [], ◌∷◌, map}
@@ -8,14 +8,23 @@ use native.Mathlib.Omega.{arith}
 use lib.Dec.{eqb}
 use lib.ListN.{length, take, replicate}
 use lib.Seq.{take-append_seam}
+use borrow.Author.Tests.{eqb-true, eqb-false}
 use Rattle.meaning.specs.Text.{Bytes, same_name, among_names}
 use Rattle.meaning.specs.Model.{obligation_name, obligations_of}
 use Rattle.laws.proofs.Bools.{or_none_lem}
 use Rattle.laws.proofs.Places.{obligations_with}
 use Rattle.table.specs.declared.Row.{Row}
+use Rattle.layout.specs.declared.Span.{Span}
 use Rattle.layout.specs.declared.ElementPlaces.{ElementPlaces}
 use Rattle.layout.specs.Places.{part, obligation_start, obligation_end, obligation_at, obligations_in, count_at, obligation_count, element_in}
 use Rattle.layout.proofs.Slots.{count_is}
+
+-- whether there is one, by the code's test of where its name ends
+pub name_there : {none : Bool} {name : Span} (at : Span) → name ≡ at → none ≡ eqb name.end 0 → none ≡ false → at.end ≢ 0
+name_there at is told some = eqb-false at.end 0 (ap (λ s. eqb s.end 0) (sym is) ∙ sym told ∙ some)
+
+pub no_name_there : {none : Bool} {name : Span} (at : Span) → name ≡ at → none ≡ eqb name.end 0 → none ≡ true → at.end ≡ 0
+no_name_there at is told some = eqb-true at.end 0 (ap (λ s. eqb s.end 0) (sym is) ∙ sym told ∙ some)
 
 -- at most two, so that the element has them all
 pub count_few : (places : List ElementPlaces) (i : ℕ) → obligation_count places i ≤ 2

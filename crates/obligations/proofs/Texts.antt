@@ -1,5 +1,5 @@
 -- Laws of the text: by marks that agree, where no element has obligations, and place by place.
-use Prim.Native.Nat.{ℕ, zero, suc, ◌+◌, ◌-◌, ◌*◌, ◌≤◌, ◌<◌}
+use Prim.Native.Nat.{ℕ, zero, suc, ◌+◌, ◌-◌, ◌≤◌, ◌<◌}
 use mathlib.Core.Path.{◌≡◌, refl, sym, ap, ap₂, ◌∙◌, subst}
 use mathlib.Core.Logic.{◌≢◌}
 use mathlib.Core.Bool.{Bool, true, false, not, cond}
@@ -152,16 +152,13 @@ deny_spelled false = refl
 
 -- Whether there are any, from the last element on
 module _ (places : List ElementPlaces) (j : ℕ) where
-  at_place : obligation_end places j 0 ≡ get_or places (129 + 4 * j) 0
-  at_place = let at : 128 + 4 * j + 0 + 1 ≡ 129 + 4 * j = omega arith in ap (λ m. get_or places m 0) at
-
-  pub any_here : get_or places (129 + 4 * j) 0 ≢ 0 → any_obliged places (suc j) ≡ true
+  pub any_here : not (eqb (obligation_end places j 0) 0) ≡ true → any_obliged places (suc j) ≡ true
   unfolding any_obliged
-  any_here some = rw (ne_eqb (obligation_end places j 0) 0 (λ e. some (sym at_place ∙ e)))
+  any_here some = rw some
 
-  pub any_before : get_or places (129 + 4 * j) 0 ≡ 0 → any_obliged places (suc j) ≡ any_obliged places j
+  pub any_before : not (eqb (obligation_end places j 0) 0) ≡ false → any_obliged places (suc j) ≡ any_obliged places j
   unfolding any_obliged
-  any_before none = rw (eq-eqb (obligation_end places j 0) 0 (at_place ∙ none))
+  any_before none = rw none
 
 -- What was laid over the start of a buffer that has room for it
 pub laid_whole : {x t y : List ℕ} {m : ℕ} → Wrote x 0 t y m → m ≤ length x → take (m - 0) y ≡ t

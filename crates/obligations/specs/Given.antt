@@ -34,7 +34,7 @@ abbrev pub marks_in : List ℕ → ℕ → ℕ → Bool
 marks_in given v i = bit (get_or given i 0) v
 
 -- one of n elements has an obligation
-unfoldable pub any_obliged : List ℕ → ℕ → Bool
+unfoldable pub any_obliged : List ElementPlaces → ℕ → Bool
 any_obliged places zero = false
 any_obliged places (suc n) = not (eqb (obligation_end places n 0) 0) || any_obliged places n
 
