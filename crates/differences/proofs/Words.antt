@@ -1,11 +1,13 @@
 -- Words of marks that differ, and of requests that match elements struck, one element after the other.
 use Prim.Native.Nat.{ℕ, ◌+◌, ◌*◌}
-use mathlib.Core.Path.{◌≡◌, refl, sym, ap, ◌∙◌}
-use mathlib.Core.Bool.{Bool, true, false}
+use mathlib.Core.Path.{◌≡◌, refl, sym, ◌∙◌}
+use mathlib.Core.Bool.{Bool, true, false, not}
 use mathlib.Core.List.{List}
 use native.Mathlib.Omega.{arith}
+use lib.Dec.{eqb}
 use lib.Bits.{bit_or, bit_xor}
 use lib.ListN.{get_or}
+use borrow.Author.Tests.{eqb-true, not-false}
 use Rattle.meaning.specs.Deciding.{bit}
 use Rattle.laws.proofs.Bits.{xor, bit_or_lem, bit_xor_lem}
 use Rattle.laws.proofs.Bools.{or_false}
@@ -26,10 +28,10 @@ module _ (places : List ElementPlaces) (one other : List ℕ) (word i : ℕ) (so
   abbrev Agrees : (v j : ℕ) → Type 0
   Agrees v j = (obligation_end places j 0 ≡ 0 → ⊥) → marks_in one v j ≡ marks_in other v j
 
-  pub marked_skip : get_or places (129 + 4 * i) 0 ≡ 0 → Marked places (i + 1) one other word
+  pub marked_skip : not (eqb (obligation_end places i 0) 0) ≡ false → Marked places (i + 1) one other word
   marked_skip none v j off l =
-      let at : 128 + 4 * i + 0 + 1 ≡ 129 + 4 * i = omega arith in
-      up_to (Agrees v) i (λ k below. so_far v k off below) (λ some. absurd (some (ap (λ m. get_or places m 0) at ∙ none))) j l
+      let at_none = eqb-true _ 0 (not-false (eqb (obligation_end places i 0) 0) none) in
+      up_to (Agrees v) i (λ k below. so_far v k off below) (λ some. absurd (some at_none)) j l
 
   pub marked_next : Marked places (i + 1) one other (bit_or word (bit_xor (get_or one i 0) (get_or other i 0)))
   marked_next v j off l =
