@@ -24,8 +24,8 @@ use Rattle.reader.specs.declared.Policy.{Policy as PolicyRead}
 use Rattle.reader.specs.Told.{ReadPolicy, ReadAs, ReadIs}
 
 -- what reading asks of the memory that it is lent, where it holds no element
-pub unread : (row : Row) → let none = replicate 64 no_places in Rows (replicate 64 row) 64 × (64 ≤ length none) × Clear none 0
-unread row = (lit≤ tt, lit≤ tt, none_clear 64)
+pub unread : let none = replicate 64 no_places in Rows (replicate 64 (record { word = 0; depth = 0; masks = replicate 6 0 })) 64 × (64 ≤ length none) × Clear none 0
+unread = (lit≤ tt, lit≤ tt, none_clear 64)
 
 module _ {f : List ℕ} {table₀ : List Row} {places₀ : List ElementPlaces} {table : List Row} {places : List ElementPlaces} where
   pub file_refused : {x : Refused} → ReadIs f table₀ places₀ table places (Err x) → read f ≡ refused (number_of x.why) x.second
