@@ -26,7 +26,7 @@ use Rattle.text.proofs.Pieces.{first_within}
 use Rattle.table.specs.declared.Row.{Row}
 use Rattle.layout.specs.declared.Attributes.{Attributes}
 use Rattle.layout.specs.declared.ElementPlaces.{ElementPlaces}
-use Rattle.layout.specs.Places.{line_start, lines_to}
+use Rattle.layout.specs.Places.{start_of, line_start, lines_to}
 use Rattle.layout.proofs.Laws.{attributes_length}
 use Rattle.reader.specs.declared.Policy.{Policy as PolicyRead}
 use Rattle.reader.specs.Told.{ReadPolicy}
@@ -72,7 +72,7 @@ attribute_lines_lem f p h = omega (arith, length-drop (length p.attributes) (fil
     some_row (e ∷ es) l = omega arith
 
 -- what reading a file gives is enough to know where they start
-pub file_held : (f : List ℕ) (table : List Row) (places : List ElementPlaces) (r : PolicyRead) (p : Policy) → read f ≡ given p → ReadPolicy f table places r p → FileHeld f r.attributes (get_or places 0 0)
+pub file_held : (f : List ℕ) (table : List Row) (places : List ElementPlaces) (r : PolicyRead) (p : Policy) → read f ≡ given p → ReadPolicy f table places r p → FileHeld f r.attributes (start_of places 0)
 unfolding lines_to
 file_held f table places r p h holds = record {
   policy = p;
