@@ -1,7 +1,7 @@
 -- The parts of an element: its word by its number, its name with zero bytes behind; and the element of them.
 use mathlib.Core.Path.{◌≡◌, refl, sym, ap, ◌∙◌}
 use mathlib.Core.Logic.{◌≢◌}
-use Prim.Native.Nat.{ℕ, zero, suc, ◌+◌, ◌-◌, ◌*◌, ◌≤◌, ◌<◌}
+use Prim.Native.Nat.{ℕ, zero, suc, ◌+◌, ◌-◌, ◌≤◌, ◌<◌}
 use native.Mathlib.Nat.{le_antisymm}
 use native.Mathlib.Omega.{arith}
 use mathlib.Core.Bool.{Bool, true, false, cond}
@@ -20,7 +20,7 @@ use Rattle.meaning.specs.Model.{padded, unused}
 use Rattle.table.specs.declared.Row.{Row}
 use Rattle.table.specs.Rows.{word_at, depth_of, element_at, word_number, masks_at}
 use Rattle.layout.specs.declared.ElementPlaces.{ElementPlaces}
-use Rattle.layout.specs.Places.{part, kind_at, start_of, name_in, effect_at, obligation_start, obligation_end, obligation_at, obligations_in, obligation_count, element_in, NameAt, Obliged}
+use Rattle.layout.specs.Places.{part, kind_at, start_of, name_end, name_in, effect_at, obligation_start, obligation_end, obligation_at, obligations_in, obligation_count, element_in, NameAt, Obliged}
 use Rattle.layout.proofs.Slots.{count_is as counted}
 use Rattle.laws.proofs.Bools.{Test, passed, failed, test}
 use Rattle.lists.specs.Listed.{place_in}

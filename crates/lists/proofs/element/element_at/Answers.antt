@@ -1,7 +1,5 @@
 -- `element_at` meets its contract: each part of the element by its own function.
-use mathlib.Core.Path.{ap, ◌∙◌}
 use native.Mathlib.Omega.{arith}
-use Rattle.table.specs.Rows.{word_at}
 use Rattle.lists.proofs.Parts.{element_made}
 use Rattle.lists.proofs.element.element_at.Goals as goal
 
@@ -13,6 +11,3 @@ returns c =
     element_made c.args.file.now c.args.table.now c.args.places.now c.args.i c.requires.0 c.requires.1 _ c.kind_at-kind.ensures
     _ c.depth_at.ensures.0 _ c.padded_name-name.ensures _ c.word_at-word.ensures _ c.masks_at-masks.ensures
     _ c.obligation_count.ensures.value _ c.obligation_at-first.ensures _ c.obligation_at-second.ensures
-
-pub obligation_count-requires : goal.obligation_count-requires
-obligation_count-requires c = c.requires.1.room
