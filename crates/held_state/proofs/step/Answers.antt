@@ -16,10 +16,6 @@ returns-in_default c =
     let both = none_left _ _ _ _ c.requires (sym c.in_default.is ∙ c.next_struck-found.ensures.0) in
     record { value = both.0; text_after = both.1 }
 
-pub overflow_mul-start : goal.overflow_mul-start
-overflow_mul-start c =
-    omega (arith, here _ _ _ _ c.requires _ (sym c.in-Some.is ∙ c.next_struck-found.ensures.0), c.requires.ready.few)
-
 pub offset_bounds-places-next : goal.offset_bounds-places-next
 offset_bounds-places-next c =
     omega (arith, here _ _ _ _ c.requires _ (sym c.in-Some.is ∙ c.next_struck-found.ensures.0), c.requires.ready.few)
