@@ -11,7 +11,7 @@ use borrow.Author.Tests.{ltb-true, ltb-false, eqb-false, not-true}
 use Rattle.meaning.specs.Text.{Bytes, bytes, all, between, same, cut, name_byte, is_field, is_name, digits}
 use Rattle.meaning.specs.Claims.Texts.{All, In, Field, NameByte, Name, decimal_value, Decimal, Parted, Texts}
 use Rattle.laws.proofs.Bools.{Test, passed, failed, test, contradiction, and_true}
-use Rattle.laws.proofs.Text.{Free, Frees, Some, one_or_more, cut_some, join_cut, cut_frees, same_true}
+use Rattle.laws.proofs.Text.{Free, Frees, Some, one_or_more, cut_some, some_piece, join_cut, cut_frees, same_true}
 use Rattle.laws.proofs.Names.{equal_names, among, distinct_names, names_distinct}
 use Rattle.laws.proofs.Reflects.{Reflects, either_of_four, each_one, within, equal}
 
@@ -57,9 +57,6 @@ free_apart b (x ∷ p) f (Memᴰ.tail m) = free_apart b p f.1 m
 frees_apart : (b : ℕ) (ps : List Bytes) → Frees b ps → All (λ p. Memᴰ b p → ⊥) ps
 frees_apart b [] f = tt
 frees_apart b (p ∷ ps) f = (free_apart b p f.0, frees_apart b ps f.1)
-
-some_piece : {ps : List Bytes} → Some ps → 1 ≤ length ps
-some_piece (one_or_more p ps) = suc-le-suc zero-le
 
 parted : (b : ℕ) (t : Bytes) → Parted b t (cut b t)
 parted b t = record { joined = join_cut b t; apart = frees_apart b (cut b t) (cut_frees b t); some_piece = some_piece (cut_some b t) }

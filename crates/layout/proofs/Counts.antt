@@ -13,14 +13,11 @@ use lib.Pow.{pow_pos}
 use lib.Seq.{sets, sets-eq, drop-cons, take-append_seam}
 use Rattle.meaning.specs.Text.{Bytes, tab}
 use Rattle.meaning.specs.Model.{padded, sizes, severals, choices_of}
-use Rattle.laws.proofs.Text.{Some, one_or_more, cut_some}
+use Rattle.laws.proofs.Text.{cut_some, some_piece}
 use Rattle.requests.proofs.Laid.{drop_zeros}
 use Rattle.layout.specs.declared.AttributePlace.{AttributePlace}
 use Rattle.layout.specs.declared.Attributes.{Attributes}
 use Rattle.layout.specs.Places.{nowhere, place_at, values_in, attributes_from, attributes_of, AllStanding, FewValues, value_counts, severals_at, counts_at, sizes_from, sizes_of}
-
-some_piece : {ps : List Bytes} → Some ps → 1 ≤ length ps
-some_piece (one_or_more p ps) = omega arith
 
 -- Numbers laid over zeros
 pub laid_padded : (n : ℕ) (xs : List ℕ) → length xs ≤ n → sets (replicate n 0) 0 xs ≡ padded n xs

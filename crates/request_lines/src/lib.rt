@@ -18,10 +18,7 @@ fn choose(several: bool, values: &[u8], field: &[u8]) -> Option<usize>
     ensures { result ≡ found (cond several (set_of (cut tab values.now) field.now) (value_of 0 field.now (cut tab values.now))) }
 {
     if several {
-        let mask = syntax::names_mask(values, field, false);
-        if mask == 0 {
-            return None;
-        }
+        let mask = syntax::names_mask(values, field, false)?;
         return Some((mask - 1) as usize);
     }
     names::find(values, field)

@@ -1,5 +1,5 @@
 -- What the first field and the word of a line stand for, as the code answers it.
-use Rattle.std.specs.Prelude.{ℕ, Bool, true, false, cond}
+use Rattle.std.specs.Prelude.{Bool, true, false, cond}
 use Rattle.std.proofs.Math.Option.{Option, none, some}
 use Rattle.meaning.specs.Text.{Bytes, same, lower}
 use Rattle.meaning.specs.declared.Kind.{Kind}

@@ -1,9 +1,9 @@
 // What the single fields of a line stand for.
 #![tactic(auto)]
 
-ghost use Rattle.std.specs.Prelude.{◌≡◌, [], ◌∷◌, map, ◌^◌, ◌≤◌, length};
+ghost use Rattle.std.specs.Prelude.{◌≡◌, [], ◌∷◌, map, ◌≤◌, length, IfSome};
 ghost use Rattle.meaning.specs.Text.{same, cut, tab, comma};
-ghost use Rattle.meaning.specs.Reading.{depth_of, word_of, mask_of, target_of, or_empty};
+ghost use Rattle.meaning.specs.Reading.{depth_of, word_of, mask_of, target_of};
 ghost use Rattle.laws.specs.Found.{found};
 ghost use Rattle.syntax.specs.Fields.{spelt, line_kind};
 
@@ -42,7 +42,8 @@ pub fn line_kind(first: &[u8]) -> LineKind
     letter_kind(first[0])
 }
 
-// The depth that a field stands for; 8 where it is not one digit 0 to 7.
+// The depth that a field stands for; 8 where it is not one digit 0 to 7. A number, since the definition gives that number too, and
+// every depth above 7 is refused alike.
 pub fn depth_of(f: &[u8]) -> usize
     ensures value { result ≡ depth_of f.now }
     ensures within { result ≤ 8 }
@@ -60,7 +61,8 @@ pub fn depth_of(f: &[u8]) -> usize
     (b - b'0') as usize
 }
 
-// The effect that a rule's word names.
+// The effect that a rule's word names. Words are byte strings here, the form that docs/DECISIONS.md names, and this function and
+// the next differ in nothing else.
 fn effect_of(w: &[u8]) -> Option<Word>
     ensures { result ≡ found (word_of Kind.Rule w.now) }
 {
@@ -107,14 +109,6 @@ pub fn word_of(kind: Kind, w: &[u8]) -> Option<Word>
     }
 }
 
-// The bit of value k, which is one more than the mask of all values below k.
-fn bit(k: usize) -> u32
-    requires { k ≤ 16 }
-    ensures { result ≡ 2 ^ k }
-{
-    1u32 << k
-}
-
 // Whether two names are equal: to the byte, or letter case aside.
 fn equal(exact: bool, a: &[u8], b: &[u8]) -> bool
     ensures { result ≡ same (spelt exact a.now) (spelt exact b.now) }
@@ -125,53 +119,44 @@ fn equal(exact: bool, a: &[u8], b: &[u8]) -> bool
     names::same_name(a, b)
 }
 
-// The mask of the names in `field`, matched along the values once; 0 where they are not values in declared order, each once.
+// The mask of the names in `field`, matched along the values once; none where they are not values in declared order, each once.
 // A target spells them to the byte, a request's set letter case aside.
-pub fn names_mask(values: &[u8], field: &[u8], exact: bool) -> u16
+pub fn names_mask(values: &[u8], field: &[u8], exact: bool) -> Option<u16>
     requires { length (cut tab values.now) ≤ 16 }
-    ensures { result ≡ or_empty (mask_of (map (spelt exact) (cut tab values.now)) (map (spelt exact) (cut comma field.now))) }
+    ensures value { result ≡ found (mask_of (map (spelt exact) (cut tab values.now)) (map (spelt exact) (cut comma field.now))) }
+    ensures some_bit { IfSome result (λ mask. 1 ≤ mask) }
 {
     let mut at = 0;
     let mut name = 0;
     let mut end = text::end_of(field, 0, b',');
-    let mut k: usize = 0;
+    let mut bit: u32 = 1;
     let mut taken: u32 = 0;
     loop {
         let e = text::end_of(values, at, b'\t');
         if equal(exact, &values[at..e], &field[name..end]) {
-            taken += bit(k);
+            taken += bit;
             if end == field.len() {
-                return taken as u16;
-            }
-            if e == values.len() {
-                return 0;
+                return Some(taken as u16);
             }
             name = end + 1;
             end = text::end_of(field, name, b',');
-            at = e + 1;
-            k += 1;
-            continue;
         }
         if e == values.len() {
-            return 0;
+            return None;
         }
         at = e + 1;
-        k += 1;
+        bit *= 2;
     }
 }
 
-// The mask of a target field of an attribute with n values, their names parted by tabs; 0 where the target is bad.
-pub fn target_mask(values: &[u8], n: usize, field: &[u8]) -> u16
+// The mask of a target field of an attribute with n values, their names parted by tabs; none where the target is bad.
+pub fn target_mask(values: &[u8], n: usize, field: &[u8]) -> Option<u16>
     requires { (n ≡ length (cut tab values.now)) × (n ≤ 16) }
-    ensures { result ≡ or_empty (target_of (cut tab values.now) field.now) }
+    ensures { result ≡ found (target_of (cut tab values.now) field.now) }
 {
-    let full = (bit(n) - 1) as u16;
+    let full = ((1u32 << n) - 1) as u16;
     if comparing::same(field, b"*") {
-        return full;
+        return Some(full);
     }
-    let mask = names_mask(values, field, true);
-    if mask == full {
-        return 0;
-    }
-    mask
+    names_mask(values, field, true).filter(|mask| *mask != full)
 }

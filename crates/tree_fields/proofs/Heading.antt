@@ -1,33 +1,50 @@
 -- The fields before the targets of a tree line, one behind the other.
-use Prim.Native.Nat.{ℕ, ◌+◌, ◌≤◌, ◌<◌}
-use mathlib.Core.Path.{◌≡◌, sym, ap, ◌∙◌}
-use mathlib.Core.List.{[]}
-use native.Mathlib.Nat.{add-zero}
-use lib.ListN.{length, drop, get_or}
-use lib.Seq.{get_or-drop}
+use Prim.Native.Nat.{ℕ, ◌+◌, ◌≤◌}
+use mathlib.Core.Path.{◌≡◌, sym}
+use native.Mathlib.Omega.{arith}
+use lib.ListN.{length}
 use Rattle.meaning.specs.Text.{Bytes, cut, tab}
-use Rattle.text.proofs.Pieces.{piece_first}
-use Rattle.text.proofs.Fields.{next_field, another_field}
-use Rattle.tree_fields.specs.Headed.{FieldIs}
+use Rattle.text.proofs.Pieces.{EndsAt}
+use Rattle.text.proofs.Fields.{Starts, first_starts, field_end_is, field_text, another_field, next_starts}
+use Rattle.tree_fields.specs.Headed.{field_end, ends_of, FieldIs, Headed}
+use Rattle.tree_fields.specs.declared.FieldEnds.{FieldEnds}
 
--- field k starts at a place; a field that starts there ends at e, as `end_of` says it
-abbrev pub Starts : Bytes → ℕ → ℕ → Type 0
-Starts line k at = drop k (cut tab line) ≡ cut tab (drop at line)
+field_here : {line : Bytes} {k at e : ℕ} → Starts line k at → EndsAt tab line at e → FieldIs line k at e
+field_here s h = record { ordered = h.within.0; inside = h.within.1; is = field_text s h }
 
-abbrev pub EndsAt : Bytes → ℕ → ℕ → Type 0
-EndsAt line at e = (e ≡ at + length (get_or (cut tab (drop at line)) 0 [])) × ((at ≤ e) × (e ≤ length line))
+abbrev ends : (letter depth name word : ℕ) → FieldEnds
+ends letter depth name word = record { letter = letter; depth = depth; name = name; word = word }
 
-module _ (line : Bytes) (k at e : ℕ) (s : Starts line k at) (h : EndsAt line at e) where
-  here : get_or (cut tab (drop at line)) 0 [] ≡ get_or (cut tab line) k []
-  here = sym (ap (λ fs. get_or fs 0 []) s) ∙ rw (get_or-drop, add-zero)
+same_ends : {l d n w l' d' n' w' : ℕ} → l ≡ l' → d ≡ d' → n ≡ n' → w ≡ w' → ends l d n w ≡ ends l' d' n' w'
+same_ends l d n w = rw (l, d, n, w)
 
-  pub end_is : e ≡ at + length (get_or (cut tab line) k [])
-  end_is = h.0 ∙ ap (λ field. at + length field) here
+-- each field ends as `end_of` says it, from behind the field before
+module _ (line : Bytes) (four : 4 ≤ length (cut tab line)) {letter : ℕ} (letter_ends : EndsAt tab line 0 letter) where
+  pub depth_starts : Starts line 1 (letter + 1)
+  depth_starts = next_starts (first_starts line) letter_ends (omega arith)
 
-  pub field_is : FieldIs line k at e
-  field_is = record { ordered = h.1.0; inside = h.1.1; is = sym (piece_first tab line at e h.0 h.1.1) ∙ here }
+  module _ {depth : ℕ} (depth_ends : EndsAt tab line (letter + 1) depth) where
+    pub name_starts : Starts line 2 (depth + 1)
+    name_starts = next_starts depth_starts depth_ends (omega arith)
 
-  pub field_behind : k + 1 < length (cut tab line) → (e < length line) × Starts line (k + 1) (e + 1)
-  field_behind more =
-      let l = another_field line at e h.0 k s h.1.1 more in
-      (l, next_field line at e h.0 k s l)
+    module _ {name : ℕ} (name_ends : EndsAt tab line (depth + 1) name) where
+      pub word_starts : Starts line 3 (name + 1)
+      word_starts = next_starts name_starts name_ends (omega arith)
+
+      module _ {word : ℕ} (word_ends : EndsAt tab line (name + 1) word) where
+        pub ends_are : ends letter depth name word ≡ ends_of line
+        ends_are =
+            let letter_is : letter ≡ field_end line 0 = omega (arith, field_end_is (first_starts line) letter_ends) in
+            let depth_is : depth ≡ field_end line 1 = omega (arith, letter_is, field_end_is depth_starts depth_ends) in
+            let name_is : name ≡ field_end line 2 = omega (arith, depth_is, field_end_is name_starts name_ends) in
+            let word_is : word ≡ field_end line 3 = omega (arith, name_is, field_end_is word_starts word_ends) in
+            same_ends letter_is depth_is name_is word_is
+
+        pub headed : Headed line (ends letter depth name word)
+        headed =
+            record {
+              depth = field_here depth_starts depth_ends;
+              name = field_here name_starts name_ends;
+              word = field_here word_starts word_ends;
+              targets = λ more. (another_field word_starts word_ends (omega arith), sym (next_starts word_starts word_ends (omega arith)).fields);
+            }

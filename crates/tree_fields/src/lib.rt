@@ -39,27 +39,21 @@ pub fn depth_field(line: &[u8], e: FieldEnds) -> &[u8]
     requires { Headed line.now e }
     ensures { result.now ≡ get_or (cut tab line.now) 1 [] }
 {
-    let from = e.letter + 1;
-    let to = e.depth;
-    &line[from..to]
+    &line[e.letter + 1..e.depth]
 }
 
 pub fn name_field(line: &[u8], e: FieldEnds) -> &[u8]
     requires { Headed line.now e }
     ensures { result.now ≡ get_or (cut tab line.now) 2 [] }
 {
-    let from = e.depth + 1;
-    let to = e.name;
-    &line[from..to]
+    &line[e.depth + 1..e.name]
 }
 
 pub fn word_field(line: &[u8], e: FieldEnds) -> &[u8]
     requires { Headed line.now e }
     ensures { result.now ≡ get_or (cut tab line.now) 3 [] }
 {
-    let from = e.name + 1;
-    let to = e.word;
-    &line[from..to]
+    &line[e.name + 1..e.word]
 }
 
 // The fields behind the word.
@@ -67,8 +61,7 @@ pub fn target_fields(line: &[u8], e: FieldEnds) -> &[u8]
     requires { Headed line.now e × (5 ≤ length (cut tab line.now)) }
     ensures { cut tab result.now ≡ drop 4 (cut tab line.now) }
 {
-    let from = e.word + 1;
-    &line[from..]
+    &line[e.word + 1..]
 }
 
 // The masks of a tree line, one for each attribute, where all its targets are good.
@@ -79,18 +72,10 @@ pub fn line_masks(file: &[u8], a: Attributes, line: &[u8], e: FieldEnds) -> Opti
     let targets = target_fields(line, e);
     let mut masks = [0u16; 6];
     let mut at = 0;
-    let mut i = 0;
-    loop {
+    for i in 0..a.len {
         let end = text::end_of(targets, at, b'\t');
-        let mask = syntax::target_mask(a.values(file, i), a.all[i].count, &targets[at..end]);
-        if mask == 0 {
-            return None;
-        }
-        masks[i] = mask;
-        i += 1;
-        if i == a.len {
-            return Some(masks);
-        }
+        masks[i] = syntax::target_mask(a.values(file, i), a.all[i].count, &targets[at..end])?;
         at = end + 1;
     }
+    Some(masks)
 }

@@ -1,38 +1,26 @@
--- `read_fields` meets its contract. The loop walks the attributes and the fields in step: the values before `i` are found.
+-- The walk takes one attribute and one field at a time.
 use native.Mathlib.Omega.{arith}
-use mathlib.Core.Path.{ap}
-use lib.ListN.{length}
-use Rattle.meaning.specs.Text.{cut, tab}
-use Rattle.request_lines.proofs.FieldWalk.{walking_starts, walk_refused, walking_on}
+use Rattle.text.proofs.Fields.{first_starts, field_text, next_starts}
+use Rattle.request_lines.proofs.FieldWalk.{walk_starts, walk_refused, walk_on, walk_ends}
 use Rattle.request_lines.proofs.read_fields.Goals as goal
 
 pub loop-i-init : goal.loop-i-init
-loop-i-init c = walking_starts c.requires.2 c.requires.0.few
+loop-i-init c = (walk_starts _ _ _, λ l. first_starts c.args.line.now)
 
 pub end_of-end-requires : goal.end_of-end-requires
-end_of-end-requires c = (c.loop-i.invariant.left (omega arith)).within
-
-pub values-requires : goal.values-requires
-values-requires c = (omega (arith, c.requires.0.few), c.requires.0.each c.loop-i.i (omega arith))
-
-pub choose-requires : goal.choose-requires
-choose-requires c = omega (arith, c.requires.1 c.loop-i.i (omega arith), (c.requires.0.each c.loop-i.i (omega arith)).count, ap (λ vs. length (cut tab vs)) c.values.ensures)
-
-pub overflow_cast-result : goal.overflow_cast-result
-overflow_cast-result c = omega (arith, c.requires.0.few)
+end_of-end-requires c = (c.loop-i.invariant.1 (omega arith)).inside
 
 pub returns-in_default : goal.returns-in_default
 returns-in_default c =
-    let end = c.end_of-end.ensures in
-    walk_refused (c.loop-i.invariant.left (omega arith)) end.value end.within.1 c.values.ensures c.choose.ensures c.in_default.is
-
-pub bounds-values-i : goal.bounds-values-i
-bounds-values-i c = omega (arith, c.requires.0.few, (c.loop-i.invariant.left (omega arith)).room)
+    let s = c.loop-i.invariant.1 (omega arith) in
+    walk_refused c.loop-i.invariant.0 (omega arith) c.requires.0.few c.requires.2 c.values.ensures (field_text s c.end_of-end.ensures) c.choose.ensures c.in_default.is
 
 pub loop-i-preserved : goal.loop-i-preserved
 loop-i-preserved c =
-    let end = c.end_of-end.ensures in
-    walking_on (c.loop-i.invariant.left (omega arith)) end.value end.within.1 c.values.ensures c.choose.ensures c.in-Some.is
+    let s = c.loop-i.invariant.1 (omega arith) in (
+      walk_on c.loop-i.invariant.0 (omega arith) c.requires.0.few c.requires.2 c.values.ensures (field_text s c.end_of-end.ensures) c.choose.ensures c.in-Some.is,
+      λ l. next_starts s c.end_of-end.ensures (omega arith),
+    )
 
 pub returns : goal.returns
-returns c = c.loop-i.invariant.done (omega arith) _ c.severals.ensures
+returns c = walk_ends c.loop-i.invariant.0 (omega arith) c.requires.0.few _ c.severals.ensures

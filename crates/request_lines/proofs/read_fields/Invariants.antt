@@ -1,6 +1,8 @@
--- `read_fields` meets its contract. The loop walks the attributes and the fields in step: the values before `i` are found.
-use Rattle.request_lines.proofs.FieldWalk.{Walking}
+-- The values before i were found, and field i starts at `at` if it is there.
+use Prim.Native.Nat.{◌<◌}
+use Rattle.text.proofs.Fields.{Starts}
+use Rattle.request_lines.proofs.FieldWalk.{Walked}
 use Rattle.request_lines.proofs.read_fields.Given as goal
 
 abbrev pub invariant-loop-i : goal.invariant-loop-i
-invariant-loop-i l = Walking l.file l.a l.line l.values l.at l.i
+invariant-loop-i l = Walked l.file l.a l.line l.values l.i × (l.i < l.a.len → Starts l.line l.i l.at)

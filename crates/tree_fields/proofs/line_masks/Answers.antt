@@ -1,57 +1,36 @@
--- `line_masks` meets its contract. The loop walks the attributes and the target fields in step: the masks before `i` are laid, and
--- none of them is bad.
-use Prim.Native.Nat.{◌<◌}
+-- The walk takes one attribute and one target field at a time.
 use native.Mathlib.Omega.{arith}
-use borrow.Author.Rules.{rules}
-use mathlib.Core.Path.{sym, ap, ◌∙◌}
-use lib.ListN.{length, length-drop}
-use Rattle.meaning.specs.Text.{cut, tab}
+use Prim.Native.Nat.{ℕ, ◌+◌}
+use mathlib.Core.Path.{◌≡◌, sym, ap, ◌∙◌}
+use lib.ListN.{length, drop, length-drop}
+use Rattle.meaning.specs.Text.{Bytes, cut, tab}
+use Rattle.text.proofs.Fields.{first_starts, field_text, next_starts}
 use Rattle.tree_fields.proofs.TargetWalk.{walk_starts, walk_on, walk_bad, walk_ends}
 use Rattle.tree_fields.proofs.line_masks.Goals as goal
 
-pub loop-targets-init : goal.loop-targets-init
-loop-targets-init c =
-    let pre = c.requires in
-    let count = length-drop 4 (cut tab c.args.line.now) in
-    walk_starts c.target_fields-targets.ensures (omega (arith, count, pre.3)) pre.2 pre.0.few
+count_of : (targets line : Bytes) {n : ℕ} → cut tab targets ≡ drop 4 (cut tab line) → length (cut tab line) ≡ 4 + n → length (cut tab targets) ≡ n
+count_of targets line e h = omega (arith, length-drop 4 (cut tab line), ap length e)
+
+pub loop-i-init : goal.loop-i-init
+loop-i-init c = (walk_starts _ _ _ c.requires.0.few, λ l. first_starts c.target_fields-targets.result.now)
 
 pub end_of-end-requires : goal.end_of-end-requires
-end_of-end-requires c = c.loop-targets.invariant.within
+end_of-end-requires c = (c.loop-i.invariant.1 (omega arith)).inside
 
-pub values-requires : goal.values-requires
-values-requires c = (omega (arith, c.loop-targets.invariant.here, c.requires.0.few), c.requires.0.each c.loop-targets.i c.loop-targets.invariant.here)
+pub returns-in_err-masks : goal.returns-in_err-masks
+returns-in_err-masks c =
+    let more = count_of c.target_fields-targets.result.now c.args.line.now c.target_fields-targets.ensures c.requires.3 in
+    let s = c.loop-i.invariant.1 (omega arith) in
+    c.from_residual.ensures ∙ rw (sym c.target_fields-targets.ensures)
+    (walk_bad c.loop-i.invariant.0 (omega arith) (omega arith) c.values.ensures (field_text s c.end_of-end.ensures) c.target_mask.ensures (c.in_err-masks.was))
 
-pub target_mask-mask-requires : goal.target_mask-mask-requires
-target_mask-mask-requires c =
-    let standing = c.requires.0.each c.loop-targets.i c.loop-targets.invariant.here in
-    (standing.count ∙ ap (λ vs. length (cut tab vs)) (sym c.values.ensures), c.requires.1 c.loop-targets.i c.loop-targets.invariant.here)
+pub loop-i-preserved : goal.loop-i-preserved
+loop-i-preserved c =
+    let more = count_of c.target_fields-targets.result.now c.args.line.now c.target_fields-targets.ensures c.requires.3 in
+    let s = c.loop-i.invariant.1 (omega arith) in (
+      walk_on c.loop-i.invariant.0 (omega arith) (omega arith) c.values.ensures (field_text s c.end_of-end.ensures) c.target_mask.ensures (c.in_ok-masks.was),
+      λ l. next_starts s c.end_of-end.ensures (omega arith),
+    )
 
-pub returns-then-mask-eq0 : goal.returns-then-mask-eq0
-returns-then-mask-eq0 c =
-    let end = c.end_of-end.ensures in
-    walk_bad c.loop-targets.invariant end.value end.within.1 c.values.ensures c.target_mask-mask.ensures c.if-mask-eq0.true
-
-pub offset_bounds-masks-i : goal.offset_bounds-masks-i
-offset_bounds-masks-i c =
-    let below-six : c.loop-targets.i < 6 = omega (arith, c.loop-targets.invariant.here, c.requires.0.few) in
-    let small = below-six in search rules
-
-pub bounds-masks-i : goal.bounds-masks-i
-bounds-masks-i c =
-    let below-six : c.loop-targets.i < 6 = omega (arith, c.loop-targets.invariant.here, c.requires.0.few) in
-    let small = below-six in search rules
-
-pub overflow_add-i : goal.overflow_add-i
-overflow_add-i c =
-    let below-six : c.loop-targets.i < 6 = omega (arith, c.loop-targets.invariant.here, c.requires.0.few) in
-    let small = below-six in search rules
-
-pub returns-then-i-a : goal.returns-then-i-a
-returns-then-i-a c =
-    let end = c.end_of-end.ensures in
-    walk_ends c.loop-targets.invariant end.value end.within.1 c.values.ensures c.target_mask-mask.ensures c.if-mask-eq0.false c.if-i-a.true
-
-pub loop-targets-preserved : goal.loop-targets-preserved
-loop-targets-preserved c =
-    let end = c.end_of-end.ensures in
-    walk_on c.loop-targets.invariant end.value end.within.1 c.values.ensures c.target_mask-mask.ensures c.if-mask-eq0.false c.if-i-a.false
+pub returns : goal.returns
+returns c = rw (sym c.target_fields-targets.ensures) (walk_ends c.loop-i.invariant.0 (omega arith))

@@ -1,13 +1,9 @@
--- `line_masks` meets its contract. The loop walks the attributes and the target fields in step: the masks before `i` are laid, and
--- none of them is bad.
-use Prim.Native.Nat.{◌-◌}
-use lib.ListN.{drop}
+-- The masks before i are laid, and target i starts at `at` if it is there.
+use Prim.Native.Nat.{◌<◌}
 use Rattle.meaning.specs.Text.{cut, tab}
+use Rattle.text.proofs.Fields.{Starts}
 use Rattle.tree_fields.proofs.TargetWalk.{Walked}
 use Rattle.tree_fields.proofs.line_masks.Given as goal
 
-abbrev pub invariant-loop-targets : goal.invariant-loop-targets
-invariant-loop-targets l = Walked l.file l.a (drop 4 (cut tab l.line)) l.targets l.masks l.at l.i
-
-abbrev pub decreases-loop-targets : goal.decreases-loop-targets
-decreases-loop-targets l = l.a.len - l.i
+abbrev pub invariant-loop-i : goal.invariant-loop-i
+invariant-loop-i l = Walked l.file l.a (cut tab l.targets) l.masks l.i × (l.i < l.a.len → Starts l.targets l.i l.at)
