@@ -1,5 +1,5 @@
 -- `decide_at` by its own test and its word, `fold` by the children passed.
-use mathlib.Core.Path.{◌≡◌, sym, ap, ◌∙◌}
+use mathlib.Core.Path.{◌≡◌, sym, ◌∙◌}
 use mathlib.Core.Bool.{true, false}
 use native.Mathlib.Numerals.{add-one}
 use Rattle.std.proofs.Common.{suc, ◌+◌, arith}
