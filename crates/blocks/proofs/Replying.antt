@@ -1,16 +1,17 @@
 -- What one bit of an element's words says, by the bit of the word that tests its target.
-use Prim.Native.Nat.{ℕ, suc, ◌+◌, ◌*◌, ◌<◌}
+use Prim.Native.Nat.{ℕ, suc, ◌+◌, ◌<◌}
 use mathlib.Core.Path.{◌≡◌, refl, sym, ap, ◌∙◌}
-use mathlib.Core.Bool.{Bool, true, false}
+use mathlib.Core.Bool.{Bool, true, false, cond}
 use mathlib.Core.List.{List, ◌∷◌}
-use lib.ListN.{get_or}
 use lib.Bits.{bit_and}
 use Rattle.meaning.specs.declared.Word.{Word}
-use Rattle.meaning.specs.declared.Word.TheVariants.{Permit, Deny}
+use Rattle.meaning.specs.declared.Decision.{Decision}
+use Rattle.meaning.specs.declared.Decision.TheVariants.{NotApplicable}
 use Rattle.meaning.specs.declared.Element.{Element}
-use Rattle.meaning.specs.Deciding.{bit, combined}
+use Rattle.meaning.specs.Deciding.{Reply as ChildReply, bit, combined}
 use Rattle.laws.proofs.Bits.{bit_and_lem, bit_zero}
 use Rattle.table.specs.declared.Row.{Row}
+use Rattle.table.specs.Words.{word_in}
 use Rattle.table.specs.Rows.{word_at, algorithm_number, algorithm_of, depth_of, element_at, word_number}
 use Rattle.decisions.specs.Replies.{replies_from, reply_at}
 use Rattle.decisions.proofs.Combining.{Settled, start}
@@ -24,27 +25,20 @@ pub none_reply : (v : ℕ) → reply_bit (record { matched = 0; given = record {
 none_reply v = rw (bit_zero v)
 
 -- Element `at`, whose word is w in this block
-module _ (t : List Row) (struck hits : List ℕ) (n block at w v : ℕ) (hit : Element → Bool) (answers : Answers t hits n block v hit) (l : at < n) (is : w ≡ get_or hits (64 * at + block) 0) where
+module _ (t : List Row) (struck : List ℕ) (hits : List (List ℕ)) (n block at w v : ℕ) (hit : Element → Bool) (answers : Answers t hits n block v hit) (l : at < n) (is : w ≡ word_in hits at block) where
   hit_is : (b : Bool) → bit w v ≡ b → hit (element_at t at) ≡ b
   hit_is b e = sym (answers at l) ∙ ap (λ x. bit x v) (sym is) ∙ e
 
   pub reply_none : w ≡ 0 → reply_bit (record { matched = 0; given = record { permits = 0; denies = 0 } }) v ≡ reply_at hit t struck n at
   reply_none e = none_reply v ∙ sym (reply_off hit t struck n at (hit_is false (rw e (bit_zero v))))
 
-  -- its word is an effect's
-  pub reply_permit : Permit ≡ word_at (word_number t at) → reply_bit (record { matched = w; given = record { permits = w; denies = 0 } }) v ≡ reply_at hit t struck n at
-  reply_permit word = go (bit w v) refl
+  -- its word is an effect's, and it gives that where it matches
+  pub reply_effect : (given : Effects) (d : Decision) → decision_bit given v ≡ cond (bit w v) d NotApplicable → ((rs : List ChildReply) → combined (word_at (word_number t at)) rs ≡ d) → reply_bit (record { matched = w; given = given }) v ≡ reply_at hit t struck n at
+  reply_effect given d is_given word = go (bit w v) refl
     where
-      go : (b : Bool) → bit w v ≡ b → reply_bit (record { matched = w; given = record { permits = w; denies = 0 } }) v ≡ reply_at hit t struck n at
-      go true e = rw (e, bit_zero v, reply_on hit t struck n at (hit_is true e), ← word)
-      go false e = rw (e, bit_zero v, reply_off hit t struck n at (hit_is false e))
-
-  pub reply_deny : Deny ≡ word_at (word_number t at) → reply_bit (record { matched = w; given = record { permits = 0; denies = w } }) v ≡ reply_at hit t struck n at
-  reply_deny word = go (bit w v) refl
-    where
-      go : (b : Bool) → bit w v ≡ b → reply_bit (record { matched = w; given = record { permits = 0; denies = w } }) v ≡ reply_at hit t struck n at
-      go true e = rw (e, bit_zero v, reply_on hit t struck n at (hit_is true e), ← word)
-      go false e = rw (e, bit_zero v, reply_off hit t struck n at (hit_is false e))
+      go : (b : Bool) → bit w v ≡ b → reply_bit (record { matched = w; given = given }) v ≡ reply_at hit t struck n at
+      go true e = rw (is_given, e, reply_on hit t struck n at (hit_is true e), word)
+      go false e = rw (is_given, e, reply_off hit t struck n at (hit_is false e))
 
   -- its children give this
   pub reply_group : (given : Effects) → decision_bit given v ≡ combined (word_at (word_number t at)) (replies_from hit t struck n (suc (depth_of t at)) (at + 1))
@@ -56,7 +50,7 @@ module _ (t : List Row) (struck hits : List ℕ) (n block at w v : ℕ) (hit : E
       go false e = rw (bit_and_lem w given.permits v, bit_and_lem w given.denies v, e, reply_off hit t struck n at (hit_is false e))
 
 -- For each bit and the test that it answers: the replies so far, by an algorithm, stand for the children from one place up to another
-abbrev pub Folded : (t : List Row) (struck hits : List ℕ) (n block from depth : ℕ) → Word → Replies → ℕ → Type 0
+abbrev pub Folded : (t : List Row) (struck : List ℕ) (hits : List (List ℕ)) (n block from depth : ℕ) → Word → Replies → ℕ → Type 0
 Folded t struck hits n block from depth w so at =
     ((v : ℕ) → Settled (algorithm_number w) (reply_bit so v))
     × ((v : ℕ) (hit : Element → Bool) → Answers t hits n block v hit

@@ -1,11 +1,12 @@
 -- What the words of a block say of one request: its bit of each.
-use Rattle.std.specs.Prelude.{ℕ, ◌+◌, ◌*◌, ◌≤◌, ◌<◌, ◌≡◌, Bool, true, false, List, length, get_or}
+use Rattle.std.specs.Prelude.{ℕ, ◌≤◌, ◌<◌, ◌≡◌, Bool, true, false, List, length}
 use Rattle.meaning.specs.declared.Decision.{Decision}
 use Rattle.meaning.specs.declared.Decision.TheVariants.{Permit, Deny, NotApplicable, Indeterminate}
 use Rattle.meaning.specs.declared.Element.{Element}
 use Rattle.meaning.specs.Deciding.{Reply as ChildReply, bit}
 use Rattle.table.specs.declared.Row.{Row}
 use Rattle.table.specs.Rows.{element_at, Rows}
+use Rattle.table.specs.Words.{word_in}
 use Rattle.blocks.specs.declared.Effects.{Effects}
 use Rattle.blocks.specs.declared.Replies.{Replies}
 
@@ -23,14 +24,14 @@ abbrev pub reply_bit : Replies → ℕ → ChildReply
 reply_bit r v = record { matched = bit r.matched v; decision = decision_bit r.given v }
 
 -- bit v of the block's words, one for each element, answers this test of targets
-abbrev pub Answers : List Row → List ℕ → ℕ → ℕ → ℕ → (Element → Bool) → Type 0
-Answers t hits n block v hit = (i : ℕ) → i < n → bit (get_or hits (64 * i + block) 0) v ≡ hit (element_at t i)
+abbrev pub Answers : List Row → List (List ℕ) → ℕ → ℕ → ℕ → (Element → Bool) → Type 0
+Answers t hits n block v hit = (i : ℕ) → i < n → bit (word_in hits i block) v ≡ hit (element_at t i)
 
--- a table of n elements, a flag and 64 words for each, and one of at most 64 blocks
-pub record Fits (t : List Row) (struck hits : List ℕ) (n block : ℕ) : Type 0 where
+-- a table of n elements, a flag and a row of words for each, and one of at most 64 blocks
+pub record Fits (t : List Row) (struck : List ℕ) (hits : List (List ℕ)) (n block : ℕ) : Type 0 where
   pub rows : Rows t n
   pub flags : n ≤ length struck
-  pub words : 64 * n ≤ length hits
+  pub words : n ≤ length hits
   pub few : n ≤ 64
   pub within : block < 64
 

@@ -1,11 +1,12 @@
 // Replies on 64 requests at once: a word has a bit for each request of a block.
 #![tactic(auto)]
 
-ghost use Rattle.std.specs.Prelude.{◌≡◌, ℕ, ◌+◌, ◌*◌, ◌≤◌, ◌<◌, Bool, not, ◌&&◌, [], ◌∷◌, get_or};
+ghost use Rattle.std.specs.Prelude.{◌≡◌, ℕ, ◌≤◌, ◌<◌, Bool, not, cond, ◌&&◌, [], ◌∷◌};
 ghost use Rattle.meaning.specs.declared.Element.{Element};
 ghost use Rattle.meaning.specs.declared.Word.TheVariants.{DenyOverrides, PermitOverrides, FirstApplicable, OnlyOneApplicable};
 ghost use Rattle.meaning.specs.Deciding.{bit, is, combined};
 ghost use Rattle.table.specs.Rows.{algorithm_of};
+ghost use Rattle.table.specs.Words.{word_in};
 ghost use Rattle.decisions.specs.Replies.{next_of, step_of, replies_from, reply_at};
 ghost use Rattle.blocks.specs.Bits.{decision_bit, reply_bit, Answers, Fits, Lowest};
 
@@ -13,7 +14,7 @@ use meaning::{Decision, Word};
 use table::Row;
 
 // Which requests are permitted and which denied: both is indeterminate, none not-applicable.
-#[derive(Clone, Copy)]
+#[derive(Clone, Copy, PartialEq, Eq)]
 pub struct Effects {
     pub permits: u64,
     pub denies: u64,
@@ -24,6 +25,38 @@ impl Effects {
         permits: 0,
         denies: 0,
     };
+
+    // Permit on these requests, or deny, and nothing on the others.
+    pub fn permit(requests: u64) -> Effects
+        ensures { (v : ℕ) → decision_bit result v ≡ cond (bit requests v) Decision.Permit Decision.NotApplicable }
+    {
+        Effects {
+            permits: requests,
+            denies: 0,
+        }
+    }
+
+    pub fn deny(requests: u64) -> Effects
+        ensures { (v : ℕ) → decision_bit result v ≡ cond (bit requests v) Decision.Deny Decision.NotApplicable }
+    {
+        Effects {
+            permits: 0,
+            denies: requests,
+        }
+    }
+
+    // The requests whose decision is permit, and those whose decision is deny.
+    pub fn permitted(self) -> u64
+        ensures { (v : ℕ) → bit result v ≡ (bit self.permits v && not (bit self.denies v)) }
+    {
+        without(self.permits, self.denies)
+    }
+
+    pub fn denied(self) -> u64
+        ensures { (v : ℕ) → bit result v ≡ (bit self.denies v && not (bit self.permits v)) }
+    {
+        without(self.denies, self.permits)
+    }
 }
 
 // Which requests match an element's own target, and what it gives on them.
@@ -41,12 +74,12 @@ impl Replies {
     };
 }
 
-// One of at most 64 blocks of requests, over the first `n` elements of a table: a flag for each, and 64 words for each, of which one tells which of the block's requests match its own target.
+// One of at most 64 blocks of requests, over the first `n` elements of a table: a flag for each, and a row of 64 words for each, of which one tells which of the block's requests match its own target.
 #[derive(Clone, Copy)]
 pub struct Block<'a> {
     pub table: &'a [Row],
     pub struck: &'a [u8],
-    pub hits: &'a [u64],
+    pub hits: &'a [[u64; 64]],
     pub n: usize,
     pub block: usize,
     pub ghost fits: { Fits table.now struck.now hits.now n block },
@@ -67,6 +100,7 @@ pub fn differing(one: Effects, other: Effects) -> u64
 }
 
 // The children so far and one more, by the algorithms that look at decisions alone.
+// (The first two are no twins: a child that is indeterminate is a deny for deny-overrides, and neither for the other.)
 fn deny_overrides(so_far: Effects, child: Effects) -> Effects
     ensures { (v : ℕ) → decision_bit result v ≡ next_of DenyOverrides (decision_bit so_far v) (decision_bit child v) }
 {
@@ -78,8 +112,8 @@ fn deny_overrides(so_far: Effects, child: Effects) -> Effects
 fn permit_overrides(so_far: Effects, child: Effects) -> Effects
     ensures { (v : ℕ) → decision_bit result v ≡ next_of PermitOverrides (decision_bit so_far v) (decision_bit child v) }
 {
-    let permitted = without(so_far.permits, so_far.denies) | without(child.permits, child.denies);
-    let denied = without(so_far.denies, so_far.permits) | without(child.denies, child.permits);
+    let permitted = so_far.permitted() | child.permitted();
+    let denied = so_far.denied() | child.denied();
     Effects {
         permits: permitted | without(so_far.permits | child.permits, denied),
         denies: without(so_far.denies | child.denies, permitted),
@@ -137,9 +171,9 @@ impl Block<'_> {
     // The requests that match element i's own target.
     pub fn matched(&self, i: usize) -> u64
         requires { i < self.now.n }
-        ensures { result ≡ get_or self.now.hits.now (64 * i + self.now.block) 0 }
+        ensures { result ≡ word_in self.now.hits.now i self.now.block }
     {
-        self.hits[64 * i + self.block]
+        self.hits[i][self.block]
     }
 
     // The replies of element `at`: behind it stand its children, and what comes after them.
@@ -153,14 +187,8 @@ impl Block<'_> {
             return Replies::NONE;
         }
         let given = match table::word_at(self.table, at) {
-            Word::Permit => Effects {
-                permits: matched,
-                denies: 0,
-            },
-            Word::Deny => Effects {
-                permits: 0,
-                denies: matched,
-            },
+            Word::Permit => Effects::permit(matched),
+            Word::Deny => Effects::deny(matched),
             algorithm => {
                 let depth = table::depth_at(self.table, at) + 1;
                 let given = self.fold(at + 1, depth, algorithm);

@@ -39,7 +39,7 @@ regrouped false true q r = refl
 regrouped false false q r = refl
 
 -- The children at depth k of a parent with the word w, asked from place `from` on, on the requests of `on`
-module _ (t : List Row) (s hits : List ℕ) (n block from k : ℕ) (w : Word) (on : ℕ) (first : Effects) where
+module _ (t : List Row) (s : List ℕ) (hits : List (List ℕ)) (n block from k : ℕ) (w : Word) (on : ℕ) (first : Effects) where
   -- what `old` and all children come to, `given` and the children from place `at` on come to, which are asked on those of `left`
   abbrev pub Marking : (old given : List ℕ) (left at : ℕ) → Type 0
   Marking old given left at =
@@ -99,7 +99,7 @@ module _ (t : List Row) (s hits : List ℕ) (n block from k : ℕ) (w : Word) (o
           marking v hit answers j ∙ ap (λ x. bit (get_or given j 0) v || x) (one_child hit d t s n w k (bit left v) j at low child is) ∙ one
 
 -- the first element is asked where it gives permit or deny, over words that are 0
-pub root_asked : (t : List Row) (s hits : List ℕ) (n block depth on : ℕ) (first : Effects) (zeros new : List ℕ)
+pub root_asked : (t : List Row) (s : List ℕ) (hits : List (List ℕ)) (n block depth on : ℕ) (first : Effects) (zeros new : List ℕ)
     → ((v : ℕ) (hit : Element → Bool) → Answers t hits n block v hit → decision_bit first v ≡ (reply_at hit t s n 0).decision)
     → ((v : ℕ) → bit on v ≡ alike (decision_bit first v) (decision_bit first v))
     → depth ≡ depth_of t 0

@@ -63,12 +63,12 @@ chained hit t struck n j =
     chained_from hit d t struck n Word.FirstApplicable (depth_of t 0) (alike d d) j 0
 
 -- to the bits that the words of n elements had come those of the chained children, for each bit and the test that it answers
-pub record Marks (t : List Row) (struck hits : List ℕ) (n block from depth : ℕ) (word : Word) (on : ℕ) (first : Effects) (old new : List ℕ) : Type 0 where
+pub record Marks (t : List Row) (struck : List ℕ) (hits : List (List ℕ)) (n block from depth : ℕ) (word : Word) (on : ℕ) (first : Effects) (old new : List ℕ) : Type 0 where
   pub bits : (v : ℕ) (hit : Element → Bool) → Answers t hits n block v hit → (j : ℕ)
       → bit (get_or new j 0) v ≡ (bit (get_or old j 0) v || chained_from hit (decision_bit first v) t struck n word depth (bit on v) j from)
   pub behind : drop n new ≡ drop n old
 
 -- each bit of the words of n elements says whether the element is chained; the words behind them stay
-pub record ChainLaid (t : List Row) (struck hits : List ℕ) (n block : ℕ) (old new : List ℕ) : Type 0 where
+pub record ChainLaid (t : List Row) (struck : List ℕ) (hits : List (List ℕ)) (n block : ℕ) (old new : List ℕ) : Type 0 where
   pub bits : (v : ℕ) (hit : Element → Bool) → Answers t hits n block v hit → (i : ℕ) → i < n → bit (get_or new i 0) v ≡ chained hit t struck n i
   pub behind : drop n new ≡ drop n old

@@ -13,11 +13,7 @@ use meaning::Word;
 fn agreed(first: Effects, other: Effects) -> u64
     ensures { (v : ℕ) → bit result v ≡ alike (decision_bit first v) (decision_bit other v) }
 {
-    let permitted = blocks::without(first.permits, first.denies);
-    let permits = blocks::without(other.permits, other.denies);
-    let denied = blocks::without(first.denies, first.permits);
-    let denies = blocks::without(other.denies, other.permits);
-    (permitted & permits) | (denied & denies)
+    (first.permitted() & other.permitted()) | (first.denied() & other.denied())
 }
 
 // The requests on which what a child gives settles the answer, by its parent's word: deny or indeterminate, permit, or any decision.
@@ -26,7 +22,7 @@ fn settled(word: Word, child: Effects) -> u64
 {
     match word {
         Word::DenyOverrides => child.denies,
-        Word::PermitOverrides => blocks::without(child.permits, child.denies),
+        Word::PermitOverrides => child.permitted(),
         Word::FirstApplicable => child.permits | child.denies,
         _ => 0,
     }

@@ -20,6 +20,7 @@ use Rattle.table.specs.declared.Row.{Row}
 use Rattle.table.specs.Rows.{element_at, masks_at}
 use Rattle.table.specs.declared.Shape.{Shape}
 use Rattle.table.specs.Shape.{counts_of, severals_of, hit_of}
+use Rattle.table.specs.Words.{word_in}
 use Rattle.matching.specs.Hits.{Hits}
 use Rattle.matching.specs.Planes.{laid, Clear, Plane}
 use Rattle.matching.proofs.Copying.{PlaneCopied}
@@ -111,17 +112,17 @@ module _ (bs : List Bool) (masks counts : List ℕ) (len : ℕ) where
               ∙ rw (letters_at, counts_at, masks_at_lem, so_far.all)
 
 module _ (t : List Row) (s : Shape) where
-  pub hits_none : (hits : List ℕ) → Hits t 0 (hit_of s) s.space hits
+  pub hits_none : (hits : List (List ℕ)) → Hits t 0 (hit_of s) s.space hits
   hits_none hits i m l k = absurd (omega arith)
 
-  pub hits_next : {i words : ℕ} {masks plane old new : List ℕ} → words ≤ 64 → s.space ≤ 64 * words → Hits t i (hit_of s) s.space old → masks ≡ masks_at t i
+  pub hits_next : {i words : ℕ} {masks plane : List ℕ} {old new : List (List ℕ)} → words ≤ 64 → s.space ≤ 64 * words → Hits t i (hit_of s) s.space old → masks ≡ masks_at t i
       → ((m : ℕ) → m < s.space → laid plane m ≡ within (severals_of s) masks (request_of (counts_of s) m))
-      → PlaneCopied plane words (64 * i) old new → Hits t (i + 1) (hit_of s) s.space new
+      → PlaneCopied plane words i old new → Hits t (i + 1) (hit_of s) s.space new
   unfolding element_at hit_of
   hits_next {i} {words} {masks} {plane} {old} {new} few enough so_far own here copied j m l k = go (test (eqb j i))
     where
-      go : Test (eqb j i) → bit (get_or new (64 * j + m / 64) 0) (m % 64) ≡ hit_of s m (element_at t j)
+      go : Test (eqb j i) → bit (word_in new j (m / 64)) (m % 64) ≡ hit_of s m (element_at t j)
       go (passed e) = rw (eqb-true j i e) (ap (λ x. bit x (m % 64)) (copied.here (m / 64) (omega arith)) ∙ here m k ∙ ap (λ ms. within (severals_of s) ms (request_of (counts_of s) m)) own)
       go (failed e) =
           let other = eqb-false j i e in
-          ap (λ x. bit x (m % 64)) (copied.others (64 * j + m / 64) (λ a. omega (arith, other))) ∙ so_far j m (omega (arith, other)) k
+          ap (λ x. bit x (m % 64)) (copied.others j (m / 64) (λ same. absurd (other same))) ∙ so_far j m (omega (arith, other)) k

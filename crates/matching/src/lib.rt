@@ -1,8 +1,7 @@
 // Which requests match each element's own target, 64 requests in a word.
 #![tactic(auto)]
 
-ghost use Rattle.std.specs.Prelude.{◌≡◌, true, false, cond, ◌&&◌, ◌||◌, ℕ, ◌+◌, ◌-◌, ◌*◌, ◌/◌, ◌%◌, ◌≤◌, ◌<◌, length, take, get_or};
-ghost use Rattle.std.proofs.Math.Seq.{paste};
+ghost use Rattle.std.specs.Prelude.{◌≡◌, true, false, cond, ◌&&◌, ◌||◌, ◌++◌, ℕ, ◌+◌, ◌-◌, ◌*◌, ◌/◌, ◌%◌, ◌≤◌, ◌<◌, length, take, drop, get_or};
 ghost use Rattle.meaning.specs.Model.{product};
 ghost use Rattle.meaning.specs.Deciding.{bit, in_field, within, request_of};
 ghost use Rattle.table.specs.Shape.{CountsSets};
@@ -140,16 +139,16 @@ fn match_masks(masks: [u16; 6], several: [bool; 6], counts: [usize; 6], len: usi
     plane
 }
 
-// Copies the first `words` words of a plane to those from `at` on; all other words stay.
-pub fn copy_plane(plane: &[u64; 64], words: usize, at: usize, hits: &mut [u64])
-    requires { (words ≤ 64) × (words ≤ length plane.now) × (at + words ≤ length hits.old) }
-    ensures { hits.new ≡ paste hits.old at plane.now words }
+// Copies the first `words` words of a plane to an element's row; its other words stay.
+pub fn copy_plane(plane: &[u64; 64], words: usize, row: &mut [u64; 64])
+    requires { words ≤ 64 }
+    ensures { row.new ≡ take words plane.now ++ drop words row.old }
 {
-    hits[at..at + words].copy_from_slice(&plane[..words]);
+    row[..words].copy_from_slice(&plane[..words]);
 }
 
-// Lays down which requests match each element's own target. All other words stay.
-pub fn match_all(table: &[Row], shape: Shape, hits: &mut [u64])
+// Lays down which requests match each element's own target, a row for each. All other words stay.
+pub fn match_all(table: &[Row], shape: Shape, hits: &mut [[u64; 64]])
     requires { Matchable table.now shape hits.old }
     ensures { HitsLaid table.now hits.new shape × Rest shape.n shape.space hits.old hits.new }
 {
@@ -161,6 +160,6 @@ pub fn match_all(table: &[Row], shape: Shape, hits: &mut [u64])
             shape.counts,
             shape.len,
         );
-        copy_plane(&plane, words, 64 * i, hits);
+        copy_plane(&plane, words, &mut hits[i]);
     }
 }

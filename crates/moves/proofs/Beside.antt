@@ -13,7 +13,7 @@ use Rattle.meaning.specs.declared.Element.{Element}
 use Rattle.meaning.specs.Deciding.{Reply as ChildReply, combined}
 use Rattle.laws.proofs.Bools.{Test, passed, failed, test}
 use Rattle.table.specs.declared.Row.{Row}
-use Rattle.table.specs.Rows.{algorithm_at, depth_of, element_at, word_number, word_at, algorithm_number}
+use Rattle.table.specs.Rows.{algorithm_at, depth_of, element_at, word_number, word_at}
 use Rattle.decisions.specs.Replies.{step_of, replies_from, reply_at}
 use Rattle.decisions.proofs.Combining.{same_so_far, still_unchanged}
 use Rattle.decisions.proofs.Children.{replies_struck, replies_deeper, replies_step}

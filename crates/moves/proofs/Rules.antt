@@ -6,8 +6,7 @@ use mathlib.Core.List.{List, []}
 use native.Mathlib.Omega.{arith}
 use lib.Bits.{bit_and}
 use Rattle.meaning.specs.declared.Decision.TheVariants.{NotApplicable}
-use Rattle.meaning.specs.declared.Word.{Word}
-use Rattle.meaning.specs.declared.Word.TheVariants.{Permit, Deny, DenyOverrides, PermitOverrides, FirstApplicable, OnlyOneApplicable}
+use Rattle.meaning.specs.declared.Word.TheVariants.{Permit, Deny}
 use Rattle.meaning.specs.declared.Element.{Element}
 use Rattle.meaning.specs.Deciding.{Reply as ChildReply, bit, is, combined}
 use Rattle.laws.proofs.Bits.{bit_and_lem, bit_zero}
@@ -15,7 +14,6 @@ use Rattle.table.specs.declared.Row.{Row}
 use Rattle.table.specs.Rows.{word_at, algorithm_at, algorithm_number, algorithm_of, element_at, word_number}
 use Rattle.decisions.specs.Replies.{step_of, reply_at}
 use Rattle.decisions.proofs.Combining.{Settled, start}
-use Rattle.blocks.specs.Bits.{reply_bit}
 use Rattle.moves.specs.Moved.{effect_reply}
 
 -- it looks at no children
@@ -27,35 +25,6 @@ effect_alone (suc (suc w)) rs l = let no : ⊥ = omega arith in absurd no
 pub rule_reply : (hit : Element → Bool) (t : List Row) (s : List ℕ) (n i : ℕ) → word_number t i < 2 → reply_at hit t s n i ≡ effect_reply (word_at (word_number t i)) (hit (element_at t i))
 unfolding reply_at element_at
 rule_reply hit t s n i l = ap (λ d. record { matched = hit (element_at t i); decision = cond (hit (element_at t i)) d NotApplicable }) (effect_alone (word_number t i) _ l)
-
--- the words of a permit and of a deny
-module _ (m v : ℕ) where
-  pub permit_reply : (w : Word) → w ≡ Permit → reply_bit (record { matched = m; given = record { permits = m; denies = 0 } }) v ≡ effect_reply w (bit m v)
-  permit_reply w e = go (bit m v) refl
-    where
-      go : (b : Bool) → bit m v ≡ b → reply_bit (record { matched = m; given = record { permits = m; denies = 0 } }) v ≡ effect_reply w (bit m v)
-      go true x = rw (x, bit_zero v, e)
-      go false x = rw (x, bit_zero v)
-
-  pub deny_reply : (w : Word) → w ≡ Deny → reply_bit (record { matched = m; given = record { permits = 0; denies = m } }) v ≡ effect_reply w (bit m v)
-  deny_reply w e = go (bit m v) refl
-    where
-      go : (b : Bool) → bit m v ≡ b → reply_bit (record { matched = m; given = record { permits = 0; denies = m } }) v ≡ effect_reply w (bit m v)
-      go true x = rw (x, bit_zero v, e)
-      go false x = rw (x, bit_zero v)
-
--- an element that combines nothing gives nothing
-pub none_reply : (m v : ℕ) (w : Word) → (w ≡ Permit → ⊥) → (w ≡ Deny → ⊥) → reply_bit (record { matched = m; given = record { permits = 0; denies = 0 } }) v ≡ effect_reply w (bit m v)
-none_reply m v w permit deny = rw bit_zero (λ i. record { matched = bit m v; decision = nothing (bit m v) w permit deny i })
-  where
-    nothing : (b : Bool) (w : Word) → (w ≡ Permit → ⊥) → (w ≡ Deny → ⊥) → NotApplicable ≡ cond b (combined w []) NotApplicable
-    nothing false w permit deny = refl
-    nothing true Permit permit deny = absurd (permit refl)
-    nothing true Deny permit deny = absurd (deny refl)
-    nothing true DenyOverrides permit deny = refl
-    nothing true PermitOverrides permit deny = refl
-    nothing true FirstApplicable permit deny = refl
-    nothing true OnlyOneApplicable permit deny = refl
 
 -- the algorithm of an element over rules, by its word's number
 pub group_word : (k : ℕ) → 2 ≤ k → algorithm_of (word_at k) ≡ word_at k

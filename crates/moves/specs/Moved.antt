@@ -1,5 +1,5 @@
 -- A rule that is struck, against the same rule left: whether the element over it decides otherwise.
-use Rattle.std.specs.Prelude.{ℕ, suc, ◌+◌, ◌*◌, ◌≤◌, ◌<◌, ◌≡◌, Bool, not, cond, ◌&&◌, List, [], get_or, set}
+use Rattle.std.specs.Prelude.{ℕ, suc, ◌≤◌, ◌<◌, ◌≡◌, Bool, not, cond, ◌&&◌, List, [], get_or, set}
 use Rattle.meaning.specs.declared.Decision.TheVariants.{NotApplicable}
 use Rattle.meaning.specs.declared.Word.{Word}
 use Rattle.meaning.specs.declared.Element.{Element}
@@ -7,6 +7,7 @@ use Rattle.meaning.specs.Deciding.{Reply as ChildReply, bit, is, combined}
 use Rattle.table.specs.declared.Row.{Row}
 use Rattle.table.specs.Rows.{word_at, algorithm_at, depth_of, word_number}
 use Rattle.table.specs.Tree.{Leaves, RulesStruck, Over}
+use Rattle.table.specs.Words.{word_in}
 use Rattle.decisions.specs.Replies.{step_of, reply_at}
 use Rattle.blocks.specs.declared.Replies.{Replies}
 use Rattle.blocks.specs.Bits.{reply_bit}
@@ -41,9 +42,9 @@ pub record Child (t : List Row) (struck : List ℕ) (n up rule : ℕ) : Type 0 w
   pub flag : get_or struck rule 0 ≡ 1
 
 -- `own` is what the rule gives where it and `up` match
-pub record Own (t : List Row) (hits : List ℕ) (n block up rule : ℕ) (own : Replies) : Type 0 where
+pub record Own (t : List Row) (hits : List (List ℕ)) (n block up rule : ℕ) (own : Replies) : Type 0 where
   pub replies : (v : ℕ) → reply_bit own v ≡ effect_reply (word_at (word_number t rule)) (bit own.matched v)
-  pub reach : (v : ℕ) → bit own.matched v ≡ (bit (get_or hits (64 * rule + block) 0) v && bit (get_or hits (64 * up + block) 0) v)
+  pub reach : (v : ℕ) → bit own.matched v ≡ (bit (word_in hits rule block) v && bit (word_in hits up block) v)
 
 -- from what the children passed give with the rule and without it, x and y, to the same behind the child c: p and q
 abbrev pub Sided : ℕ → Bool → (x y c own p q : ChildReply) → Type 0

@@ -23,14 +23,8 @@ fn effect(word: Word, matched: u64) -> Replies
     ensures { ((v : ℕ) → reply_bit result v ≡ effect_reply word (bit matched v)) × (result.matched ≡ matched) }
 {
     let given = match word {
-        Word::Permit => Effects {
-            permits: matched,
-            denies: 0,
-        },
-        Word::Deny => Effects {
-            permits: 0,
-            denies: matched,
-        },
+        Word::Permit => Effects::permit(matched),
+        Word::Deny => Effects::deny(matched),
         _ => Effects::NONE,
     };
     Replies { matched, given }

@@ -113,10 +113,8 @@ pub fn change_in(
         permits: outcomes[block],
         denies: outcomes[64 + block],
     };
-    if given.permits == before.permits {
-        if given.denies == before.denies {
-            return None;
-        }
+    if given == before {
+        return None;
     }
     first_other(given, before, 64 * block, shape.space)
 }

@@ -94,8 +94,8 @@ pub fn give_all(
             block,
         };
         let given = b.reply(k / 64).given;
-        permits[k] = blocks::without(given.permits, given.denies);
-        denies[k] = blocks::without(given.denies, given.permits);
+        permits[k] = given.permitted();
+        denies[k] = given.denied();
     }
 }
 

@@ -2,3 +2,4 @@
 pub mod Rows
 pub mod Tree
 pub mod Shape
+pub mod Words

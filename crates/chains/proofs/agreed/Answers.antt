@@ -5,4 +5,4 @@ use Rattle.chains.proofs.agreed.Goals as goal
 pub returns : goal.returns
 returns c v =
     let args = c.args in
-    alike_words args.first.permits args.first.denies args.other.permits args.other.denies v _ _ _ _ (c.without-permitted.ensures v) (c.without-permits.ensures v) (c.without-denied.ensures v) (c.without-denies.ensures v)
+    alike_words args.first.permits args.first.denies args.other.permits args.other.denies v _ _ _ _ (c.permitted.ensures v) (c.permitted-2.ensures v) (c.denied.ensures v) (c.denied-2.ensures v)

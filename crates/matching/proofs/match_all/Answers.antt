@@ -1,9 +1,9 @@
 -- `match_all`: the words of the first i elements are right. Assumes nothing.
-use Prim.Native.Nat.{◌+◌, ◌*◌, ◌/◌}
+use Prim.Native.Nat.{◌+◌, ◌/◌}
 use mathlib.Core.Path.{◌≡◌, refl, ◌∙◌}
 use native.Mathlib.Omega.{arith}
 use borrow.Author.Rules.{rules}
-use lib.ListN.{length}
+use lib.ListN.{length, length-set}
 use Rattle.matching.proofs.Copying.{copied_is, rest_none, rest_next}
 use Rattle.matching.proofs.Targets.{hits_none, hits_next}
 use Rattle.matching.proofs.match_all.Goals as goal
@@ -20,10 +20,10 @@ loop-i-preserved c =
     let own = c.masks_at in
     let masks = c.match_masks-plane in
     let wide : length masks.result ≡ 64 = search rules in
-    let copied = copied_is masks.result ((shape.space + 63) / 64) (64 * turn.i) turn.hits put.new.hits put.ensures (omega arith) (omega arith) in (
-      put.auto.hits ∙ turn.invariant.0,
+    let copied = copied_is masks.result ((shape.space + 63) / 64) turn.i turn.hits put.new.row put.ensures (omega arith) (omega arith) in (
+      length-set turn.hits turn.i put.new.row ∙ turn.invariant.0,
       hits_next t shape (omega arith) (omega arith) turn.invariant.1 own.ensures (λ m l. masks.ensures.bits m (omega (arith, c.requires.counted.all))) copied,
-      rest_next shape.space c.args.hits.now c.requires.small (λ m a b. masks.ensures.clear m (omega (arith, c.requires.counted.all)) b) put.auto.hits copied turn.invariant.2,
+      rest_next shape.space c.args.hits.now c.requires.small (λ m a b. masks.ensures.clear m (omega (arith, c.requires.counted.all)) b) (length-set turn.hits turn.i put.new.row) copied turn.invariant.2,
     )
 
 pub returns : goal.returns

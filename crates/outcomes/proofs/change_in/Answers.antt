@@ -1,5 +1,8 @@
 -- `change_in`: the words that are laid down are those of the block, or a bit tells where they are not. Assumes nothing.
+use mathlib.Core.Path.{sym, ◌∙◌}
 use native.Mathlib.Omega.{arith}
+use borrow.Author.Tests.{eqb-true}
+use Rattle.laws.proofs.Bools.{and_true}
 use Rattle.outcomes.proofs.Blocks.{block_fits, block_alike, block_other}
 use Rattle.outcomes.proofs.change_in.Goals as goal
 
@@ -17,14 +20,15 @@ bounds-outcomes-block c = omega (arith, c.requires.0.small)
 pub bounds-outcomes-block-2 : goal.bounds-outcomes-block-2
 bounds-outcomes-block-2 c = omega (arith, c.requires.0.small)
 
-pub returns-then-given-before-2 : goal.returns-then-given-before-2
-returns-then-given-before-2 c =
+pub returns-then-eq : goal.returns-then-eq
+returns-then-eq c =
     let t = c.args.table.now in
     let struck = c.args.struck.now in
     let hits = c.args.hits.now in
     let shape = c.args.shape in
     let reply = c.reply in
-    block_alike t struck hits shape c.requires.0 c.requires.1 c.args.block reply.result reply.ensures c.args.outcomes.now c.if-given-before.true c.if-given-before-2.true
+    let (permits, denies) = and_true _ _ (sym c.eq.ensures ∙ c.if-eq.true) in
+    block_alike t struck hits shape c.requires.0 c.requires.1 c.args.block reply.result reply.ensures c.args.outcomes.now (eqb-true _ _ permits) (eqb-true _ _ denies)
 
 pub returns : goal.returns
 returns c =

@@ -17,8 +17,8 @@ loop-k-preserved c =
     let turn = c.loop-k in
     let reply = c.reply in (
       turn.invariant.0,
-      filled_next _ _ _ _ _ turn.invariant.1 turn.invariant.0 _ (omega (arith, turn.invariant.1.size)) (omega arith) (λ v hit l answers. permits_alone _ v reply.result _ (reply.ensures v hit answers) (c.without.ensures v)),
-      filled_next _ _ _ _ _ turn.invariant.2 turn.invariant.0 _ (omega (arith, turn.invariant.2.size)) (omega arith) (λ v hit l answers. denies_alone _ v reply.result _ (reply.ensures v hit answers) (c.without-in-loop-k.ensures v)),
+      filled_next _ _ _ _ _ turn.invariant.1 turn.invariant.0 _ (omega (arith, turn.invariant.1.size)) (omega arith) (λ v hit l answers. permits_alone _ v reply.result _ (reply.ensures v hit answers) (c.permitted.ensures v)),
+      filled_next _ _ _ _ _ turn.invariant.2 turn.invariant.0 _ (omega (arith, turn.invariant.2.size)) (omega arith) (λ v hit l answers. denies_alone _ v reply.result _ (reply.ensures v hit answers) (c.denied.ensures v)),
     )
 
 pub returns : goal.returns

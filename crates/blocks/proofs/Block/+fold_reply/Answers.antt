@@ -1,8 +1,7 @@
 -- `reply` by the bit of its word, `fold` by the children passed, bit by bit.
-use mathlib.Core.Path.{◌≡◌, refl, sym, ap, subst, ◌∙◌}
+use mathlib.Core.Path.{◌≡◌, sym, ap, subst, ◌∙◌}
 use native.Mathlib.Numerals.{add-one}
-use Rattle.std.proofs.Common.{ℕ, Bool, suc, ◌+◌, ◌<◌, false, arith}
-use Rattle.meaning.specs.declared.Element.{Element}
+use Rattle.std.proofs.Common.{suc, ◌+◌, ◌<◌, false, arith}
 use Rattle.meaning.specs.Deciding.{bit, combined}
 use Rattle.laws.proofs.Bits.{bit_zero}
 use Rattle.table.specs.Rows.{algorithm_number, word_at, depth_of, word_number, element_at}
@@ -10,8 +9,8 @@ use Rattle.decisions.specs.Replies.{replies_from}
 use Rattle.decisions.proofs.Combining.{step_settled}
 use Rattle.decisions.proofs.Children.{children_none, replies_struck, replies_over, replies_deeper, replies_off, replies_step, algorithm_word}
 use Rattle.blocks.specs.declared.Replies.{Replies}
-use Rattle.blocks.specs.Bits.{decision_bit, reply_bit, Answers}
-use Rattle.blocks.proofs.Replying.{Folded, reply_none, reply_permit, reply_deny, reply_group}
+use Rattle.blocks.specs.Bits.{decision_bit, reply_bit}
+use Rattle.blocks.proofs.Replying.{Folded, reply_none, reply_effect, reply_group}
 use Rattle.blocks.proofs.Block.+fold_reply.Goals as goal
 use Rattle.blocks.proofs.Block.+fold_reply.Goals.{fold-then-self-at-eq0+else-d-depth+then-d-depth-2+then-matched-ne0, fold-then-self-at-eq0+else-d-depth+else-d-depth-2, fold-else-d-depth-2-via-then-d-depth-2+else-matched-ne0, fold-else-d-depth-2-via-else-d-depth-2, fold-else-self-at-eq0}
 
@@ -73,12 +72,12 @@ reply-returns-then-matched-eq0 t c v hit answers =
 pub reply-returns-in-Permit : goal.reply-returns-in-Permit
 reply-returns-in-Permit t c v hit answers =
     let b = c.args.self.now in
-    reply_permit b.table.now b.struck.now b.hits.now b.n b.block c.args.at _ v hit answers c.requires c.matched-matched.ensures c.in-Permit.ensures
+    reply_effect b.table.now b.struck.now b.hits.now b.n b.block c.args.at _ v hit answers c.requires c.matched-matched.ensures c.permit-given.result _ (c.permit-given.ensures v) (λ rs. rw (← c.in-Permit.ensures))
 
 pub reply-returns-in-Deny : goal.reply-returns-in-Deny
 reply-returns-in-Deny t c v hit answers =
     let b = c.args.self.now in
-    reply_deny b.table.now b.struck.now b.hits.now b.n b.block c.args.at _ v hit answers c.requires c.matched-matched.ensures c.in-Deny.ensures
+    reply_effect b.table.now b.struck.now b.hits.now b.n b.block c.args.at _ v hit answers c.requires c.matched-matched.ensures c.deny-given.result _ (c.deny-given.ensures v) (λ rs. rw (← c.in-Deny.ensures))
 
 pub reply-returns-in_default : goal.reply-returns-in_default
 reply-returns-in_default t c v hit answers =
