@@ -24,23 +24,19 @@ use Rattle.matching.specs.Hits.{words_of, HitsLaid}
 use Rattle.blocks.specs.declared.Effects.{Effects}
 use Rattle.blocks.specs.declared.Replies.{Replies}
 use Rattle.blocks.specs.Bits.{decision_bit, reply_bit, Answers, Fits}
-use Rattle.outcomes.specs.Decided.{outcome_at, decided_at, differs_at}
+use Rattle.outcomes.specs.Decided.{no_effects, outcome_at, decided_at, differs_at}
 use Rattle.outcomes.specs.PolicyTable.{PolicyTable}
 use Rattle.outcomes.specs.Changes.{Other, InBlock}
 
 -- what a call of `reply` says of the first element's replies in the block
-abbrev pub Replied : (t : List Row) (struck hits : List ℕ) (n block : ℕ) → Replies → Type 0
+abbrev pub Replied : (t : List Row) (struck : List ℕ) (hits : List (List ℕ)) (n block : ℕ) → Replies → Type 0
 Replied t struck hits n block r = (v : ℕ) (hit : Element → Bool) → Answers t hits n block v hit → reply_bit r v ≡ reply_at hit t struck n 0
-
--- the two words laid down for the block
-abbrev pub block_outcomes : List ℕ → ℕ → Effects
-block_outcomes outcomes block = record { permits = get_or outcomes block 0; denies = get_or outcomes (64 + block) 0 }
 
 -- what the bits of request m are to tell: behind the requests nothing
 abbrev pub outcome_up_to : List Row → List ℕ → Shape → ℕ → Decision
 outcome_up_to t struck s m = cond (leb s.space m) NotApplicable (decided_at t s.n (hit_of s) struck m)
 
-module _ (t : List Row) (struck hits : List ℕ) (s : Shape) (ready : PolicyTable t struck s) (matched : HitsLaid t hits s) (block : ℕ) where
+module _ (t : List Row) (struck : List ℕ) (hits : List (List ℕ)) (s : Shape) (ready : PolicyTable t struck s) (matched : HitsLaid t hits s) (block : ℕ) where
   pub block_fits : block < 64 → Fits t struck hits s.n block
   block_fits l = record { rows = ready.rows; flags = ready.flags; words = matched.room; few = ready.few; within = l }
 
@@ -68,18 +64,18 @@ module _ (t : List Row) (struck hits : List ℕ) (s : Shape) (ready : PolicyTabl
         go (passed past) = rw past (given_none m (leb-true s.space m past) (omega arith) e)
         go (failed within) = rw within (given_at m (leb-false s.space m within) e)
 
-    module _ (outcomes : List ℕ) where
-      outcome_there : (m : ℕ) → m / 64 ≡ block → outcome_at outcomes m ≡ decision_bit (block_outcomes outcomes block) (m % 64)
+    module _ (outcomes : List Effects) where
+      outcome_there : (m : ℕ) → m / 64 ≡ block → outcome_at outcomes m ≡ decision_bit (get_or outcomes block no_effects) (m % 64)
       outcome_there m e = rw e
 
       -- its test against what was laid down
-      same_bits : (m : ℕ) → m < s.space → m / 64 ≡ block → decision_bit r.given (m % 64) ≡ decision_bit (block_outcomes outcomes block) (m % 64) → differs_at t s.n (hit_of s) outcomes struck m ≡ false
+      same_bits : (m : ℕ) → m < s.space → m / 64 ≡ block → decision_bit r.given (m % 64) ≡ decision_bit (get_or outcomes block no_effects) (m % 64) → differs_at t s.n (hit_of s) outcomes struck m ≡ false
       unfolding differs_at
       same_bits m l e alike =
           let gets = decided_at t s.n (hit_of s) struck m in
           ap (λ d. not (is d gets)) (outcome_there m e ∙ sym alike ∙ given_at m l e) ∙ ap not (decision_same gets)
 
-      other_bits : (m : ℕ) → m < s.space → m / 64 ≡ block → (decision_bit r.given (m % 64) ≡ decision_bit (block_outcomes outcomes block) (m % 64) → ⊥) → differs_at t s.n (hit_of s) outcomes struck m ≡ true
+      other_bits : (m : ℕ) → m < s.space → m / 64 ≡ block → (decision_bit r.given (m % 64) ≡ decision_bit (get_or outcomes block no_effects) (m % 64) → ⊥) → differs_at t s.n (hit_of s) outcomes struck m ≡ true
       unfolding differs_at
       other_bits m l e other = go (test (is (outcome_at outcomes m) (decided_at t s.n (hit_of s) struck m)))
         where
@@ -87,10 +83,10 @@ module _ (t : List Row) (struck hits : List ℕ) (s : Shape) (ready : PolicyTabl
           go (passed same) = absurd (other (given_at m l e ∙ sym (same_decision _ _ same) ∙ outcome_there m e))
           go (failed differ) = ap not differ
 
-      pub block_alike : r.given.permits ≡ get_or outcomes block 0 → r.given.denies ≡ get_or outcomes (64 + block) 0 → InBlock (differs_at t s.n (hit_of s) outcomes struck) s.space block None
+      pub block_alike : r.given.permits ≡ (get_or outcomes block no_effects).permits → r.given.denies ≡ (get_or outcomes block no_effects).denies → InBlock (differs_at t s.n (hit_of s) outcomes struck) s.space block None
       block_alike permits denies = λ m low high l. same_bits m l (omega arith) (rw (permits, denies))
 
-      pub block_other : (first : Option ℕ) → Other r.given (block_outcomes outcomes block) (64 * block) s.space first → InBlock (differs_at t s.n (hit_of s) outcomes struck) s.space block first
+      pub block_other : (first : Option ℕ) → Other r.given (get_or outcomes block no_effects) (64 * block) s.space first → InBlock (differs_at t s.n (hit_of s) outcomes struck) s.space block first
       block_other None same =
           λ m low high l.
           let here : 64 * block + m % 64 ≡ m = omega arith in

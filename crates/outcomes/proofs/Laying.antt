@@ -14,6 +14,7 @@ use Rattle.laws.proofs.Decided.{map_each}
 use Rattle.table.specs.declared.Row.{Row}
 use Rattle.table.specs.declared.Shape.{Shape}
 use Rattle.table.specs.Shape.{hit_of}
+use Rattle.blocks.specs.declared.Effects.{Effects}
 use Rattle.outcomes.specs.Decided.{none_struck, outcome_at, decided_at}
 use Rattle.outcomes.specs.PolicyTable.{OutcomesLaid}
 
@@ -62,7 +63,7 @@ laid_at_lem none F k behind {l} e m h =
     ∙ ap F (zero-add m)
 
 -- what words tell is what each request gets
-pub told_laid : (t : List Row) (outcomes : List ℕ) (s : Shape) → OutcomesLaid t none_struck outcomes s → (behind : List Decision)
+pub told_laid : (t : List Row) (outcomes : List Effects) (s : Shape) → OutcomesLaid t none_struck outcomes s → (behind : List Decision)
     → map (outcome_at outcomes) (counting 0 s.space) ++ behind ≡ map (decided_at t s.n (hit_of s) none_struck) (counting 0 s.space) ++ behind
 told_laid t outcomes s holds behind =
     ap (λ xs. xs ++ behind) (map_each _ _ (counting 0 s.space) (λ m i. holds.outcomes_are m (omega (arith, (counting_only 0 s.space m i).1))))

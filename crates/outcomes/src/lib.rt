@@ -6,17 +6,23 @@ ghost use Rattle.meaning.specs.Text.{counting};
 ghost use Rattle.table.specs.Shape.{hit_of};
 ghost use Rattle.matching.specs.Hits.{Rest, HitsLaid};
 ghost use Rattle.outcomes.specs.Decided.{none_struck, outcome_at, decided_at, differs_at};
-ghost use Rattle.outcomes.specs.PolicyTable.{PolicyTable, OutcomesLaid};
+ghost use Rattle.outcomes.specs.PolicyTable.{PolicyTable, OutcomesLaid, OutcomesRest};
 ghost use Rattle.outcomes.specs.Changes.{Other, InBlock};
 
 use blocks::{Block, Effects};
 use meaning::Decision;
 use table::{Row, Shape};
 
-// Lays down what each request gets, a block of 64 at a time: the words of those permitted, and 64 places on of those denied. All other words stay.
-fn decide_all(table: &[Row], struck: &[u8], hits: &[u64], shape: Shape, outcomes: &mut [u64])
-    requires { PolicyTable table.now struck.now shape × HitsLaid table.now hits.now shape × (128 ≤ length outcomes.old) }
-    ensures { OutcomesLaid table.now struck.now outcomes.new shape × Rest 2 shape.space outcomes.old outcomes.new }
+// Lays down what each request gets, a block of 64 at a time. What stands behind the blocks stays.
+fn decide_all(
+    table: &[Row],
+    struck: &[u8],
+    hits: &[[u64; 64]],
+    shape: Shape,
+    outcomes: &mut [Effects],
+)
+    requires { PolicyTable table.now struck.now shape × HitsLaid table.now hits.now shape × (64 ≤ length outcomes.old) }
+    ensures { OutcomesLaid table.now struck.now outcomes.new shape × OutcomesRest shape.space outcomes.old outcomes.new }
 {
     for block in 0..(shape.space + 63) / 64 {
         let b = Block {
@@ -26,38 +32,32 @@ fn decide_all(table: &[Row], struck: &[u8], hits: &[u64], shape: Shape, outcomes
             n: shape.n,
             block,
         };
-        let given = b.reply(0).given;
-        outcomes[block] = given.permits;
-        outcomes[64 + block] = given.denies;
+        outcomes[block] = b.reply(0).given;
     }
 }
 
-// Lays down which requests match each element's own target, and what each request gets. All other words stay.
+// Lays down which requests match each element's own target, and what each request gets. All other words, and what stands behind the blocks, stay.
 pub fn find_outcomes(
     table: &[Row],
     struck: &[u8],
     shape: Shape,
-    hits: &mut [u64],
-    outcomes: &mut [u64],
+    hits: &mut [[u64; 64]],
+    outcomes: &mut [Effects],
 )
-    requires { PolicyTable table.now struck.now shape × (4096 ≤ length hits.old) × (128 ≤ length outcomes.old) }
-    ensures { HitsLaid table.now hits.new shape × Rest shape.n shape.space hits.old hits.new × OutcomesLaid table.now struck.now outcomes.new shape × Rest 2 shape.space outcomes.old outcomes.new }
+    requires { PolicyTable table.now struck.now shape × (64 ≤ length hits.old) × (64 ≤ length outcomes.old) }
+    ensures { HitsLaid table.now hits.new shape × Rest shape.n shape.space hits.old hits.new × OutcomesLaid table.now struck.now outcomes.new shape × OutcomesRest shape.space outcomes.old outcomes.new }
 {
     matching::match_all(table, shape, hits);
     decide_all(table, struck, hits, shape, outcomes);
 }
 
-// Lays down what each request gets, by the words that tell it. What lies behind them stays.
-pub fn tell_all(outcomes: &[u64], space: usize, decided: &mut [Decision])
-    requires { (128 ≤ length outcomes.now) × (space ≤ 4096) × (space ≤ length decided.old) }
+// Lays down what each request gets, by the effects that tell it. What lies behind them stays.
+pub fn tell_all(outcomes: &[Effects], space: usize, decided: &mut [Decision])
+    requires { (64 ≤ length outcomes.now) × (space ≤ 4096) × (space ≤ length decided.old) }
     ensures { decided.new ≡ map (outcome_at outcomes.now) (counting 0 space) ++ drop space decided.old }
 {
     for m in 0..space {
-        let given = Effects {
-            permits: outcomes[m / 64],
-            denies: outcomes[64 + m / 64],
-        };
-        decided[m] = blocks::decision_of(given, m % 64);
+        decided[m] = blocks::decision_of(outcomes[m / 64], m % 64);
     }
 }
 
@@ -67,8 +67,8 @@ pub fn decide_requests(table: &[Row], shape: Shape, decided: &mut [Decision])
     ensures { decided.new ≡ map (decided_at table.now shape.n (hit_of shape) none_struck) (counting 0 shape.space) ++ drop shape.space decided.old }
 {
     let struck = [0u8; 64];
-    let mut hits = [0u64; 4096];
-    let mut outcomes = [0u64; 128];
+    let mut hits = [[0u64; 64]; 64];
+    let mut outcomes = [Effects::NONE; 64];
     find_outcomes(table, &struck, shape, &mut hits, &mut outcomes);
     tell_all(&outcomes, shape.space, decided);
 }
@@ -93,12 +93,12 @@ fn first_other(given: Effects, before: Effects, from: usize, space: usize) -> Op
 pub fn change_in(
     table: &[Row],
     struck: &[u8],
-    hits: &[u64],
+    hits: &[[u64; 64]],
     shape: Shape,
-    outcomes: &[u64],
+    outcomes: &[Effects],
     block: usize,
 ) -> Option<usize>
-    requires { PolicyTable table.now struck.now shape × HitsLaid table.now hits.now shape × (128 ≤ length outcomes.now) × (64 * block < shape.space) }
+    requires { PolicyTable table.now struck.now shape × HitsLaid table.now hits.now shape × (64 ≤ length outcomes.now) × (64 * block < shape.space) }
     ensures { InBlock (differs_at table.now shape.n (hit_of shape) outcomes.now struck.now) shape.space block result }
 {
     let b = Block {
@@ -109,10 +109,7 @@ pub fn change_in(
         block,
     };
     let given = b.reply(0).given;
-    let before = Effects {
-        permits: outcomes[block],
-        denies: outcomes[64 + block],
-    };
+    let before = outcomes[block];
     if given == before {
         return None;
     }

@@ -17,9 +17,6 @@ invariant_of-b c =
 pub bounds-outcomes-block : goal.bounds-outcomes-block
 bounds-outcomes-block c = omega (arith, c.requires.0.small)
 
-pub bounds-outcomes-block-2 : goal.bounds-outcomes-block-2
-bounds-outcomes-block-2 c = omega (arith, c.requires.0.small)
-
 pub returns-then-eq : goal.returns-then-eq
 returns-then-eq c =
     let t = c.args.table.now in

@@ -1,6 +1,5 @@
 -- `decide_all`: up to the block looked at, the words tell what each request gets. Assumes nothing.
 use native.Mathlib.Omega.{arith}
-use lib.ListN.{length-set}
 use Rattle.outcomes.proofs.Blocks.{block_fits, given_outcome}
 use Rattle.outcomes.proofs.LayingOutcomes.{outcomes_none, outcomes_next, outcomes_laid, outcomes_rest}
 use Rattle.outcomes.proofs.decide_all.Goals as goal
@@ -16,8 +15,8 @@ invariant_of-b c =
     let ready = c.requires.0 in
     record { fits = block_fits c.args.table.now c.args.struck.now c.args.hits.now c.args.shape ready c.requires.1 _ (omega (arith, ready.small)) }
 
-pub bounds-outcomes-block-in-loop-block : goal.bounds-outcomes-block-in-loop-block
-bounds-outcomes-block-in-loop-block c = simp length-set (omega (arith, c.requires.0.small))
+pub bounds-outcomes-block : goal.bounds-outcomes-block
+bounds-outcomes-block c = let size = c.loop-block.invariant.size in omega (arith, c.requires.0.small)
 
 pub loop-block-preserved : goal.loop-block-preserved
 loop-block-preserved c =
@@ -28,7 +27,7 @@ loop-block-preserved c =
     let ready = c.requires.0 in
     let given = given_outcome t struck c.args.hits.now shape ready c.requires.1 turn.block c.reply.result c.reply.ensures (omega arith) in
     let size = turn.invariant.size in
-    outcomes_next _ given (omega (arith, ready.small)) (omega arith) turn.invariant
+    outcomes_next _ given (omega (arith, ready.small)) turn.invariant
 
 pub returns : goal.returns
 returns c =
