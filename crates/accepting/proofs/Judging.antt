@@ -21,6 +21,7 @@ use Rattle.laws.proofs.OtherLines.{none_other}
 use Rattle.table.specs.declared.Row.{Row}
 use Rattle.table.specs.declared.Shape.{Shape}
 use Rattle.table.specs.Shape.{hit_of}
+use Rattle.blocks.specs.declared.Effects.{Effects}
 use Rattle.outcomes.specs.Decided.{none_struck, decided_at}
 use Rattle.outcomes.specs.PolicyTable.{PolicyTable, OutcomesLaid}
 use Rattle.outcomes.proofs.Searching.{first_alike}
@@ -70,7 +71,7 @@ module _ (f : Bytes) (places : List ElementPlaces) (table : List Row) (s : Shape
   rule_below i e = omega (arith, (first_some (table-level.needless_at f places table s.n (hit_of s) s.space struck) 0 s.n i e).high)
 
   -- where no request differs, the decisions laid down are those under the flags too
-  pub same_laid : requests ≡ none → (outcomes : List ℕ) → OutcomesLaid table none_struck outcomes s → OutcomesLaid table struck outcomes s
+  pub same_laid : requests ≡ none → (outcomes : List Effects) → OutcomesLaid table none_struck outcomes s → OutcomesLaid table struck outcomes s
   unfolding apart decided_at
   same_laid none-differs outcomes laid =
       record {

@@ -16,6 +16,7 @@ ghost use Rattle.trimmed_text.specs.Held.{PolicyHeld};
 ghost use Rattle.refusals.specs.Numbers.{answer_of};
 ghost use Rattle.accepting.specs.Judged.{lines_from, judged_at, LeavesOthersOut};
 
+use blocks::Effects;
 use differences::{PolicyFile, PolicyOutcomes};
 use layout::ElementPlaces;
 use meaning::Answer;
@@ -66,8 +67,8 @@ fn judge(
     ensures { (result ≡ judged_at file.now places.now table.now shape struck.old) × (struck.new ≡ struck.old) }
 {
     let none = [0u8; 64];
-    let mut hits = [0u64; 4096];
-    let mut outcomes = [0u64; 128];
+    let mut hits = [[0u64; 64]; 64];
+    let mut outcomes = [Effects::NONE; 64];
     outcomes::find_outcomes(table, &none, shape, &mut hits, &mut outcomes);
     let obliged = obligations::any_obligations(places, shape.n);
     let o = PolicyOutcomes {

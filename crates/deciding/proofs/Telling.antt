@@ -31,7 +31,7 @@ use Rattle.deciding.specs.Told.{deciding, Effect, outcome_on, Told, Asking}
 use Rattle.layout.specs.declared.ElementPlaces.{ElementPlaces}
 
 -- one element's word more
-pub next_answers : (t : List Row) (hits : List ℕ) (i w : ℕ) (hit : Element → Bool) → 64 * i < length hits → bit w 0 ≡ hit (element_at t i) → Answers t hits i 0 0 hit → Answers t (set hits (64 * i) w) (i + 1) 0 0 hit
+pub next_answers : (t : List Row) (hits : List (List ℕ)) (i w : ℕ) (hit : Element → Bool) → 64 * i < length hits → bit w 0 ≡ hit (element_at t i) → Answers t hits i 0 0 hit → Answers t (set hits (64 * i) w) (i + 1) 0 0 hit
 next_answers t hits i w hit room is so_far j l = ⊎_elim here before (eq-or-lt_of_le (within j l))
   where
     within : (j : ℕ) → j < i + 1 → j ≤ i

@@ -24,12 +24,12 @@ fn bit_of(told: bool) -> u64
 }
 
 // Lays down for each element whether the request matches its own target: in bit 0 of its first word.
-fn match_one(table: &[Row], n: usize, q: Request, hits: &mut [u64])
-    requires { Rows table.now n × (64 * n ≤ length hits.old) × (q.len ≤ 6) }
+fn match_one(table: &[Row], n: usize, q: Request, hits: &mut [[u64; 64]])
+    requires { Rows table.now n × (n ≤ length hits.old) × (q.len ≤ 6) }
     ensures { Answers table.now hits.new n 0 0 (matches (severals_of q) (values_of q)) × (length hits.new ≡ length hits.old) }
 {
     for i in 0..n {
-        hits[64 * i] = bit_of(table::matches(table, i, q));
+        hits[i][0] = bit_of(table::matches(table, i, q));
     }
 }
 
@@ -39,7 +39,7 @@ fn ask_one(table: &[Row], n: usize, q: Request, given: &mut [u64])
     ensures { ((i : ℕ) → i < n → bit (get_or given.new i 0) 0 ≡ chained (matches (severals_of q) (values_of q)) table.now (replicate 64 0) n i) × (length given.new ≡ length given.old) }
 {
     let struck = [0u8; 64];
-    let mut hits = [0u64; 4096];
+    let mut hits = [[0u64; 64]; 64];
     match_one(table, n, q, &mut hits);
     let b = Block {
         table,

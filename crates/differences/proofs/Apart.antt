@@ -38,6 +38,6 @@ module _ (f : Bytes) (places : List ElementPlaces) (t : List Row) (n : ℕ) (hit
   decided_apart e = let other : is (decided_at t n hit before m) (decided_at t n hit struck m) ≡ false = not-true _ e in rw other
 
 -- a request that no bit tells of, where the word tells which match an element struck
-pub touched_suspects : (f : Bytes) (places : List ElementPlaces) (t : List Row) (before struck hits : List ℕ) (s : Shape) → HitsLaid t hits s → Untouched f places t before struck s → (block on : ℕ) → Touched struck hits s.n block on → Suspects f places t before struck s block on
+pub touched_suspects : (f : Bytes) (places : List ElementPlaces) (t : List Row) (before struck : List ℕ) (hits : List (List ℕ)) (s : Shape) → HitsLaid t hits s → Untouched f places t before struck s → (block on : ℕ) → Touched struck hits s.n block on → Suspects f places t before struck s block on
 touched_suspects f places t before struck hits s laid untouched block on touched m l e off =
     untouched m l (λ i b gone. sym (rw e at (laid.hits_are i m b l)) ∙ touched (m % 64) i off b gone)

@@ -22,6 +22,7 @@ use Rattle.laws.proofs.Outcomes.{same_decision, decision_same}
 use Rattle.table.specs.declared.Row.{Row}
 use Rattle.table.specs.declared.Shape.{Shape}
 use Rattle.table.specs.Shape.{hit_of}
+use Rattle.blocks.specs.declared.Effects.{Effects}
 use Rattle.blocks.specs.Bits.{decision_by, Answers}
 use Rattle.chains.specs.Chain.{alike, chained, ChainLaid}
 use Rattle.chains.proofs.Chained.{chain_none}
@@ -64,7 +65,7 @@ effect_is false true e = refl
 effect_is false false e = contradiction e refl
 
 -- Requests that are compared under two lists of flags
-module _ (f : Bytes) (places : List ElementPlaces) (t : List Row) (before struck hits outcomes : List ℕ) (s : Shape) (compared : Compared f places t before struck hits outcomes s) where
+module _ (f : Bytes) (places : List ElementPlaces) (t : List Row) (before struck : List ℕ) (hits : List (List ℕ)) (outcomes : List Effects) (s : Shape) (compared : Compared f places t before struck hits outcomes s) where
   abbrev parted : ℕ → Bool
   parted = apart f places t s.n (hit_of s) before struck
 

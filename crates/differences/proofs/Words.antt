@@ -11,6 +11,7 @@ use borrow.Author.Tests.{eqb-true, not-false}
 use Rattle.meaning.specs.Deciding.{bit}
 use Rattle.laws.proofs.Bits.{xor, bit_or_lem, bit_xor_lem}
 use Rattle.laws.proofs.Bools.{or_false}
+use Rattle.table.specs.Words.{word_in}
 use Rattle.outcomes.proofs.Searching.{up_to}
 use Rattle.layout.specs.declared.ElementPlaces.{ElementPlaces}
 use Rattle.layout.specs.Places.{obligation_end}
@@ -40,16 +41,16 @@ module _ (places : List ElementPlaces) (one other : List ℕ) (word i : ℕ) (so
       let (before, here) = or_false (bit word v) (bit (bit_xor a b) v) (sym (bit_or_lem word (bit_xor a b) v) ∙ off) in
       up_to (Agrees v) i (λ k below. so_far v k before below) (λ some. xor_same (bit a v) (bit b v) (sym (bit_xor_lem a b v) ∙ here)) j l
 
-module _ (struck hits : List ℕ) (block word i : ℕ) (so_far : Touched struck hits i block word) where
+module _ (struck : List ℕ) (hits : List (List ℕ)) (block word i : ℕ) (so_far : Touched struck hits i block word) where
   -- element j does not have the bit if it is struck
   abbrev Off : (v j : ℕ) → Type 0
-  Off v j = (get_or struck j 0 ≡ 0 → ⊥) → bit (get_or hits (64 * j + block) 0) v ≡ false
+  Off v j = (get_or struck j 0 ≡ 0 → ⊥) → bit (word_in hits j block) v ≡ false
 
   pub touched_skip : get_or struck i 0 ≡ 0 → Touched struck hits (i + 1) block word
   touched_skip live v j off l = up_to (Off v) i (λ k below. so_far v k off below) (λ gone. absurd (gone live)) j l
 
-  pub touched_next : Touched struck hits (i + 1) block (bit_or word (get_or hits (64 * i + block) 0))
+  pub touched_next : Touched struck hits (i + 1) block (bit_or word (word_in hits i block))
   touched_next v j off l =
-      let here = get_or hits (64 * i + block) 0 in
+      let here = word_in hits i block in
       let (before, own) = or_false (bit word v) (bit here v) (sym (bit_or_lem word here v) ∙ off) in
       up_to (Off v) i (λ k below. so_far v k before below) (λ gone. own) j l

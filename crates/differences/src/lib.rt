@@ -12,7 +12,7 @@ ghost use Rattle.obligations.specs.Given.{any_obliged, Giving};
 ghost use Rattle.differences.specs.Apart.{apart, Compared, Suspects, Untouched, Touched};
 ghost use Rattle.differences.specs.Marks.{Marked, LikeMarks, others_given, Among};
 
-use blocks::Block;
+use blocks::{Block, Effects};
 use layout::ElementPlaces;
 use obligations::Marks;
 use table::{Row, Shape};
@@ -30,8 +30,8 @@ pub struct PolicyFile<'a> {
 #[derive(Clone, Copy)]
 pub struct PolicyOutcomes<'a> {
     pub policy: PolicyFile<'a>,
-    pub hits: &'a [u64],
-    pub outcomes: &'a [u64],
+    pub hits: &'a [[u64; 64]],
+    pub outcomes: &'a [Effects],
     pub obliged: bool,
     pub ghost told: { obliged ≡ any_obliged policy.places.now policy.shape.n },
 }
@@ -74,14 +74,14 @@ fn like_marks(words: &[u64], n: usize, v: usize, on: u64) -> u64
 }
 
 // The requests of the block that match an element struck.
-fn touched(struck: &[u8], hits: &[u64], n: usize, block: usize) -> u64
-    requires { (n ≤ length struck.now) × (n ≤ 64) × (64 * n ≤ length hits.now) × (block < 64) }
+fn touched(struck: &[u8], hits: &[[u64; 64]], n: usize, block: usize) -> u64
+    requires { (n ≤ length struck.now) × (n ≤ 64) × (n ≤ length hits.now) × (block < 64) }
     ensures { Touched struck.now hits.now n block result }
 {
     let mut word = 0;
     for i in 0..n {
         if struck[i] != 0 {
-            word |= hits[64 * i + block];
+            word |= hits[i][block];
         }
     }
     word
@@ -172,7 +172,7 @@ impl<'a> PolicyOutcomes<'a> {
         let given = policy.first_given(
             &one,
             &other,
-            self.outcomes[block],
+            self.outcomes[block].permits,
             suspect,
             64 * block,
             bound,

@@ -76,7 +76,7 @@ module _ (d : Decision) (f : Bytes) (places : List ElementPlaces) where
       ∙ sym (text_last G n)
 
   -- the words that `ask_all` lays down have the chained marks
-  pub text_chained : {t : List Row} {struck hits old new : List ℕ} {n block : ℕ} (v : ℕ) (hit : Element → Bool) → ChainLaid t struck hits n block old new → Answers t hits n block v hit → given_text d (marks_in new v) f places n ≡ given_text d (chained hit t struck n) f places n
+  pub text_chained : {t : List Row} {struck : List ℕ} {hits : List (List ℕ)} {old new : List ℕ} {n block : ℕ} (v : ℕ) (hit : Element → Bool) → ChainLaid t struck hits n block old new → Answers t hits n block v hit → given_text d (marks_in new v) f places n ≡ given_text d (chained hit t struck n) f places n
   text_chained {t} {struck} {new = new} {n} v hit laid answers = text_alike (marks_in new v) (chained hit t struck n) n (laid.bits v hit answers)
 
   -- with a decision that is neither permit nor deny there is no text

@@ -15,6 +15,7 @@ use Rattle.table.specs.Tree.{parent_of, place_or}
 use Rattle.table.specs.declared.Shape.{Shape}
 use Rattle.table.specs.Shape.{hit_of}
 use Rattle.matching.specs.Hits.{HitsLaid}
+use Rattle.blocks.specs.declared.Effects.{Effects}
 use Rattle.outcomes.specs.Decided.{none_struck, outcome_at}
 use Rattle.outcomes.specs.PolicyTable.{OutcomesLaid}
 use Rattle.outcomes.proofs.Laying.{laid_at_lem}
@@ -47,7 +48,7 @@ order_few f places t n hit space (suc k) struck = go (next_at f places t n hit s
 
 module _ (t : List Row) (s : Shape) where
   -- the rules, from the flags that striking left
-  module _ (f : Bytes) (places : List ElementPlaces) (outcomes flags old order behind shown : List ℕ) (count : ℕ) (trims : Trims f places t outcomes s none_struck flags old order count) where
+  module _ (f : Bytes) (places : List ElementPlaces) (outcomes : List Effects) (flags old order behind shown : List ℕ) (count : ℕ) (trims : Trims f places t outcomes s none_struck flags old order count) where
     pub rules_found : shown ≡ map (shown_at f places t s.n (hit_of s) s.space flags) (counting 0 s.n) ++ behind → RulesFound f places t s.n (hit_of s) s.space order shown count
     rules_found e =
         let end = trimmed_at f places t s.n (hit_of s) s.space in
@@ -61,7 +62,7 @@ module _ (t : List Row) (s : Shape) where
 
   -- segments, from the words of all requests
   pub segments_found : (words sizes : List ℕ) {decided : List Decision} (rows a b : List ℕ) → Applied t s.n (hit_of s) s.space rows → words ≡ map (word_across rows s.n) (counting 0 s.space) ++ a
-      → sizes ≡ map (size_at words s.space) (counting 0 s.space) ++ b → (outcomes : List ℕ) (y : List Decision) → OutcomesLaid t none_struck outcomes s → decided ≡ map (outcome_at outcomes) (counting 0 s.space) ++ y → SegmentsFound t s.n (hit_of s) s.space words sizes decided
+      → sizes ≡ map (size_at words s.space) (counting 0 s.space) ++ b → (outcomes : List Effects) (y : List Decision) → OutcomesLaid t none_struck outcomes s → decided ≡ map (outcome_at outcomes) (counting 0 s.space) ++ y → SegmentsFound t s.n (hit_of s) s.space words sizes decided
   segments_found words sizes rows a b applied marked measured outcomes y holds decides =
       record {
         applying = λ m l. laid_at_lem 0 (word_across rows s.n) s.space a marked m l ∙ across_applying t s.n (hit_of s) s.space rows applied m l;
@@ -79,7 +80,7 @@ module _ (t : List Row) (s : Shape) where
       }
 
 -- what trimming asks, of a policy that is held
-pub laid : (f : List ℕ) (table : List Row) (places : List ElementPlaces) (hits outcomes : List ℕ) (s : Shape) (held : PolicyHeld f table places s) → HitsLaid table hits s → OutcomesLaid table none_struck outcomes s → Laid f places table none_struck hits outcomes s
+pub laid : (f : List ℕ) (table : List Row) (places : List ElementPlaces) (hits : List (List ℕ)) (outcomes : List Effects) (s : Shape) (held : PolicyHeld f table places s) → HitsLaid table hits s → OutcomesLaid table none_struck outcomes s → Laid f places table none_struck hits outcomes s
 laid f table places hits outcomes s held matched holds = record { steady = steady f held.policy held.is_read table places s held.elements held.obliged; ready = held.ready; matched = matched; holds = holds }
 
 -- each place struck has a name

@@ -15,6 +15,7 @@ ghost use Rattle.report_lines.specs.Lines.{segment_text, conflict_text, struck_t
 ghost use Rattle.report_lines.specs.Ready.{Ordered};
 ghost use Rattle.reporting.specs.Found.{SegmentsFound, ConflictsFound, RulesFound};
 
+use blocks::Effects;
 use differences::{PolicyFile, PolicyOutcomes};
 use layout::ElementPlaces;
 use meaning::{Answer, Decision};
@@ -22,8 +23,8 @@ use report_lines::{put_conflicts, put_kept, put_segments, put_struck};
 use table::{Row, Shape};
 
 // Lays down which requests match each element, and what each request gets.
-fn find_decisions(table: &[Row], shape: Shape, hits: &mut [u64], outcomes: &mut [u64])
-    requires { PolicyTable table.now none_struck shape × (4096 ≤ length hits.old) × (128 ≤ length outcomes.old) }
+fn find_decisions(table: &[Row], shape: Shape, hits: &mut [[u64; 64]], outcomes: &mut [Effects])
+    requires { PolicyTable table.now none_struck shape × (64 ≤ length hits.old) × (64 ≤ length outcomes.old) }
     ensures { HitsLaid table.now hits.new shape × OutcomesLaid table.now none_struck outcomes.new shape }
 {
     let struck = [0u8; 64];
@@ -40,7 +41,7 @@ struct Segments {
 
 impl Segments {
     fn find(&mut self, o: &PolicyOutcomes)
-        requires { let p = o.now.policy in Laid p.file.now p.places.now p.table.now none_struck o.now.hits.now o.now.outcomes.now p.shape × (4096 ≤ length o.now.hits.now) }
+        requires { let p = o.now.policy in Laid p.file.now p.places.now p.table.now none_struck o.now.hits.now o.now.outcomes.now p.shape × (64 ≤ length o.now.hits.now) }
         ensures { let p = o.now.policy in SegmentsFound p.table.now p.shape.n (hit_of p.shape) p.shape.space self.new.words self.new.sizes self.new.decided }
     {
         let shape = o.policy.shape;
@@ -64,7 +65,7 @@ struct Conflicts {
 impl Conflicts {
     // The rows of the elements that apply lie in `rows`.
     fn find(&mut self, o: &PolicyOutcomes, rows: &mut [u64; 4096])
-        requires { let p = o.now.policy in Laid p.file.now p.places.now p.table.now none_struck o.now.hits.now o.now.outcomes.now p.shape × (4096 ≤ length o.now.hits.now) }
+        requires { let p = o.now.policy in Laid p.file.now p.places.now p.table.now none_struck o.now.hits.now o.now.outcomes.now p.shape × (64 ≤ length o.now.hits.now) }
         ensures { let p = o.now.policy in ConflictsFound p.table.now p.shape.n (hit_of p.shape) p.shape.space self.new.parents self.new.pairs }
     {
         let table = o.policy.table;
@@ -140,7 +141,7 @@ fn put_lines(
 
 // Finds what there is to report besides decisions. The lines are counted first, and then the same code writes them.
 fn write_lines(o: &PolicyOutcomes, out: &mut [u8]) -> Answer
-    requires { let p = o.now.policy in PolicyHeld p.file.now p.table.now p.places.now p.shape × HitsLaid p.table.now o.now.hits.now p.shape × (4096 ≤ length o.now.hits.now) × OutcomesLaid p.table.now none_struck o.now.outcomes.now p.shape }
+    requires { let p = o.now.policy in PolicyHeld p.file.now p.table.now p.places.now p.shape × HitsLaid p.table.now o.now.hits.now p.shape × (64 ≤ length o.now.hits.now) × OutcomesLaid p.table.now none_struck o.now.outcomes.now p.shape }
     ensures value { result ≡ report_answer o.now.policy.file.now out.old }
     ensures out_after { out.new ≡ report_lent o.now.policy.file.now out.old }
 {
@@ -181,8 +182,8 @@ pub fn report(
     ensures value { result ≡ report_answer file.now out.old }
     ensures out_after { out.new ≡ report_lent file.now out.old }
 {
-    let mut hits = [0u64; 4096];
-    let mut outcomes = [0u64; 128];
+    let mut hits = [[0u64; 64]; 64];
+    let mut outcomes = [Effects::NONE; 64];
     find_decisions(table, shape, &mut hits, &mut outcomes);
     let policy = PolicyFile {
         file,

@@ -2,13 +2,14 @@
 use Prim.Native.Nat.{ℕ, ◌+◌, ◌*◌, ◌/◌, ◌%◌, ◌≤◌, ◌<◌, zero-le}
 use mathlib.Core.Path.{◌≡◌, refl, sym, ap, ◌∙◌}
 use mathlib.Core.Bool.{Bool, true, false, not, ◌&&◌, and-true, and_assoc}
-use mathlib.Core.List.{List}
+use mathlib.Core.List.{List, []}
+use mathlib.Core.Logic.{◌≢◌}
 use native.Mathlib.Omega.{arith}
-use lib.Dec.{eqb}
+use lib.Dec.{leb, eqb}
 use lib.Bits.{bit_and}
 use lib.ListN.{length, get_or, set, length-set, replicate, get_or-replicate}
 use lib.Seq.{get_or-set_same, get_or-set_other}
-use borrow.Author.Tests.{eqb-true, eqb-false}
+use borrow.Author.Tests.{leb-true, leb-false, eqb-true, eqb-false}
 use Rattle.meaning.specs.declared.Decision.{Decision}
 use Rattle.meaning.specs.declared.Decision.TheVariants.{NotApplicable}
 use Rattle.meaning.specs.declared.Element.{Element}
@@ -18,6 +19,7 @@ use Rattle.laws.proofs.Search.{first_none}
 use Rattle.laws.proofs.Bools.{Test, passed, failed, test}
 use Rattle.table.specs.declared.Row.{Row}
 use Rattle.table.specs.Rows.{element_at, depth_of}
+use Rattle.table.specs.Words.{word_in}
 use Rattle.std.specs.Prelude.{None}
 use Rattle.laws.specs.Found.{found}
 use Rattle.table.specs.Tree.{before, parent_of}
@@ -26,39 +28,39 @@ use Rattle.table.specs.Shape.{hit_of}
 use Rattle.table.proofs.Above.{Parent, top}
 use Rattle.decisions.specs.Replies.{reply_at}
 use Rattle.matching.specs.Hits.{bit_of, words_of, Rest}
-use Rattle.matching.proofs.Copying.{PlaneCopied, outside}
+use Rattle.matching.proofs.Copying.{PlaneCopied}
 use Rattle.blocks.specs.declared.Replies.{Replies}
 use Rattle.blocks.specs.Bits.{decision_by, reply_bit, Answers}
 use Rattle.rows.specs.Words.{applies_at, gives_at}
 use Rattle.rows.specs.Rows.{Applied, Given, Narrowed, AppliedRow, Marked}
 
--- Row `new` is `old` with the words of `hits` from `at` on, up to word b
-pub record Narrows (hits : List ℕ) (at : ℕ) (old new : List ℕ) (b : ℕ) : Type 0 where
+-- Row `new` is `old` narrowed by the row `own`, up to word b
+pub record Narrows (own old new : List ℕ) (b : ℕ) : Type 0 where
   pub size : length new ≡ length old
-  pub done : (k : ℕ) → k < b → get_or new k 0 ≡ bit_and (get_or old k 0) (get_or hits (at + k) 0)
+  pub done : (k : ℕ) → k < b → get_or new k 0 ≡ bit_and (get_or old k 0) (get_or own k 0)
   pub rest : (k : ℕ) → b ≤ k → get_or new k 0 ≡ get_or old k 0
 
-module _ (hits : List ℕ) (at : ℕ) (old : List ℕ) where
-  pub narrows_none : Narrows hits at old old 0
+module _ (own old : List ℕ) where
+  pub narrows_none : Narrows own old old 0
   narrows_none = record { size = refl; done = λ k l. absurd (omega arith); rest = λ k l. refl }
 
-  pub narrows_next : (new : List ℕ) (b : ℕ) → b < length new → Narrows hits at old new b → Narrows hits at old (set new b (bit_and (get_or new b 0) (get_or hits (at + b) 0))) (b + 1)
+  pub narrows_next : (new : List ℕ) (b : ℕ) → b < length new → Narrows own old new b → Narrows own old (set new b (bit_and (get_or new b 0) (get_or own b 0))) (b + 1)
   narrows_next new b room so_far =
       record {
-        size = length-set new b (bit_and (get_or new b 0) (get_or hits (at + b) 0)) ∙ so_far.size;
+        size = length-set new b (bit_and (get_or new b 0) (get_or own b 0)) ∙ so_far.size;
         done = λ k l. go k l (test (eqb k b));
         rest = λ k l. get_or-set_other new b k _ 0 (omega arith) ∙ so_far.rest k (omega arith);
       }
     where
-      go : (k : ℕ) → k < b + 1 → Test (eqb k b) → get_or (set new b (bit_and (get_or new b 0) (get_or hits (at + b) 0))) k 0 ≡ bit_and (get_or old k 0) (get_or hits (at + k) 0)
-      go k l (passed e) = rw (eqb-true k b e) (get_or-set_same new b _ 0 room ∙ ap (λ w. bit_and w (get_or hits (at + b) 0)) (so_far.rest b (omega arith)))
+      go : (k : ℕ) → k < b + 1 → Test (eqb k b) → get_or (set new b (bit_and (get_or new b 0) (get_or own b 0))) k 0 ≡ bit_and (get_or old k 0) (get_or own k 0)
+      go k l (passed e) = rw (eqb-true k b e) (get_or-set_same new b _ 0 room ∙ ap (λ w. bit_and w (get_or own b 0)) (so_far.rest b (omega arith)))
       go k l (failed e) = let apart = eqb-false k b e in get_or-set_other new b k _ 0 apart ∙ so_far.done k (omega (arith, apart))
 
 -- Element i with no parent, and with one
-module _ (t : List Row) (hits : List ℕ) (n blocks i : ℕ) (inside : i < n) (old mid : List ℕ)
-    (own : (b : ℕ) → b < blocks → get_or mid b 0 ≡ bit_and (get_or old b 0) (get_or hits (64 * i + b) 0)) where
+module _ (t : List Row) (hits : List (List ℕ)) (n blocks i : ℕ) (inside : i < n) (old mid : List ℕ)
+    (own : (b : ℕ) → b < blocks → get_or mid b 0 ≡ bit_and (get_or old b 0) (word_in hits i b)) where
   own_bit : (b v : ℕ) (hit : Element → Bool) → b < blocks → Answers t hits n b v hit → bit (get_or mid b 0) v ≡ (bit (get_or old b 0) v && hit (element_at t i))
-  own_bit b v hit l answers = ap (λ w. bit w v) (own b l) ∙ bit_and_lem (get_or old b 0) (get_or hits (64 * i + b) 0) v ∙ ap (λ x. bit (get_or old b 0) v && x) (answers i inside)
+  own_bit b v hit l answers = ap (λ w. bit w v) (own b l) ∙ bit_and_lem (get_or old b 0) (word_in hits i b) v ∙ ap (λ x. bit (get_or old b 0) v && x) (answers i inside)
 
   pub narrowed_top : None ≡ found (parent_of t i) → Narrowed t hits n blocks i old mid
   unfolding element_at
@@ -83,71 +85,121 @@ full v l = set_bit (bit 18446744073709551615 v) (first_none (λ k. not (bit 1844
     set_bit false e = sym e
 
 -- a row narrowed from ones
-pub row_applied : (t : List Row) (hits : List ℕ) (n blocks i : ℕ) (row : List ℕ) → blocks ≤ 64 → Narrowed t hits n blocks i (replicate 64 18446744073709551615) row → AppliedRow t hits n blocks i row
+pub row_applied : (t : List Row) (hits : List (List ℕ)) (n blocks i : ℕ) (row : List ℕ) → blocks ≤ 64 → Narrowed t hits n blocks i (replicate 64 18446744073709551615) row → AppliedRow t hits n blocks i row
 row_applied t hits n blocks i row few narrowed b v hit l u answers =
     narrowed b v hit l answers ∙ rw (get_or-replicate {A = ℕ} 64 b 18446744073709551615 0 (omega arith), full v u)
 
--- What each bit of the rows says, by the test of targets that it answers: of the elements and blocks before word k; all other words are as they were
-module _ (F : (Element → Bool) → ℕ → Bool) (t : List Row) (hits : List ℕ) (n blocks : ℕ) where
-  pub record Filled (old rows : List ℕ) (k : ℕ) : Type 0 where
+-- a word of row i that is none of its first ones
+past_row : {blocks : ℕ} (i b : ℕ) → blocks ≤ 64 → (64 * i + b < 64 * (i + 1) → blocks ≤ b) → blocks ≤ b
+past_row {blocks} i b few h = go (test (leb 64 b))
+  where
+    go : Test (leb 64 b) → blocks ≤ b
+    go (passed e) = let past = leb-true 64 b e in omega arith
+    go (failed e) = let inside = leb-false 64 b e in h (omega arith)
+
+-- the rows are as long as they were
+abbrev pub SameWidths : List (List ℕ) → List (List ℕ) → Type 0
+SameWidths old rows = (i : ℕ) → length (get_or rows i []) ≡ length (get_or old i [])
+
+pub widths_next : (old rows : List (List ℕ)) (i b w : ℕ) → SameWidths old rows → i < length rows → SameWidths old (set rows i (set (get_or rows i []) b w))
+widths_next old rows i b w so_far inside j = go (test (eqb j i))
+  where
+    row : List ℕ
+    row = set (get_or rows i []) b w
+
+    go : Test (eqb j i) → length (get_or (set rows i row) j []) ≡ length (get_or old j [])
+    go (passed e) = rw (eqb-true j i e) (ap length (get_or-set_same rows i row [] inside) ∙ length-set (get_or rows i []) b w ∙ so_far i)
+    go (failed e) = ap length (get_or-set_other rows i j row [] (eqb-false j i e)) ∙ so_far j
+
+-- What each bit of the rows says, by the test of targets that it answers: of the elements and blocks before the k-th word, where 64 stand in a row; all other words are as they were
+module _ (F : (Element → Bool) → ℕ → Bool) (t : List Row) (hits : List (List ℕ)) (n blocks : ℕ) where
+  pub record Filled (old rows : List (List ℕ)) (k : ℕ) : Type 0 where
     pub size : length rows ≡ length old
-    pub bits : (i b v : ℕ) (hit : Element → Bool) → i < n → b < blocks → v < 64 → 64 * i + b < k → Answers t hits n b v hit → bit (get_or rows (64 * i + b) 0) v ≡ F hit i
-    pub others : (j : ℕ) → (j < k → blocks ≤ j % 64) → get_or rows j 0 ≡ get_or old j 0
+    pub bits : (i b v : ℕ) (hit : Element → Bool) → i < n → b < blocks → v < 64 → 64 * i + b < k → Answers t hits n b v hit → bit (word_in rows i b) v ≡ F hit i
+    pub others : (i b : ℕ) → (64 * i + b < k → blocks ≤ b) → word_in rows i b ≡ word_in old i b
 
-  pub filled_none : (old : List ℕ) → Filled old old 0
-  filled_none old = record { size = refl; bits = λ i b v hit l u w a answers. absurd (omega arith); others = λ j h. refl }
+  pub filled_none : (old : List (List ℕ)) → Filled old old 0
+  filled_none old = record { size = refl; bits = λ i b v hit l u w a answers. absurd (omega arith); others = λ i b h. refl }
 
-  module _ {old rows : List ℕ} {k : ℕ} (so_far : Filled old rows k) (few : blocks ≤ 64) where
-    -- word k is of no block
-    pub filled_skip : blocks ≤ k % 64 → Filled old rows (k + 1)
-    filled_skip past = record { size = so_far.size; bits = λ i b v hit l u w a answers. so_far.bits i b v hit l u w (omega arith) answers; others = λ j h. so_far.others j (λ l. h (omega arith)) }
-
-    -- word k is laid down
-    pub filled_next : (w : ℕ) → k < length rows → k % 64 < blocks → ((v : ℕ) (hit : Element → Bool) → v < 64 → Answers t hits n (k % 64) v hit → bit w v ≡ F hit (k / 64)) → Filled old (set rows k w) (k + 1)
-    filled_next w room block word =
+  module _ {old rows : List (List ℕ)} {k : ℕ} (so_far : Filled old rows k) (few : blocks ≤ 64) where
+    -- all blocks of a row
+    pub filled_end : (i : ℕ) → k ≡ 64 * i + blocks → Filled old rows (64 * (i + 1))
+    filled_end i end =
         record {
-          size = length-set rows k w ∙ so_far.size;
-          bits = λ i b v hit l u x a answers. go i b v hit l u x a answers (test (eqb (64 * i + b) k));
-          others = λ j h. get_or-set_other rows k j w 0 (λ e. let no = h (omega arith) in omega arith) ∙ so_far.others j (λ l. h (omega arith));
+          size = so_far.size;
+          bits = λ j b v hit l u x a answers. so_far.bits j b v hit l u x (omega arith) answers;
+          others = λ j b h. so_far.others j b (λ l. h (omega arith));
+        }
+
+    -- word b of row i is laid down
+    pub filled_next : (i b w : ℕ) → k ≡ 64 * i + b → i < length rows → b < length (get_or rows i []) → b < blocks → ((v : ℕ) (hit : Element → Bool) → v < 64 → Answers t hits n b v hit → bit w v ≡ F hit i) → Filled old (set rows i (set (get_or rows i []) b w)) (k + 1)
+    filled_next i b w at inside room block word =
+        record {
+          size = length-set rows i row ∙ so_far.size;
+          bits = λ j c v hit l u x a answers. go j c v hit l u x a answers (test (eqb j i)) (test (eqb c b));
+          others = λ j c h. stays j c (λ e f. let no = h (omega arith) in omega arith) ∙ so_far.others j c (λ l. h (omega arith));
         }
       where
-        go : (i b v : ℕ) (hit : Element → Bool) → i < n → b < blocks → v < 64 → 64 * i + b < k + 1 → Answers t hits n b v hit → Test (eqb (64 * i + b) k) → bit (get_or (set rows k w) (64 * i + b) 0) v ≡ F hit i
-        go i b v hit l u x a answers (passed e) =
-            let at = eqb-true (64 * i + b) k e in
-            let block : b ≡ k % 64 = omega arith in
-            let place : k / 64 ≡ i = omega arith in
-            ap (λ y. bit y v) (ap (λ y. get_or (set rows k w) y 0) at ∙ get_or-set_same rows k w 0 room) ∙ rw place at (word v hit x (rw block at answers))
-        go i b v hit l u x a answers (failed e) =
-            let other = eqb-false (64 * i + b) k e in
-            ap (λ y. bit y v) (get_or-set_other rows k (64 * i + b) w 0 other) ∙ so_far.bits i b v hit l u x (omega (arith, other)) answers
+        row : List ℕ
+        row = set (get_or rows i []) b w
+
+        -- the other words of the row, and the other rows
+        beside : (c : ℕ) → c ≢ b → word_in (set rows i row) i c ≡ word_in rows i c
+        beside c apart = ap (λ r. get_or r c 0) (get_or-set_same rows i row [] inside) ∙ get_or-set_other (get_or rows i []) b c w 0 apart
+
+        elsewhere : (j c : ℕ) → j ≢ i → word_in (set rows i row) j c ≡ word_in rows j c
+        elsewhere j c apart = ap (λ r. get_or r c 0) (get_or-set_other rows i j row [] apart)
+
+        stays : (j c : ℕ) → (j ≡ i → c ≢ b) → word_in (set rows i row) j c ≡ word_in rows j c
+        stays j c apart = by (test (eqb j i))
+          where
+            by : Test (eqb j i) → word_in (set rows i row) j c ≡ word_in rows j c
+            by (passed e) = let same = eqb-true j i e in rw same (beside c (apart same))
+            by (failed e) = elsewhere j c (eqb-false j i e)
+
+        here : word_in (set rows i row) i b ≡ w
+        here = ap (λ r. get_or r b 0) (get_or-set_same rows i row [] inside) ∙ get_or-set_same (get_or rows i []) b w 0 room
+
+        go : (j c v : ℕ) (hit : Element → Bool) → j < n → c < blocks → v < 64 → 64 * j + c < k + 1 → Answers t hits n c v hit → Test (eqb j i) → Test (eqb c b) → bit (word_in (set rows i row) j c) v ≡ F hit j
+        go j c v hit l u x a answers (passed e) (passed f) =
+            let same = eqb-true j i e in
+            let there = eqb-true c b f in
+            rw (same, there) (ap (λ y. bit y v) here ∙ word v hit x (rw there at answers))
+        go j c v hit l u x a answers (passed e) (failed f) =
+            let same = eqb-true j i e in
+            let apart = eqb-false c b f in
+            ap (λ y. bit y v) (stays j c (λ _. apart)) ∙ so_far.bits j c v hit l u x (omega (arith, same, apart)) answers
+        go j c v hit l u x a answers (failed e) _ =
+            let apart = eqb-false j i e in
+            ap (λ y. bit y v) (elsewhere j c apart) ∙ so_far.bits j c v hit l u x (omega (arith, apart)) answers
 
     -- a row is laid down
-    pub filled_row : {i : ℕ} (row new : List ℕ) → k ≡ 64 * i → length new ≡ length rows → ((b v : ℕ) (hit : Element → Bool) → b < blocks → v < 64 → Answers t hits n b v hit → bit (get_or row b 0) v ≡ F hit i) → PlaneCopied row blocks (64 * i) rows new → Filled old new (64 * (i + 1))
+    pub filled_row : {i : ℕ} (row : List ℕ) (new : List (List ℕ)) → k ≡ 64 * i → length new ≡ length rows → ((b v : ℕ) (hit : Element → Bool) → b < blocks → v < 64 → Answers t hits n b v hit → bit (get_or row b 0) v ≡ F hit i) → PlaneCopied row blocks i rows new → Filled old new (64 * (i + 1))
     filled_row {i} row new from same here copied =
         record {
           size = same ∙ so_far.size;
           bits = λ j b v hit l u x a answers. go j b v hit l u x a answers (test (eqb j i));
-          others = λ j h. copied.others j (outside i j few h) ∙ so_far.others j (λ l. h (omega arith));
+          others = λ j b h. copied.others j b (λ e. past_row i b few (λ l. h (omega (arith, e)))) ∙ so_far.others j b (λ l. h (omega arith));
         }
       where
-        go : (j b v : ℕ) (hit : Element → Bool) → j < n → b < blocks → v < 64 → 64 * j + b < 64 * (i + 1) → Answers t hits n b v hit → Test (eqb j i) → bit (get_or new (64 * j + b) 0) v ≡ F hit j
+        go : (j b v : ℕ) (hit : Element → Bool) → j < n → b < blocks → v < 64 → 64 * j + b < 64 * (i + 1) → Answers t hits n b v hit → Test (eqb j i) → bit (word_in new j b) v ≡ F hit j
         go j b v hit l u x a answers (passed e) = rw (eqb-true j i e) (ap (λ y. bit y v) (copied.here b u) ∙ here b v hit u x answers)
         go j b v hit l u x a answers (failed e) =
             let other = eqb-false j i e in
-            ap (λ y. bit y v) (copied.others (64 * j + b) (λ a. omega (arith, other))) ∙ so_far.bits j b v hit l u x (omega (arith, other)) answers
+            ap (λ y. bit y v) (copied.others j b (λ same. absurd (other same))) ∙ so_far.bits j b v hit l u x (omega (arith, other)) answers
 
 -- no bit of them behind the requests, where the test fails if no target matches
-pub filled_rest : (F : (Element → Bool) → ℕ → Bool) (t : List Row) (s : Shape) (hits : List ℕ) {old rows : List ℕ} {k : ℕ} → ((i : ℕ) → F (λ e. false) i ≡ false) → Marked t s hits → k ≡ 64 * s.n
+pub filled_rest : (F : (Element → Bool) → ℕ → Bool) (t : List Row) (s : Shape) (hits : List (List ℕ)) {old rows : List (List ℕ)} {k : ℕ} → ((i : ℕ) → F (λ e. false) i ≡ false) → Marked t s hits → k ≡ 64 * s.n
     → Filled F t hits s.n (words_of s.space) old rows k → Rest s.n s.space old rows
 filled_rest F t s hits none matched end filled =
     record {
       same_length = filled.size;
       clear = λ i m l past u. filled.bits i (m / 64) (m % 64) (λ e. false) l (omega arith) (omega arith) (omega (arith, matched.small)) (λ j a. matched.clear j m a past u) ∙ none i;
-      others = λ j h. filled.others j (λ l. h (omega arith));
+      others = λ i b h. filled.others i b (λ l. h (omega arith));
     }
 
 -- all of them, of requests
-pub filled_requests : (F : (Element → Bool) → ℕ → Bool) (t : List Row) (s : Shape) (hits : List ℕ) {old rows : List ℕ} {k : ℕ} → Marked t s hits → 64 * s.n ≤ k → Filled F t hits s.n (words_of s.space) old rows k
+pub filled_requests : (F : (Element → Bool) → ℕ → Bool) (t : List Row) (s : Shape) (hits : List (List ℕ)) {old rows : List (List ℕ)} {k : ℕ} → Marked t s hits → 64 * s.n ≤ k → Filled F t hits s.n (words_of s.space) old rows k
     → (i m : ℕ) → i < s.n → m < s.space → bit_of rows i m ≡ F (hit_of s m) i
 filled_requests F t s hits matched all filled i m l u =
     filled.bits i (m / 64) (m % 64) (hit_of s m) l (omega arith) (omega arith) (omega (arith, matched.small)) (λ j a. matched.each j m a u)
@@ -159,7 +211,15 @@ applying t hit i = applies hit (before t i) (element_at t i)
 abbrev pub giving : Decision → List Row → List ℕ → ℕ → (Element → Bool) → ℕ → Bool
 giving d t struck n hit i = is d (reply_at hit t struck n i).decision
 
-module _ (t : List Row) (s : Shape) (hits : List ℕ) {old rows : List ℕ} {k : ℕ} (matched : Marked t s hits) (all : 64 * s.n ≤ k) where
+-- Up to the k-th word, the rows say on which requests each element gives permit, and on which deny
+pub record Gives (t : List Row) (struck : List ℕ) (hits : List (List ℕ)) (n blocks : ℕ) (old_permits permits old_denies denies : List (List ℕ)) (k : ℕ) : Type 0 where
+  pub few : blocks ≤ 64
+  pub permit_bits : Filled (giving Decision.Permit t struck n) t hits n blocks old_permits permits k
+  pub permit_widths : SameWidths old_permits permits
+  pub deny_bits : Filled (giving Decision.Deny t struck n) t hits n blocks old_denies denies k
+  pub deny_widths : SameWidths old_denies denies
+
+module _ (t : List Row) (s : Shape) (hits : List (List ℕ)) {old rows : List (List ℕ)} {k : ℕ} (matched : Marked t s hits) (all : 64 * s.n ≤ k) where
   pub applied_all : Filled (applying t) t hits s.n (words_of s.space) old rows k → Applied t s.n (hit_of s) s.space rows
   unfolding applies_at
   applied_all = filled_requests (applying t) t s hits matched all

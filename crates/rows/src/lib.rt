@@ -23,29 +23,30 @@ pub fn has(word: u64, i: usize) -> bool
     (word >> i) % 2 == 1
 }
 
-// Keeps of a row the bits that the words of `hits` from `at` on have too.
-fn narrow(hits: &[u64], at: usize, blocks: usize, row: &mut [u64])
-    requires { (at + blocks ≤ length hits.now) × (blocks ≤ length row.old) }
-    ensures { (b : ℕ) → b < blocks → get_or row.new b 0 ≡ bit_and (get_or row.old b 0) (get_or hits.now (at + b) 0) }
+// Keeps of a row the bits that another one has too.
+fn narrow(own: &[u64; 64], blocks: usize, row: &mut [u64])
+    requires { (blocks ≤ 64) × (blocks ≤ length row.old) }
+    ensures { (b : ℕ) → b < blocks → get_or row.new b 0 ≡ bit_and (get_or row.old b 0) (get_or own.now b 0) }
 {
     for b in 0..blocks {
-        row[b] &= hits[at + b];
+        row[b] &= own[b];
     }
 }
 
 // Keeps of a row the requests to which element i applies: that match its own target, and to which its parent applies.
-fn apply(table: &[Row], hits: &[u64], n: usize, blocks: usize, i: usize, row: &mut [u64])
+// (It calls itself on the parent, as the paper says it: at most seven stand above an element.)
+fn apply(table: &[Row], hits: &[[u64; 64]], n: usize, blocks: usize, i: usize, row: &mut [u64])
     requires { Rowed table.now hits.now n blocks × (i < n) × (blocks ≤ length row.old) }
     ensures { Narrowed table.now hits.now n blocks i row.old row.new }
 {
-    narrow(hits, 64 * i, blocks, row);
+    narrow(&hits[i], blocks, row);
     if let Some(up) = table::parent(table, i) {
         apply(table, hits, n, blocks, up, row);
     }
 }
 
 // The requests to which element i applies.
-fn row_of(table: &[Row], hits: &[u64], n: usize, blocks: usize, i: usize) -> [u64; 64]
+fn row_of(table: &[Row], hits: &[[u64; 64]], n: usize, blocks: usize, i: usize) -> [u64; 64]
     requires { Rowed table.now hits.now n blocks × (i < n) }
     ensures { AppliedRow table.now hits.now n blocks i result }
 {
@@ -55,15 +56,15 @@ fn row_of(table: &[Row], hits: &[u64], n: usize, blocks: usize, i: usize) -> [u6
 }
 
 // Lays down the requests to which each element applies. All other words stay.
-pub fn apply_all(table: &[Row], hits: &[u64], shape: Shape, applied: &mut [u64])
-    requires { Marked table.now shape hits.now × (4096 ≤ length applied.old) }
+pub fn apply_all(table: &[Row], hits: &[[u64; 64]], shape: Shape, applied: &mut [[u64; 64]])
+    requires { Marked table.now shape hits.now × (64 ≤ length applied.old) }
     ensures { Applied table.now shape.n (hit_of shape) shape.space applied.new × Rest shape.n shape.space applied.old applied.new }
 {
     let n = shape.n;
     let blocks = (shape.space + 63) / 64;
     for i in 0..n {
         let row = row_of(table, hits, n, blocks, i);
-        matching::copy_plane(&row, blocks, 64 * i, applied);
+        matching::copy_plane(&row, blocks, &mut applied[i]);
     }
 }
 
@@ -71,31 +72,29 @@ pub fn apply_all(table: &[Row], hits: &[u64], shape: Shape, applied: &mut [u64])
 pub fn give_all(
     table: &[Row],
     struck: &[u8],
-    hits: &[u64],
+    hits: &[[u64; 64]],
     shape: Shape,
-    permits: &mut [u64],
-    denies: &mut [u64],
+    permits: &mut [[u64; 64]],
+    denies: &mut [[u64; 64]],
 )
-    requires { Marked table.now shape hits.now × (shape.n ≤ length struck.now) × (4096 ≤ length permits.old) × (4096 ≤ length denies.old) }
+    requires { Marked table.now shape hits.now × (shape.n ≤ length struck.now) × (64 ≤ length permits.old) × (64 ≤ length denies.old) }
     ensures { Given Decision.Permit table.now struck.now shape.n (hit_of shape) shape.space permits.new × Given Decision.Deny table.now struck.now shape.n (hit_of shape) shape.space denies.new × Rest shape.n shape.space permits.old permits.new × Rest shape.n shape.space denies.old denies.new }
 {
     let n = shape.n;
     let blocks = (shape.space + 63) / 64;
-    for k in 0..64 * n {
-        let block = k % 64;
-        if blocks <= block {
-            continue;
+    for i in 0..n {
+        for block in 0..blocks {
+            let b = Block {
+                table,
+                struck,
+                hits,
+                n,
+                block,
+            };
+            let given = b.reply(i).given;
+            permits[i][block] = given.permitted();
+            denies[i][block] = given.denied();
         }
-        let b = Block {
-            table,
-            struck,
-            hits,
-            n,
-            block,
-        };
-        let given = b.reply(k / 64).given;
-        permits[k] = given.permitted();
-        denies[k] = given.denied();
     }
 }
 

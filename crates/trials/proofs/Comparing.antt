@@ -11,6 +11,7 @@ use Rattle.meaning.specs.Deciding.{Outcome, same_outcome}
 use Rattle.table.specs.declared.Row.{Row}
 use Rattle.table.specs.declared.Shape.{Shape}
 use Rattle.table.specs.Shape.{hit_of}
+use Rattle.blocks.specs.declared.Effects.{Effects}
 use Rattle.moves.specs.Moved.{kept}
 use Rattle.outcomes.specs.Decided.{decided_at}
 use Rattle.outcomes.specs.Changes.{InBlock}
@@ -21,7 +22,7 @@ use Rattle.trials.specs.Trial.{Trial, Copied}
 use Rattle.trials.proofs.Copying.{outcome_copied, copied_kept}
 use Rattle.layout.specs.declared.ElementPlaces.{ElementPlaces}
 
-module _ (f : Bytes) (places : List ElementPlaces) (t : List Row) (struck hits outcomes : List ℕ) (s : Shape) (rule : ℕ) (trial : Trial f places t struck hits outcomes s rule) (copy : List ℕ) (room : s.n ≤ length copy) (copied : Copied struck s.n copy) where
+module _ (f : Bytes) (places : List ElementPlaces) (t : List Row) (struck : List ℕ) (hits : List (List ℕ)) (outcomes : List Effects) (s : Shape) (rule : ℕ) (trial : Trial f places t struck hits outcomes s rule) (copy : List ℕ) (room : s.n ≤ length copy) (copied : Copied struck s.n copy) where
   abbrev before : List ℕ
   before = kept copy rule
 

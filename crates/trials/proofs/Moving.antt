@@ -18,6 +18,8 @@ use Rattle.table.specs.Rows.{element_at}
 use Rattle.table.specs.declared.Shape.{Shape}
 use Rattle.table.specs.Shape.{hit_of}
 use Rattle.decisions.specs.Replies.{reply_at}
+use Rattle.table.specs.Words.{word_in}
+use Rattle.blocks.specs.declared.Effects.{Effects}
 use Rattle.blocks.specs.Bits.{Fits, Lowest}
 use Rattle.moves.specs.Moved.{kept, moved_at, Under, Child}
 use Rattle.outcomes.specs.Changes.{InBlock, FirstInBlock}
@@ -30,7 +32,7 @@ use Rattle.trials.specs.Trial.{Grouped, Trial, Reached}
 use Rattle.layout.specs.declared.ElementPlaces.{ElementPlaces}
 
 -- Rule `rule`, which is tried
-module _ (f : Bytes) (places : List ElementPlaces) (t : List Row) (struck hits outcomes : List ℕ) (s : Shape) (rule : ℕ) (trial : Trial f places t struck hits outcomes s rule) where
+module _ (f : Bytes) (places : List ElementPlaces) (t : List Row) (struck : List ℕ) (hits : List (List ℕ)) (outcomes : List Effects) (s : Shape) (rule : ℕ) (trial : Trial f places t struck hits outcomes s rule) where
   abbrev parted : ℕ → Bool
   parted = apart_at f places t s.n (hit_of s) struck rule
 
@@ -41,7 +43,7 @@ module _ (f : Bytes) (places : List ElementPlaces) (t : List Row) (struck hits o
       ap (λ o. not (same_outcome o without)) same ∙ ap not (outcome_same without)
 
   -- no request of a block in which none matches the rule gets anything else
-  pub block_off : (block : ℕ) → get_or hits (64 * rule + block) 0 ≡ 0 → (m : ℕ) → m < s.space → m / 64 ≡ block → parted m ≡ false
+  pub block_off : (block : ℕ) → word_in hits rule block ≡ 0 → (m : ℕ) → m < s.space → m / 64 ≡ block → parted m ≡ false
   block_off block none m l e =
       let off : hit_of s m (element_at t rule) ≡ false = sym (rw e at (trial.matched.hits_are rule m trial.aside.element l)) ∙ ap (λ w. bit w (m % 64)) none ∙ bit_zero (m % 64) in
       unchanged_not m (trial.steady.unmatched struck rule trial.aside m l off)

@@ -117,7 +117,7 @@ module _ (t : List Row) (struck : List ℕ) (i : ℕ) (rule : rule_left t struck
       }
 
   -- it is tried by its flag
-  pub trial : (f : Bytes) (places : List ElementPlaces) (hits outcomes : List ℕ) (s : Shape) → Laid f places t struck hits outcomes s → i < s.n → Trial f places t (set struck i 1) hits outcomes s i
+  pub trial : (f : Bytes) (places : List ElementPlaces) (hits : List (List ℕ)) (outcomes : List Effects) (s : Shape) → Laid f places t struck hits outcomes s → i < s.n → Trial f places t (set struck i 1) hits outcomes s i
   trial f places hits outcomes s laid l =
       record {
         steady = laid.steady;
@@ -145,7 +145,7 @@ module _ (f : Bytes) (places : List ElementPlaces) (t : List Row) (struck : List
   shown_other other = rw other
 
 -- Flags that are those of the start
-pub asks : {f : Bytes} {places : List ElementPlaces} {t : List Row} {first struck hits outcomes : List ℕ} {s : Shape} → struck ≡ first → Laid f places t first hits outcomes s → Laid f places t struck hits outcomes s
+pub asks : {f : Bytes} {places : List ElementPlaces} {t : List Row} {first struck : List ℕ} {hits : List (List ℕ)} {outcomes : List Effects} {s : Shape} → struck ≡ first → Laid f places t first hits outcomes s → Laid f places t struck hits outcomes s
 asks same laid = rw same laid
 
 -- The places have room for the obligations of all elements

@@ -9,6 +9,8 @@ use Rattle.table.specs.declared.Shape.{Shape}
 use Rattle.table.specs.Shape.{hit_of}
 use Rattle.table.specs.Tree.{rule_left}
 use Rattle.matching.specs.Hits.{HitsLaid}
+use Rattle.table.specs.Words.{word_in}
+use Rattle.blocks.specs.declared.Effects.{Effects}
 use Rattle.blocks.specs.Bits.{Answers}
 use Rattle.moves.specs.Moved.{kept, moved_at, Under}
 use Rattle.outcomes.specs.PolicyTable.{PolicyTable, OutcomesLaid}
@@ -24,23 +26,23 @@ pub record Grouped (t : List Row) (n rule up : ℕ) : Type 0 where
   pub under : up < n → Under t up rule
 
 -- a file, its table and the flags, which requests match, and the decisions laid down: what is asked where rules are tried
-pub record Laid (f : Bytes) (places : List ElementPlaces) (t : List Row) (struck hits outcomes : List ℕ) (s : Shape) : Type 0 where
+pub record Laid (f : Bytes) (places : List ElementPlaces) (t : List Row) (struck : List ℕ) (hits : List (List ℕ)) (outcomes : List Effects) (s : Shape) : Type 0 where
   pub steady : Steady f places t s
   pub ready : PolicyTable t struck s
   pub matched : HitsLaid t hits s
   pub holds : OutcomesLaid t struck outcomes s
 
 -- rule `rule` is tried by its flag: the decisions laid down are those with it
-pub record Trial (f : Bytes) (places : List ElementPlaces) (t : List Row) (struck hits outcomes : List ℕ) (s : Shape) (rule : ℕ) : Type 0 where
+pub record Trial (f : Bytes) (places : List ElementPlaces) (t : List Row) (struck : List ℕ) (hits : List (List ℕ)) (outcomes : List Effects) (s : Shape) (rule : ℕ) : Type 0 where
   pub steady : Steady f places t s
   pub aside : Aside t struck s rule
   pub matched : HitsLaid t hits s
   pub holds : OutcomesLaid t (kept struck rule) outcomes s
 
 -- each bit of the word says whether the rule moves what `up` decides; where there is no such element, whether it matches
-pub record Reached (t : List Row) (struck hits : List ℕ) (n block up rule word : ℕ) : Type 0 where
+pub record Reached (t : List Row) (struck : List ℕ) (hits : List (List ℕ)) (n block up rule word : ℕ) : Type 0 where
   pub moves : up < n → (v : ℕ) (hit : Element → Bool) → Answers t hits n block v hit → bit word v ≡ moved_at hit t struck n up rule
-  pub matches : n ≤ up → word ≡ get_or hits (64 * rule + block) 0
+  pub matches : n ≤ up → word ≡ word_in hits rule block
 
 -- a request that passes the test, if one does
 abbrev pub Tries : (test : ℕ → Bool) → ℕ → Option ℕ → Type 0

@@ -14,6 +14,7 @@ ghost use Rattle.trials.specs.Decided.{apart_at, first_change_at, shown_at, need
 ghost use Rattle.trials.specs.Steady.{Steady};
 ghost use Rattle.trials.specs.Trial.{Grouped, Laid, Trial, Tries, Tells};
 
+use blocks::Effects;
 use differences::{PolicyFile, PolicyOutcomes};
 use meaning::Word;
 use table::Row;
@@ -47,7 +48,7 @@ fn first_change(o: &PolicyOutcomes, struck: &[u8], up: usize, rule: usize) -> Op
     ensures { let p = o.now.policy in result ≡ found (first_from (apart_at p.file.now p.places.now p.table.now p.shape.n (hit_of p.shape) struck.now rule) 0 p.shape.space) }
 {
     for block in 0..(o.policy.shape.space + 63) / 64 {
-        if o.hits[64 * rule + block] == 0 {
+        if o.hits[rule][block] == 0 {
             continue;
         }
         if let Some(first) = trial::change_at(o, struck, up, rule, block) {
@@ -95,8 +96,8 @@ pub fn is_needless(policy: PolicyFile, struck: &mut [u8], i: usize) -> bool
     ensures { let p = policy.entry in (result ≡ needless_at p.file.now p.places.now p.table.now p.shape.n (hit_of p.shape) p.shape.space struck.old i) × (struck.new ≡ struck.old) }
 {
     let shape = policy.shape;
-    let mut hits = [0u64; 4096];
-    let mut outcomes = [0u64; 128];
+    let mut hits = [[0u64; 64]; 64];
+    let mut outcomes = [Effects::NONE; 64];
     outcomes::find_outcomes(policy.table, struck, shape, &mut hits, &mut outcomes);
     let obliged = obligations::any_obligations(policy.places, shape.n);
     let o = PolicyOutcomes {

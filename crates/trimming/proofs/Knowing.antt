@@ -18,6 +18,7 @@ use Rattle.table.specs.Tree.{rule_left}
 use Rattle.table.specs.declared.Shape.{Shape}
 use Rattle.table.specs.Shape.{hit_of}
 use Rattle.matching.specs.Hits.{bit_of}
+use Rattle.blocks.specs.declared.Effects.{Effects}
 use Rattle.obligations.specs.Given.{outcome_left}
 use Rattle.trimming.specs.Decided.{changes_at, first_change_at, needless_at}
 use Rattle.trials.specs.Trial.{Laid}
@@ -54,7 +55,7 @@ module _ (f : Bytes) (places : List ElementPlaces) (t : List Row) (s : Shape) wh
           rw (get_or-set_other hints i j shown 0 other) (knows j l (λ none. is_set (get_or-set_other known i j 1 0 other ∙ none)))
 
   -- A needless rule x is struck: what is known by requests that do not match it is still known
-  module _ (struck hits outcomes : List ℕ) (x : ℕ) (inside : x < s.n) (needless : needless_at f places t s.n (hit_of s) s.space struck x ≡ true) (laid : Laid f places t struck hits outcomes s) where
+  module _ (struck : List ℕ) (hits : List (List ℕ)) (outcomes : List Effects) (x : ℕ) (inside : x < s.n) (needless : needless_at f places t s.n (hit_of s) s.space struck x ≡ true) (laid : Laid f places t struck hits outcomes s) where
     abbrev after : List ℕ
     after = set struck x 1
 
@@ -96,15 +97,15 @@ module _ (f : Bytes) (places : List ElementPlaces) (t : List Row) (s : Shape) wh
         )
 
 -- What is still known, up to place i; the flags behind are as they were
-pub record Forgetting (hits : List ℕ) (rule : ℕ) (hints known after : List ℕ) (i : ℕ) : Type 0 where
+pub record Forgetting (hits : List (List ℕ)) (rule : ℕ) (hints known after : List ℕ) (i : ℕ) : Type 0 where
   pub same_length : length after ≡ length known
   pub still : (j : ℕ) → j < i → IsSet after j → IsSet known j × (bit_of hits rule (get_or hints j 0) ≡ false)
   pub behind : (j : ℕ) → i ≤ j → get_or after j 0 ≡ get_or known j 0
 
-pub forgets_none : (hits : List ℕ) (rule : ℕ) (hints known : List ℕ) → Forgetting hits rule hints known known 0
+pub forgets_none : (hits : List (List ℕ)) (rule : ℕ) (hints known : List ℕ) → Forgetting hits rule hints known known 0
 forgets_none hits rule hints known = record { same_length = refl; still = λ j l. absurd (omega arith); behind = λ j l. refl }
 
-module _ {hits : List ℕ} {rule : ℕ} {hints known after : List ℕ} {i : ℕ} (so_far : Forgetting hits rule hints known after i) where
+module _ {hits : List (List ℕ)} {rule : ℕ} {hints known after : List ℕ} {i : ℕ} (so_far : Forgetting hits rule hints known after i) where
   -- place i is not set, or its request does not match the rule
   pub forgets_keep : (IsSet after i → bit_of hits rule (get_or hints i 0) ≡ false) → Forgetting hits rule hints known after (i + 1)
   forgets_keep off = record { same_length = so_far.same_length; still = λ j l is_set. go j l is_set (test (eqb j i)); behind = λ j l. so_far.behind j (omega arith) }

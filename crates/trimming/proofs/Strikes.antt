@@ -22,6 +22,7 @@ use Rattle.table.specs.declared.Row.{Row}
 use Rattle.table.specs.Tree.{rule_left}
 use Rattle.table.specs.declared.Shape.{Shape}
 use Rattle.table.specs.Shape.{hit_of}
+use Rattle.blocks.specs.declared.Effects.{Effects}
 use Rattle.outcomes.specs.Decided.{decided_at}
 use Rattle.obligations.specs.Given.{outcome_left}
 use Rattle.trimming.specs.Decided.{changes_at, first_change_at, needless_at, next_at, trimming_at}
@@ -67,7 +68,7 @@ module _ (f : Bytes) (places : List ElementPlaces) (t : List Row) (struck : List
       let unchanged = first_none (changes_at f places t s.n (hit_of s) struck i) 0 s.space nowhere m zero-le (omega arith) in
       same_outcome_lem _ _ (not-false _ unchanged)
 
-  pub laid_next : (hits outcomes : List ℕ) → Laid f places t struck hits outcomes s → Laid f places t (set struck i 1) hits outcomes s
+  pub laid_next : (hits : List (List ℕ)) (outcomes : List Effects) → Laid f places t struck hits outcomes s → Laid f places t (set struck i 1) hits outcomes s
   unfolding decided_at
   laid_next hits outcomes laid =
       record {
@@ -98,8 +99,8 @@ module _ (f : Bytes) (places : List ElementPlaces) (t : List Row) (s : Shape) (f
       rw same record { flags_left = flags_left; order_left = rw add-one (rw add-one at order_left); count_left = omega (arith, count_left) }
 
   -- no rule more
-  pub strikes_end : (flags outcomes : List ℕ) → flags ≡ struck → trimming_at f places t s.n (hit_of s) s.space (s.n - count) struck ≡ record { flags = struck; order = [] } → count ≤ s.n → s.n ≤ length old
-      → {hits : List ℕ} → Laid f places t struck hits outcomes s → Trims f places t outcomes s first flags old order count
+  pub strikes_end : (flags : List ℕ) (outcomes : List Effects) → flags ≡ struck → trimming_at f places t s.n (hit_of s) s.space (s.n - count) struck ≡ record { flags = struck; order = [] } → count ≤ s.n → s.n ≤ length old
+      → {hits : List (List ℕ)} → Laid f places t struck hits outcomes s → Trims f places t outcomes s first flags old order count
   strikes_end flags outcomes same end few room laid =
       let counted : count ≡ length (trimming_at f places t s.n (hit_of s) s.space s.n first).order = sym (add-zero count) ∙ rw end at so_far.count_left in
       let over = sets-eq (trimming_at f places t s.n (hit_of s) s.space s.n first).order old 0 (omega arith) in

@@ -24,6 +24,6 @@ Known f places t s struck hints known =
     → (get_or hints i 0 < s.space) × (rule_left t struck i ≡ true → changes_at f places t s.n (hit_of s) struck i (get_or hints i 0) ≡ true)
 
 -- what is still known was known, by a request that does not match the rule
-pub record Forgets (hits : List ℕ) (n rule : ℕ) (hints known after : List ℕ) : Type 0 where
+pub record Forgets (hits : List (List ℕ)) (n rule : ℕ) (hints known after : List ℕ) : Type 0 where
   pub same_length : length after ≡ length known
   pub still : (i : ℕ) → i < n → IsSet after i → IsSet known i × (bit_of hits rule (get_or hints i 0) ≡ false)

@@ -12,6 +12,7 @@ ghost use Rattle.trimming.specs.Decided.{next_at, trimming_at};
 ghost use Rattle.trimming.specs.Known.{HintsFit, Known, Forgets};
 ghost use Rattle.trimming.specs.Trims.{Trims};
 
+use blocks::Effects;
 use differences::{PolicyFile, PolicyOutcomes};
 use trials::Tried;
 
@@ -48,8 +49,8 @@ pub fn next_struck(policy: PolicyFile, struck: &mut [u8]) -> Option<usize>
     ensures { let p = policy.entry in (result ≡ found (next_at p.file.now p.places.now p.table.now p.shape.n (hit_of p.shape) p.shape.space struck.old)) × (struck.new ≡ struck.old) }
 {
     let shape = policy.shape;
-    let mut hits = [0u64; 4096];
-    let mut outcomes = [0u64; 128];
+    let mut hits = [[0u64; 64]; 64];
+    let mut outcomes = [Effects::NONE; 64];
     outcomes::find_outcomes(policy.table, struck, shape, &mut hits, &mut outcomes);
     let obliged = obligations::any_obligations(policy.places, shape.n);
     let o = PolicyOutcomes {
@@ -64,16 +65,16 @@ pub fn next_struck(policy: PolicyFile, struck: &mut [u8]) -> Option<usize>
 }
 
 // Whether request m matches the rule.
-fn matches_rule(hits: &[u64], rule: usize, m: usize) -> bool
-    requires { (m < 4096) × (64 * rule + 64 ≤ length hits.now) }
+fn matches_rule(hits: &[[u64; 64]], rule: usize, m: usize) -> bool
+    requires { (m < 4096) × (rule < length hits.now) }
     ensures { result ≡ bit_of hits.now rule m }
 {
-    (hits[64 * rule + m / 64] >> (m % 64)) % 2 == 1
+    (hits[rule][m / 64] >> (m % 64)) % 2 == 1
 }
 
 // Forgets the rules that are known by a request which matches the rule struck.
-fn forget(hits: &[u64], n: usize, rule: usize, hints: &[u16], known: &mut [u8])
-    requires { (64 * rule + 64 ≤ length hits.now) × (n ≤ length hints.now) × (n ≤ length known.old) × HintsFit n hints.now known.old }
+fn forget(hits: &[[u64; 64]], n: usize, rule: usize, hints: &[u16], known: &mut [u8])
+    requires { (rule < length hits.now) × (n ≤ length hints.now) × (n ≤ length known.old) × HintsFit n hints.now known.old }
     ensures { Forgets hits.now n rule hints.now known.old known.new }
 {
     for i in 0..n {
@@ -126,8 +127,8 @@ pub fn strike(policy: PolicyFile, struck: &mut [u8])
     ensures { let p = policy.entry in struck.new ≡ (trimming_at p.file.now p.places.now p.table.now p.shape.n (hit_of p.shape) p.shape.space p.shape.n struck.old).flags }
 {
     let shape = policy.shape;
-    let mut hits = [0u64; 4096];
-    let mut outcomes = [0u64; 128];
+    let mut hits = [[0u64; 64]; 64];
+    let mut outcomes = [Effects::NONE; 64];
     outcomes::find_outcomes(policy.table, struck, shape, &mut hits, &mut outcomes);
     let obliged = obligations::any_obligations(policy.places, shape.n);
     let o = PolicyOutcomes {

@@ -3,4 +3,4 @@ use Rattle.rows.proofs.Rows.{Narrows}
 use Rattle.rows.proofs.narrow.Given as goal
 
 abbrev pub invariant-loop-b : goal.invariant-loop-b
-invariant-loop-b l = Narrows l.hits l.at l.initial.row l.row l.b
+invariant-loop-b l = Narrows l.own l.initial.row l.row l.b
