@@ -20,6 +20,7 @@ use Rattle.laws.proofs.Bools.{Test, passed, failed, test}
 use Rattle.laws.proofs.Search.{first_some, first_is, first_absent}
 use Rattle.table.specs.declared.Row.{Row}
 use Rattle.table.specs.Tree.{place_or}
+use Rattle.table.specs.Words.{word_in}
 use Rattle.outcomes.proofs.Searching.{first_alike}
 use Rattle.blocks.specs.Bits.{Lowest}
 use Rattle.rows.specs.Rows.{Applied, Given}
@@ -42,12 +43,12 @@ module _ (t : ℕ → Bool) (space : ℕ) {r : ℕ} {o : Found ℕ} (first : o �
       go (some m) e = omega (arith, (first_some t 0 space m e).high)
 
 -- The word of block b: its bits are the requests of the block that show the conflict
-module _ (applied permits denies : List ℕ) (i j k : ℕ) where
+module _ (applied permits denies : List (List ℕ)) (i j k : ℕ) where
   abbrev pub shown : ℕ → Bool
   shown = shown_by applied permits denies i j k
 
   abbrev pub shown_in : ℕ → ℕ
-  shown_in b = bit_and (get_or applied (64 * i + b) 0) (bit_or (bit_and (get_or permits (64 * j + b) 0) (get_or denies (64 * k + b) 0)) (bit_and (get_or denies (64 * j + b) 0) (get_or permits (64 * k + b) 0)))
+  shown_in b = bit_and (word_in applied i b) (bit_or (bit_and (word_in permits j b) (word_in denies k b)) (bit_and (word_in denies j b) (word_in permits k b)))
 
   shown_bit : (b v : ℕ) → v < 64 → bit (shown_in b) v ≡ shown (64 * b + v)
   unfolding shown_by
@@ -55,10 +56,10 @@ module _ (applied permits denies : List ℕ) (i j k : ℕ) where
       let block : (64 * b + v) / 64 ≡ b = omega arith in
       let at : (64 * b + v) % 64 ≡ v = omega arith in
       rw (block, at)
-      (bit_and_lem (get_or applied (64 * i + b) 0) _ v
-      ∙ ap (λ x. bit (get_or applied (64 * i + b) 0) v && x)
-      (bit_or_lem (bit_and (get_or permits (64 * j + b) 0) (get_or denies (64 * k + b) 0)) _ v
-      ∙ ap₂ ◌||◌ (bit_and_lem (get_or permits (64 * j + b) 0) (get_or denies (64 * k + b) 0) v) (bit_and_lem (get_or denies (64 * j + b) 0) (get_or permits (64 * k + b) 0) v)))
+      (bit_and_lem (word_in applied i b) _ v
+      ∙ ap (λ x. bit (word_in applied i b) v && x)
+      (bit_or_lem (bit_and (word_in permits j b) (word_in denies k b)) _ v
+      ∙ ap₂ ◌||◌ (bit_and_lem (word_in permits j b) (word_in denies k b) v) (bit_and_lem (word_in denies j b) (word_in permits k b) v)))
 
   -- no request of the blocks before b shows it
   abbrev pub Unshown : ℕ → Type 0
@@ -97,7 +98,7 @@ module _ (applied permits denies : List ℕ) (i j k : ℕ) where
     shown_none space past = first_absent shown 0 space (λ m l u. so_far m (omega arith))
 
 -- The rows of a table show what the table does
-module _ (t : List Row) (struck : List ℕ) (n : ℕ) (hit : ℕ → Element → Bool) (space : ℕ) (applied permits denies : List ℕ)
+module _ (t : List Row) (struck : List ℕ) (n : ℕ) (hit : ℕ → Element → Bool) (space : ℕ) (applied permits denies : List (List ℕ))
     (applying : Applied t n hit space applied) (permitting : Given Decision.Permit t struck n hit space permits) (denying : Given Decision.Deny t struck n hit space denies) where
   shown_alike : (i j k m : ℕ) → i < n → j < n → k < n → m < space → shown_by applied permits denies i j k m ≡ shows_at t struck n hit i j k m
   unfolding shown_by shows_at

@@ -15,7 +15,7 @@ shows_at t struck n hit i j k m =
     let denies = gives_at Decision.Deny t struck n (hit m) in
     applies_at t (hit m) i && ((permits j && denies k) || (denies j && permits k))
 
-unfoldable pub shown_by : (applied permits denies : List ℕ) → (i j k m : ℕ) → Bool
+unfoldable pub shown_by : (applied permits denies : List (List ℕ)) → (i j k m : ℕ) → Bool
 shown_by applied permits denies i j k m = bit_of applied i m && ((bit_of permits j m && bit_of denies k m) || (bit_of denies j m && bit_of permits k m))
 
 -- k is a later child of j's parent
@@ -46,14 +46,14 @@ module _ (parents : List ℕ) (shows : ℕ → ℕ → ℕ → ℕ → Bool) (n 
   Pairs pairs = (j : ℕ) → PairsOf pairs j
 
 -- rows of 64 words for 64 elements, and at most 4,096 requests
-pub record Laid (applied permits denies : List ℕ) (space : ℕ) : Type 0 where
+pub record Laid (applied permits denies : List (List ℕ)) (space : ℕ) : Type 0 where
   pub small : space ≤ 4096
-  pub applied_room : 4096 ≤ length applied
-  pub permits_room : 4096 ≤ length permits
-  pub denies_room : 4096 ≤ length denies
+  pub applied_room : 64 ≤ length applied
+  pub permits_room : 64 ≤ length permits
+  pub denies_room : 64 ≤ length denies
 
 -- parents of at most 64 elements, their rows, and room for 64 times 64 pairs
-pub record Pairing (parents applied permits denies : List ℕ) (n space : ℕ) (pairs : List ℕ) : Type 0 where
+pub record Pairing (parents : List ℕ) (applied permits denies : List (List ℕ)) (n space : ℕ) (pairs : List ℕ) : Type 0 where
   pub few : n ≤ 64
   pub parents_room : n ≤ length parents
   pub rows : Laid applied permits denies space

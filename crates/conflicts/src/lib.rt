@@ -8,9 +8,9 @@ ghost use Rattle.conflicts.specs.Pairs.{shown_by, Later, PairsOf, Pairs, OthersS
 
 // The first request that shows a conflict of j and k under i.
 fn first_shown(
-    applied: &[u64],
-    permits: &[u64],
-    denies: &[u64],
+    applied: &[[u64; 64]],
+    permits: &[[u64; 64]],
+    denies: &[[u64; 64]],
     space: usize,
     i: usize,
     j: usize,
@@ -21,9 +21,9 @@ fn first_shown(
 {
     let blocks = (space + 63) / 64;
     for b in 0..blocks {
-        let first = permits[64 * j + b] & denies[64 * k + b];
-        let second = denies[64 * j + b] & permits[64 * k + b];
-        let word = applied[64 * i + b] & (first | second);
+        let first = permits[j][b] & denies[k][b];
+        let second = denies[j][b] & permits[k][b];
+        let word = applied[i][b] & (first | second);
         if word != 0 {
             let m = 64 * b + blocks::lowest(word) as usize;
             if m < space {
@@ -36,12 +36,12 @@ fn first_shown(
 }
 
 // Lays down at 64 j + k, for each later child k of j's parent, the first request that shows a conflict of j and k, or the number of requests. All other places stay.
-// (The number stands for none: 64 times 64 options would take four times the controller's memory.)
+// (The number stands for none: 64 times 64 options would take twice the controller's memory.)
 fn pair_later(
     parents: &[usize],
-    applied: &[u64],
-    permits: &[u64],
-    denies: &[u64],
+    applied: &[[u64; 64]],
+    permits: &[[u64; 64]],
+    denies: &[[u64; 64]],
     n: usize,
     space: usize,
     j: usize,
@@ -66,9 +66,9 @@ fn pair_later(
 // The same for each j. Only places of later children are set.
 pub fn pair_all(
     parents: &[usize],
-    applied: &[u64],
-    permits: &[u64],
-    denies: &[u64],
+    applied: &[[u64; 64]],
+    permits: &[[u64; 64]],
+    denies: &[[u64; 64]],
     n: usize,
     space: usize,
     pairs: &mut [u16],

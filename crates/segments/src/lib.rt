@@ -11,13 +11,13 @@ ghost use Rattle.segments.specs.Turning.{Mask, ExchangedWord, Exchanged, Turned}
 ghost use Rattle.segments.specs.Chains.{bucket_of, Chained};
 
 // The words of one block, one for each element.
-fn column(rows: &[u64], n: usize, block: usize) -> [u64; 64]
-    requires { (n ≤ 64) × (block < 64) × (64 * n ≤ length rows.now) }
+fn column(rows: &[[u64; 64]], n: usize, block: usize) -> [u64; 64]
+    requires { (n ≤ 64) × (block < 64) × (n ≤ length rows.now) }
     ensures { Column rows.now n block result }
 {
     let mut words = [0u64; 64];
     for i in 0..n {
-        words[i] = rows[64 * i + block];
+        words[i] = rows[i][block];
     }
     words
 }
@@ -60,8 +60,8 @@ fn turned(words: &[u64; 64]) -> [u64; 64]
 }
 
 // Lays down the word of each request: the elements whose bit for it is set. What lies behind them stays.
-pub fn words_all(rows: &[u64], n: usize, space: usize, words: &mut [u64])
-    requires { (n ≤ 64) × (space ≤ 4096) × (64 * n ≤ length rows.now) × (space ≤ length words.old) }
+pub fn words_all(rows: &[[u64; 64]], n: usize, space: usize, words: &mut [u64])
+    requires { (n ≤ 64) × (space ≤ 4096) × (n ≤ length rows.now) × (space ≤ length words.old) }
     ensures { words.new ≡ map (word_across rows.now n) (counting 0 space) ++ drop space words.old }
 {
     let mut block = [0u64; 64];
