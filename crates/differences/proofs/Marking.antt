@@ -26,7 +26,7 @@ use Rattle.blocks.specs.declared.Effects.{Effects}
 use Rattle.blocks.specs.Bits.{decision_by, Answers}
 use Rattle.chains.specs.Chain.{alike, chained, ChainLaid}
 use Rattle.chains.proofs.Chained.{chain_none}
-use Rattle.outcomes.specs.Decided.{decided_at, differs_at}
+use Rattle.outcomes.specs.Decided.{no_effects, decided_at, differs_at}
 use Rattle.outcomes.specs.PolicyTable.{PolicyTable}
 use Rattle.outcomes.specs.Changes.{InBlock, FirstInBlock}
 use Rattle.layout.specs.declared.ElementPlaces.{ElementPlaces}
@@ -106,7 +106,7 @@ module _ (f : Bytes) (places : List ElementPlaces) (t : List Row) (before struck
   -- The words of a block, under both
   module _ (old new older newer : List ℕ) (block : ℕ) (some : 64 * block < s.space) (first-laid : ChainLaid t before hits s.n block old new) (laid : ChainLaid t struck hits s.n block older newer) where
     abbrev others : ℕ → Bool
-    others = others_given f places s.n new newer (get_or outcomes block 0)
+    others = others_given f places s.n new newer (get_or outcomes block no_effects).permits
 
     by_words : (m : ℕ) → m < s.space → m / 64 ≡ block → differs m ≡ false → parted m ≡ others (m % 64)
     by_words m l e unmoved =
@@ -124,12 +124,12 @@ module _ (f : Bytes) (places : List ElementPlaces) (t : List Row) (before struck
         hit = hit_of s m
 
         p : Bool
-        p = bit (get_or outcomes block 0) v
+        p = bit (get_or outcomes block no_effects).permits v
 
         answers : Answers t hits s.n block v hit
         answers j inside = rw e at (compared.matched.hits_are j m inside l)
 
-        decision_laid : decision_by p (bit (get_or outcomes (64 + block) 0) v) ≡ d
+        decision_laid : decision_by p (bit (get_or outcomes block no_effects).denies v) ≡ d
         decision_laid = rw e at (compared.holds.outcomes_are m l)
 
         -- where it is neither permit nor deny, no element is marked
@@ -138,7 +138,7 @@ module _ (f : Bytes) (places : List ElementPlaces) (t : List Row) (before struck
 
         go : Test (alike d d) → not (same (text d before m) (text d struck m)) ≡ not (same (text (effect p) before m) (text (effect p) struck m))
         go (passed x) =
-            let is-effect : d ≡ effect p = sym decision_laid ∙ effect_is p (bit (get_or outcomes (64 + block) 0) v) (ap (λ y. alike y y) decision_laid ∙ x) in
+            let is-effect : d ≡ effect p = sym decision_laid ∙ effect_is p (bit (get_or outcomes block no_effects).denies v) (ap (λ y. alike y y) decision_laid ∙ x) in
             ap (λ y. not (same (text y before m) (text y struck m))) is-effect
         go (failed x) =
             let empty : (flags : List ℕ) → text d flags m ≡ [] = λ flags. text_undecided d f places (chained hit t flags s.n) s.n x in
@@ -158,7 +158,7 @@ module _ (f : Bytes) (places : List ElementPlaces) (t : List Row) (before struck
 
           go : Test (bit on (m % 64)) → Test (bit word (m % 64)) → parted m ≡ false
           go (failed x) _ = suspects m below here x
-          go (passed x) (failed y) = tells ∙ none_other f places s.n new newer word (get_or outcomes block 0) (m % 64) marked y
+          go (passed x) (failed y) = tells ∙ none_other f places s.n new newer word (get_or outcomes block no_effects).permits (m % 64) marked y
           go (passed x) (passed y) = tells ∙ among (bit_and_lem on word (m % 64) ∙ ap₂ ◌&&◌ x y)
 
       -- one that gets other obligations

@@ -1,5 +1,5 @@
 -- What requests get under two lists of flags, over a file, its places and a table of elements: an element whose flag is not 0 is struck.
-use Rattle.std.specs.Prelude.{ℕ, ◌+◌, ◌*◌, ◌/◌, ◌%◌, ◌<◌, ◌≡◌, Bool, false, not, List, get_or}
+use Rattle.std.specs.Prelude.{ℕ, ◌/◌, ◌%◌, ◌<◌, ◌≡◌, Bool, false, not, List, get_or}
 use Rattle.meaning.specs.Text.{Bytes}
 use Rattle.meaning.specs.Deciding.{bit, same_outcome}
 use Rattle.meaning.specs.declared.Element.{Element}

@@ -1,5 +1,5 @@
 -- Whether a rule is needless, by what requests get without it.
-use Prim.Native.Nat.{ℕ, ◌+◌, ◌*◌, ◌≤◌, ◌<◌, zero-le}
+use Prim.Native.Nat.{ℕ, ◌≤◌, ◌<◌, zero-le}
 use mathlib.Core.Path.{◌≡◌, refl, sym, ap, subst, ◌∙◌}
 use mathlib.Core.Bool.{Bool, true, false, not}
 use mathlib.Core.List.{List}
@@ -22,6 +22,7 @@ use Rattle.table.specs.Tree.{place_or, rule_left}
 use Rattle.table.specs.declared.Shape.{Shape}
 use Rattle.table.specs.Shape.{hit_of}
 use Rattle.table.proofs.Children.{rule_struck}
+use Rattle.blocks.specs.declared.Effects.{Effects}
 use Rattle.outcomes.specs.PolicyTable.{PolicyTable, OutcomesLaid}
 use Rattle.outcomes.proofs.Searching.{first_alike}
 use Rattle.obligations.specs.Given.{outcome_left}

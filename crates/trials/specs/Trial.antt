@@ -1,5 +1,5 @@
 -- What is asked where a rule is tried.
-use Rattle.std.specs.Prelude.{ℕ, ◌+◌, ◌*◌, ◌≤◌, ◌<◌, ◌≡◌, Bool, true, false, List, get_or, Option, Some, None}
+use Rattle.std.specs.Prelude.{ℕ, ◌≤◌, ◌<◌, ◌≡◌, Bool, true, false, List, get_or, Option, Some, None}
 use Rattle.std.proofs.Math.Option.{none}
 use Rattle.meaning.specs.Text.{Bytes, first_from}
 use Rattle.meaning.specs.declared.Element.{Element}

@@ -10,15 +10,6 @@ loop-block-init c = λ m l none. absurd (omega arith)
 pub overflow_add-block-end : goal.overflow_add-block-end
 overflow_add-block-end c = omega (arith, c.requires.0.aside.ready.small)
 
-pub overflow_mul-rule : goal.overflow_mul-rule
-overflow_mul-rule c = let pre = c.requires in omega (arith, pre.0.aside.ready.few, pre.0.aside.element, pre.0.aside.ready.small, pre.0.matched.room)
-
-pub overflow_add-rule : goal.overflow_add-rule
-overflow_add-rule c = let pre = c.requires in omega (arith, pre.0.aside.ready.few, pre.0.aside.element, pre.0.aside.ready.small, pre.0.matched.room)
-
-pub offset_bounds-o-rule : goal.offset_bounds-o-rule
-offset_bounds-o-rule c = let pre = c.requires in omega (arith, pre.0.aside.ready.few, pre.0.aside.element, pre.0.aside.ready.small, pre.0.matched.room)
-
 pub bounds-o-rule : goal.bounds-o-rule
 bounds-o-rule c = let pre = c.requires in omega (arith, pre.0.aside.ready.few, pre.0.aside.element, pre.0.aside.ready.small, pre.0.matched.room)
 

@@ -1,5 +1,4 @@
 -- `reached`: what `moved` tells, or the word of those that match. Assumes nothing.
-use mathlib.Core.Path.{refl}
 use native.Mathlib.Omega.{arith}
 use Rattle.trials.proofs.trial.reached.Goals as goal
 
