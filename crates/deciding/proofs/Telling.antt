@@ -1,15 +1,13 @@
 -- The words of one request, and the answer for an outcome.
 use mathlib.Core.Path.{◌≡◌, refl, ap, ◌∙◌, subst}
-use Prim.Native.Nat.{ℕ, ◌+◌, ◌-◌, ◌*◌, ◌≤◌, ◌<◌, zero-le}
+use Prim.Native.Nat.{ℕ, ◌+◌, ◌-◌, ◌≤◌, ◌<◌, zero-le}
 use native.Mathlib.Omega.{arith}
 use mathlib.Core.Bool.{Bool, false}
 use mathlib.Core.List.{List, []}
 use mathlib.Core.Logic.{◌⊎◌, ⊎_elim}
-use native.Mathlib.Nat.{eq-or-lt_of_le}
-use lib.Dec.{ltb}
-use lib.ListN.{length, get_or, set, replicate}
-use lib.Seq.{get_or-set_same, get_or-set_other}
-use borrow.Author.Tests.{le-ltb}
+use lib.Dec.{ltb, eqb}
+use lib.ListN.{length, get_or, replicate}
+use borrow.Author.Tests.{le-ltb, eqb-true, eqb-false}
 use denote.Enum.Bare.{sameb}
 use Rattle.meaning.specs.contracts.Decision.{the_type}
 use Rattle.meaning.specs.declared.Answer.{Answer}
@@ -22,6 +20,8 @@ use Rattle.requests.specs.declared.Request.{Request}
 use Rattle.requests.specs.Values.{values_of, severals_of}
 use Rattle.table.specs.declared.Row.{Row}
 use Rattle.table.specs.Rows.{element_at}
+use Rattle.table.specs.Words.{word_in}
+use Rattle.table.proofs.Words.{with_word, word_here, word_elsewhere}
 use Rattle.blocks.specs.Bits.{Answers}
 use Rattle.printing.specs.Fitted.{Fitted}
 use Rattle.chains.specs.Chain.{chained}
@@ -31,20 +31,15 @@ use Rattle.deciding.specs.Told.{deciding, Effect, outcome_on, Told, Asking}
 use Rattle.layout.specs.declared.ElementPlaces.{ElementPlaces}
 
 -- one element's word more
-pub next_answers : (t : List Row) (hits : List (List ℕ)) (i w : ℕ) (hit : Element → Bool) → 64 * i < length hits → bit w 0 ≡ hit (element_at t i) → Answers t hits i 0 0 hit → Answers t (set hits (64 * i) w) (i + 1) 0 0 hit
-next_answers t hits i w hit room is so_far j l = ⊎_elim here before (eq-or-lt_of_le (within j l))
-  where
-    within : (j : ℕ) → j < i + 1 → j ≤ i
-    within j l = omega arith
-
-    at_block : (k : ℕ) → 64 * k + 0 ≡ 64 * k
-    at_block k = omega arith
-
-    here : j ≡ i → bit (get_or (set hits (64 * i) w) (64 * j + 0) 0) 0 ≡ hit (element_at t j)
-    here e = rw (e, at_block i, get_or-set_same hits (64 * i) w 0 room) is
-
-    before : j < i → bit (get_or (set hits (64 * i) w) (64 * j + 0) 0) 0 ≡ hit (element_at t j)
-    before below = ap (λ x. bit x 0) (get_or-set_other hits (64 * i) (64 * j + 0) w 0 (λ e. omega arith)) ∙ so_far j below
+module _ (t : List Row) (hits : List (List ℕ)) (i w : ℕ) (hit : Element → Bool) (inside : i < length hits) (room : 0 < length (get_or hits i [])) where
+  pub next_answers : bit w 0 ≡ hit (element_at t i) → Answers t hits i 0 0 hit → Answers t (with_word hits i 0 w inside) (i + 1) 0 0 hit
+  next_answers is so_far j l = go (test (eqb j i))
+    where
+      go : Test (eqb j i) → bit (word_in (with_word hits i 0 w inside) j 0) 0 ≡ hit (element_at t j)
+      go (passed e) = rw (eqb-true j i e) (ap (λ x. bit x 0) (word_here hits i 0 w inside room) ∙ is)
+      go (failed e) =
+          let other = eqb-false j i e in
+          ap (λ x. bit x 0) (word_elsewhere hits i 0 w inside j 0 (λ same. absurd (other same))) ∙ so_far j (omega (arith, other))
 
 -- the answer for an outcome, from the answer for the text of its obligations
 told_so : (o : Outcome) (old new : Bytes) (a : Answer) (d : Decision) → Fitted old o.obligations new a → d ≡ o.decision → Told old new o (deciding a d)

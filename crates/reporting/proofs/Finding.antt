@@ -61,7 +61,7 @@ module _ (t : List Row) (s : Shape) where
         }
 
   -- segments, from the words of all requests
-  pub segments_found : (words sizes : List ℕ) {decided : List Decision} (rows a b : List ℕ) → Applied t s.n (hit_of s) s.space rows → words ≡ map (word_across rows s.n) (counting 0 s.space) ++ a
+  pub segments_found : (words sizes : List ℕ) {decided : List Decision} (rows : List (List ℕ)) (a b : List ℕ) → Applied t s.n (hit_of s) s.space rows → words ≡ map (word_across rows s.n) (counting 0 s.space) ++ a
       → sizes ≡ map (size_at words s.space) (counting 0 s.space) ++ b → (outcomes : List Effects) (y : List Decision) → OutcomesLaid t none_struck outcomes s → decided ≡ map (outcome_at outcomes) (counting 0 s.space) ++ y → SegmentsFound t s.n (hit_of s) s.space words sizes decided
   segments_found words sizes rows a b applied marked measured outcomes y holds decides =
       record {
@@ -71,7 +71,7 @@ module _ (t : List Row) (s : Shape) where
       }
 
   -- conflicts, from the rows
-  pub conflicts_found : (rows permits denies parents pairs x : List ℕ) → Applied t s.n (hit_of s) s.space rows → Given Decision.Permit t none_struck s.n (hit_of s) s.space permits → Given Decision.Deny t none_struck s.n (hit_of s) s.space denies
+  pub conflicts_found : (rows permits denies : List (List ℕ)) (parents pairs x : List ℕ) → Applied t s.n (hit_of s) s.space rows → Given Decision.Permit t none_struck s.n (hit_of s) s.space permits → Given Decision.Deny t none_struck s.n (hit_of s) s.space denies
       → parents ≡ map (λ i. place_or s.n (parent_of t i)) (counting 0 s.n) ++ x → Pairs parents (shown_by rows permits denies) s.n s.space pairs → ConflictsFound t s.n (hit_of s) s.space parents pairs
   conflicts_found rows permits denies parents pairs x applied permitted denied above paired =
       record {

@@ -48,7 +48,7 @@ impl Segments {
         let n = shape.n;
         let space = shape.space;
         outcomes::tell_all(o.outcomes, space, &mut self.decided);
-        let mut applied = [0u64; 4096];
+        let mut applied = [[0u64; 64]; 64];
         rows::apply_all(o.policy.table, o.hits, shape, &mut applied);
         segments::words_all(&applied, n, space, &mut self.words);
         segments::size_all(&self.words, space, &mut self.sizes);
@@ -63,8 +63,7 @@ struct Conflicts {
 }
 
 impl Conflicts {
-    // The rows of the elements that apply lie in `rows`.
-    fn find(&mut self, o: &PolicyOutcomes, rows: &mut [u64; 4096])
+    fn find(&mut self, o: &PolicyOutcomes)
         requires { let p = o.now.policy in Laid p.file.now p.places.now p.table.now none_struck o.now.hits.now o.now.outcomes.now p.shape × (64 ≤ length o.now.hits.now) }
         ensures { let p = o.now.policy in ConflictsFound p.table.now p.shape.n (hit_of p.shape) p.shape.space self.new.parents self.new.pairs }
     {
@@ -73,14 +72,15 @@ impl Conflicts {
         let n = shape.n;
         let space = shape.space;
         let struck = [0u8; 64];
-        let mut permits = [0u64; 4096];
-        let mut denies = [0u64; 4096];
-        rows::apply_all(table, o.hits, shape, rows);
+        let mut applied = [[0u64; 64]; 64];
+        let mut permits = [[0u64; 64]; 64];
+        let mut denies = [[0u64; 64]; 64];
+        rows::apply_all(table, o.hits, shape, &mut applied);
         rows::give_all(table, &struck, o.hits, shape, &mut permits, &mut denies);
         rows::parent_all(table, n, &mut self.parents);
         conflicts::pair_all(
             &self.parents,
-            rows,
+            &applied,
             &permits,
             &denies,
             n,
@@ -139,9 +139,9 @@ fn put_lines(
     put_kept(policy, &rules.shown, out, kept_from)
 }
 
-// Finds what there is to report besides decisions. The lines are counted first, and then the same code writes them.
-fn write_lines(o: &PolicyOutcomes, out: &mut [u8]) -> Answer
-    requires { let p = o.now.policy in PolicyHeld p.file.now p.table.now p.places.now p.shape × HitsLaid p.table.now o.now.hits.now p.shape × (64 ≤ length o.now.hits.now) × OutcomesLaid p.table.now none_struck o.now.outcomes.now p.shape }
+// Finds what there is to report besides decisions and conflicts. The lines are counted first, and then the same code writes them.
+fn write_lines(o: &PolicyOutcomes, conflicts: &Conflicts, out: &mut [u8]) -> Answer
+    requires { let p = o.now.policy in PolicyHeld p.file.now p.table.now p.places.now p.shape × HitsLaid p.table.now o.now.hits.now p.shape × (64 ≤ length o.now.hits.now) × OutcomesLaid p.table.now none_struck o.now.outcomes.now p.shape × ConflictsFound p.table.now p.shape.n (hit_of p.shape) p.shape.space conflicts.now.parents conflicts.now.pairs }
     ensures value { result ≡ report_answer o.now.policy.file.now out.old }
     ensures out_after { out.new ≡ report_lent o.now.policy.file.now out.old }
 {
@@ -150,11 +150,6 @@ fn write_lines(o: &PolicyOutcomes, out: &mut [u8]) -> Answer
         sizes: [0; 4096],
         decided: [Decision::Permit; 4096],
     };
-    let mut conflicts = Conflicts {
-        parents: [0; 64],
-        pairs: [0; 4096],
-    };
-    conflicts.find(o, &mut segments.words);
     segments.find(o);
     let mut rules = Rules {
         order: [0; 64],
@@ -163,10 +158,10 @@ fn write_lines(o: &PolicyOutcomes, out: &mut [u8]) -> Answer
     };
     rules.find(o);
     let mut none = [0u8; 0];
-    let needed = put_lines(&o.policy, &segments, &conflicts, &rules, &mut none);
+    let needed = put_lines(&o.policy, &segments, conflicts, &rules, &mut none);
     let room = out.len();
     let lent = &mut out[..printing::lend(needed, room)];
-    put_lines(&o.policy, &segments, &conflicts, &rules, lent);
+    put_lines(&o.policy, &segments, conflicts, &rules, lent);
     printing::text_answer(needed, room)
 }
 
@@ -197,5 +192,11 @@ pub fn report(
         outcomes: &outcomes,
         obliged: obligations::any_obligations(places, shape.n),
     };
-    write_lines(&o, out)
+    // Their rows are gone from the stack before the segments' words lie on it.
+    let mut conflicts = Conflicts {
+        parents: [0; 64],
+        pairs: [0; 4096],
+    };
+    conflicts.find(&o);
+    write_lines(&o, &conflicts, out)
 }

@@ -26,6 +26,7 @@ use Rattle.table.specs.Tree.{before, parent_of}
 use Rattle.table.specs.declared.Shape.{Shape}
 use Rattle.table.specs.Shape.{hit_of}
 use Rattle.table.proofs.Above.{Parent, top}
+use Rattle.table.proofs.Words.{SameWidths, with_word, word_here, word_elsewhere}
 use Rattle.decisions.specs.Replies.{reply_at}
 use Rattle.matching.specs.Hits.{bit_of, words_of, Rest}
 use Rattle.matching.proofs.Copying.{PlaneCopied}
@@ -97,20 +98,6 @@ past_row {blocks} i b few h = go (test (leb 64 b))
     go (passed e) = let past = leb-true 64 b e in omega arith
     go (failed e) = let inside = leb-false 64 b e in h (omega arith)
 
--- the rows are as long as they were
-abbrev pub SameWidths : List (List ℕ) → List (List ℕ) → Type 0
-SameWidths old rows = (i : ℕ) → length (get_or rows i []) ≡ length (get_or old i [])
-
-pub widths_next : (old rows : List (List ℕ)) (i b w : ℕ) → SameWidths old rows → i < length rows → SameWidths old (set rows i (set (get_or rows i []) b w))
-widths_next old rows i b w so_far inside j = go (test (eqb j i))
-  where
-    row : List ℕ
-    row = set (get_or rows i []) b w
-
-    go : Test (eqb j i) → length (get_or (set rows i row) j []) ≡ length (get_or old j [])
-    go (passed e) = rw (eqb-true j i e) (ap length (get_or-set_same rows i row [] inside) ∙ length-set (get_or rows i []) b w ∙ so_far i)
-    go (failed e) = ap length (get_or-set_other rows i j row [] (eqb-false j i e)) ∙ so_far j
-
 -- What each bit of the rows says, by the test of targets that it answers: of the elements and blocks before the k-th word, where 64 stand in a row; all other words are as they were
 module _ (F : (Element → Bool) → ℕ → Bool) (t : List Row) (hits : List (List ℕ)) (n blocks : ℕ) where
   pub record Filled (old rows : List (List ℕ)) (k : ℕ) : Type 0 where
@@ -135,43 +122,28 @@ module _ (F : (Element → Bool) → ℕ → Bool) (t : List Row) (hits : List (
     pub filled_next : (i b w : ℕ) → k ≡ 64 * i + b → i < length rows → b < length (get_or rows i []) → b < blocks → ((v : ℕ) (hit : Element → Bool) → v < 64 → Answers t hits n b v hit → bit w v ≡ F hit i) → Filled old (set rows i (set (get_or rows i []) b w)) (k + 1)
     filled_next i b w at inside room block word =
         record {
-          size = length-set rows i row ∙ so_far.size;
+          size = length-set rows i (set (get_or rows i []) b w) ∙ so_far.size;
           bits = λ j c v hit l u x a answers. go j c v hit l u x a answers (test (eqb j i)) (test (eqb c b));
-          others = λ j c h. stays j c (λ e f. let no = h (omega arith) in omega arith) ∙ so_far.others j c (λ l. h (omega arith));
+          others = λ j c h. word_elsewhere rows i b w inside j c (λ e f. let no = h (omega arith) in omega arith) ∙ so_far.others j c (λ l. h (omega arith));
         }
       where
-        row : List ℕ
-        row = set (get_or rows i []) b w
+        new : List (List ℕ)
+        new = with_word rows i b w inside
 
-        -- the other words of the row, and the other rows
-        beside : (c : ℕ) → c ≢ b → word_in (set rows i row) i c ≡ word_in rows i c
-        beside c apart = ap (λ r. get_or r c 0) (get_or-set_same rows i row [] inside) ∙ get_or-set_other (get_or rows i []) b c w 0 apart
+        stays : (j c v : ℕ) (hit : Element → Bool) → j < n → c < blocks → v < 64 → 64 * j + c < k → Answers t hits n c v hit → (j ≡ i → c ≢ b) → bit (word_in new j c) v ≡ F hit j
+        stays j c v hit l u x a answers apart = ap (λ y. bit y v) (word_elsewhere rows i b w inside j c apart) ∙ so_far.bits j c v hit l u x a answers
 
-        elsewhere : (j c : ℕ) → j ≢ i → word_in (set rows i row) j c ≡ word_in rows j c
-        elsewhere j c apart = ap (λ r. get_or r c 0) (get_or-set_other rows i j row [] apart)
-
-        stays : (j c : ℕ) → (j ≡ i → c ≢ b) → word_in (set rows i row) j c ≡ word_in rows j c
-        stays j c apart = by (test (eqb j i))
-          where
-            by : Test (eqb j i) → word_in (set rows i row) j c ≡ word_in rows j c
-            by (passed e) = let same = eqb-true j i e in rw same (beside c (apart same))
-            by (failed e) = elsewhere j c (eqb-false j i e)
-
-        here : word_in (set rows i row) i b ≡ w
-        here = ap (λ r. get_or r b 0) (get_or-set_same rows i row [] inside) ∙ get_or-set_same (get_or rows i []) b w 0 room
-
-        go : (j c v : ℕ) (hit : Element → Bool) → j < n → c < blocks → v < 64 → 64 * j + c < k + 1 → Answers t hits n c v hit → Test (eqb j i) → Test (eqb c b) → bit (word_in (set rows i row) j c) v ≡ F hit j
+        go : (j c v : ℕ) (hit : Element → Bool) → j < n → c < blocks → v < 64 → 64 * j + c < k + 1 → Answers t hits n c v hit → Test (eqb j i) → Test (eqb c b) → bit (word_in new j c) v ≡ F hit j
         go j c v hit l u x a answers (passed e) (passed f) =
-            let same = eqb-true j i e in
             let there = eqb-true c b f in
-            rw (same, there) (ap (λ y. bit y v) here ∙ word v hit x (rw there at answers))
+            rw (eqb-true j i e, there) (ap (λ y. bit y v) (word_here rows i b w inside room) ∙ word v hit x (rw there at answers))
         go j c v hit l u x a answers (passed e) (failed f) =
             let same = eqb-true j i e in
             let apart = eqb-false c b f in
-            ap (λ y. bit y v) (stays j c (λ _. apart)) ∙ so_far.bits j c v hit l u x (omega (arith, same, apart)) answers
+            stays j c v hit l u x (omega (arith, same, apart)) answers (λ _. apart)
         go j c v hit l u x a answers (failed e) _ =
             let apart = eqb-false j i e in
-            ap (λ y. bit y v) (elsewhere j c apart) ∙ so_far.bits j c v hit l u x (omega (arith, apart)) answers
+            stays j c v hit l u x (omega (arith, apart)) answers (λ same. absurd (apart same))
 
     -- a row is laid down
     pub filled_row : {i : ℕ} (row : List ℕ) (new : List (List ℕ)) → k ≡ 64 * i → length new ≡ length rows → ((b v : ℕ) (hit : Element → Bool) → b < blocks → v < 64 → Answers t hits n b v hit → bit (get_or row b 0) v ≡ F hit i) → PlaneCopied row blocks i rows new → Filled old new (64 * (i + 1))

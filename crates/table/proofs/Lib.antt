@@ -2,3 +2,4 @@
 pub mod Rows
 pub mod Above
 pub mod Children
+pub mod Words

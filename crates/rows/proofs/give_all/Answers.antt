@@ -6,7 +6,8 @@ use native.Mathlib.Nat.{add-zero, add_assoc}
 use native.Mathlib.Omega.{arith}
 use lib.ListN.{length, get_or}
 use Rattle.meaning.specs.declared.Decision.{Decision}
-use Rattle.rows.proofs.Rows.{filled_none, filled_end, filled_next, widths_next, given_all, given_rest, permits_alone, denies_alone}
+use Rattle.rows.proofs.Rows.{filled_none, filled_end, filled_next, given_all, given_rest, permits_alone, denies_alone}
+use Rattle.table.proofs.Words.{widths_next}
 use Rattle.rows.proofs.give_all.Goals as goal
 
 pub loop-i-init : goal.loop-i-init
@@ -36,9 +37,9 @@ loop-block-preserved c =
     record {
       few = inv.few;
       permit_bits = filled_next _ _ _ _ _ inv.permit_bits inv.few i turn.block _ refl row room (omega arith) (λ v hit l answers. permits_alone _ v reply.result _ (reply.ensures v hit answers) (c.permitted.ensures v));
-      permit_widths = widths_next _ _ i turn.block _ inv.permit_widths row;
+      permit_widths = widths_next turn.permits i turn.block c.permitted.result row _ inv.permit_widths;
       deny_bits = filled_next _ _ _ _ _ inv.deny_bits inv.few i turn.block _ refl deny_row deny_room (omega arith) (λ v hit l answers. denies_alone _ v reply.result _ (reply.ensures v hit answers) (c.denied.ensures v));
-      deny_widths = widths_next _ _ i turn.block _ inv.deny_widths deny_row;
+      deny_widths = widths_next turn.denies i turn.block c.denied.result deny_row _ inv.deny_widths;
     }
 
 pub loop-i-preserved : goal.loop-i-preserved
