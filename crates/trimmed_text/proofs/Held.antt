@@ -1,10 +1,10 @@
 -- What a policy that is held gives to the search for a rule and to the text.
 use mathlib.Core.Path.{◌≡◌, refl, sym, ap, ◌∙◌}
-use Prim.Native.Nat.{ℕ, ◌-◌, ◌*◌, ◌≤◌, ◌<◌}
+use Prim.Native.Nat.{ℕ, ◌-◌, ◌≤◌, ◌<◌}
 use native.Mathlib.Omega.{arith}
 use mathlib.Core.Bool.{true}
 use mathlib.Core.List.{List}
-use mathlib.Core.Option.{Option, none, some, map}
+use mathlib.Core.Option.{Option, some, map}
 use lib.ListN.{length, set, length-set}
 use Rattle.meaning.specs.Text.{Bytes}
 use Rattle.meaning.specs.Trimming.{next_struck}
