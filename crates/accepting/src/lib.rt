@@ -112,7 +112,7 @@ fn refuse(file: &[u8], proposal: &[u8]) -> Refused
     match reader::read(proposal, &mut table, &mut places) {
         Ok(_) => Refused {
             why: Refusal::OtherLine,
-            second: other_lines::first_other(file, proposal) as u32,
+            second: other_lines::first_other(file, proposal).unwrap_or(0) as u32,
         },
         Err(refused) => refused,
     }

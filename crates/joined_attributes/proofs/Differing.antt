@@ -2,12 +2,12 @@
 use mathlib.Core.Path.{◌≡◌, refl, sym, ap, ap₂, ◌∙◌}
 use mathlib.Core.Bool.{Bool, true, false, not, beq}
 use mathlib.Core.List.{List, ◌∷◌}
+use mathlib.Core.Option.{some}
 use Prim.Native.Nat.{ℕ, suc}
 use borrow.Author.Tests.{not-true, not-false}
 use Rattle.meaning.specs.Text.{Bytes, any, same, same_name, join, tab, cut}
 use Rattle.meaning.specs.Model.{Attribute, letter_text}
 use Rattle.meaning.specs.Joining.{differs, first_differing}
-use Rattle.table.specs.Tree.{place_or}
 use Rattle.laws.proofs.Text.{join_cut}
 
 module _ (b a : Attribute) where
@@ -32,8 +32,8 @@ module _ (b a : Attribute) where
 
 -- the first that differs: it is passed, or found
 module _ (first : List Attribute) (n : ℕ) (b : Attribute) (bs : List Attribute) where
-  pub found : any (differs b) first ≡ true → n ≡ place_or 0 (first_differing first n (b ∷ bs))
-  found e = rw e
+  pub differing : any (differs b) first ≡ true → first_differing first n (b ∷ bs) ≡ some n
+  differing e = rw e
 
   pub passed_over : any (differs b) first ≡ false → first_differing first n (b ∷ bs) ≡ first_differing first (suc n) bs
   passed_over e = rw e

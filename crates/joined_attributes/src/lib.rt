@@ -1,10 +1,10 @@
 // The attributes of two files that are to be joined: which differ, and where each file has those of the joined file.
 #![tactic(auto)]
 
-ghost use Rattle.std.specs.Prelude.{◌≡◌, ◌+◌, ◌≤◌, ◌<◌, set};
+ghost use Rattle.std.specs.Prelude.{◌≡◌, ◌+◌, ◌≤◌, ◌<◌, set, IfSome};
 ghost use Rattle.meaning.specs.Text.{any};
 ghost use Rattle.meaning.specs.Joining.{both, differs, first_differing, place_in};
-ghost use Rattle.table.specs.Tree.{place_or};
+ghost use Rattle.laws.specs.Found.{found};
 ghost use Rattle.layout.specs.Places.{attribute_at, attributes_of, Standing, AllStanding};
 ghost use Rattle.joined_attributes.specs.Placing.{listed, places_in};
 
@@ -46,19 +46,19 @@ fn differ_any(first: &[u8], a: Attributes, second: &[u8], b: Attributes, j: usiz
     false
 }
 
-// The line, from 1, of the second file's first attribute that differs from one of the first; 0 where none does.
-pub fn first_differing(first: &[u8], a: Attributes, second: &[u8], b: Attributes) -> usize
+// The line, from 1, of the second file's first attribute that differs from one of the first.
+pub fn first_differing(first: &[u8], a: Attributes, second: &[u8], b: Attributes) -> Option<usize>
     requires { AllStanding first.now a × AllStanding second.now b }
-    ensures value { result ≡ place_or 0 (first_differing (attributes_of first.now a) 1 (attributes_of second.now b)) }
-    ensures within { result ≤ 6 }
+    ensures value { result ≡ found (first_differing (attributes_of first.now a) 1 (attributes_of second.now b)) }
+    ensures within { IfSome result (λ line. line ≤ 6) }
 {
     let len = b.len;
     for j in 0..len {
         if differ_any(first, a, second, b, j) {
-            return j + 1;
+            return Some(j + 1);
         }
     }
-    0
+    None
 }
 
 // With one place more.

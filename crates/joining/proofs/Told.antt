@@ -1,7 +1,6 @@
 -- What joining two files answers, and leaves in the buffer.
 use mathlib.Core.Path.{◌≡◌, refl, sym, ap, ap₂, ◌∙◌, subst}
-use mathlib.Core.Logic.{◌≢◌}
-use mathlib.Core.List.{List, [], ◌∷◌}
+use mathlib.Core.List.{List, []}
 use mathlib.Core.Option.{Option, none, some}
 use Prim.Native.Nat.{ℕ, suc, ◌+◌, ◌≤◌, ◌<◌}
 use native.Mathlib.Nat.{zero-add}
@@ -13,14 +12,12 @@ use borrow.Author.Tests.{lt-ltb}
 use Rattle.meaning.specs.declared.Answer.{Answer}
 use Rattle.meaning.specs.declared.Word.{Word}
 use Rattle.meaning.specs.declared.Kind.{Kind}
-use Rattle.meaning.specs.Text.{Bytes, is_none, any}
+use Rattle.meaning.specs.Text.{Bytes, is_none}
 use Rattle.meaning.specs.Model.{Attribute, Policy, Result, refused, given, ◌then◌, fitted, word_text, words}
 use Rattle.meaning.specs.Reading.{word_of, read}
-use Rattle.meaning.specs.Joining.{both, place_in, differs, first_differing, joined_text, joined, join_file}
+use Rattle.meaning.specs.Joining.{both, place_in, first_differing, joined_text, joined, join_file}
 use Rattle.meaning.specs.Operations.{answered, lent, join_answer, join_lent}
-use Rattle.laws.proofs.Bools.{Test, passed, failed, test}
 use Rattle.laws.proofs.Lines.{spelled_some}
-use Rattle.table.specs.Tree.{place_or}
 use Rattle.layout.specs.declared.Attributes.{Attributes}
 use Rattle.layout.specs.Places.{attributes_of}
 use Rattle.printing.specs.Wrote.{Wrote}
@@ -54,20 +51,6 @@ pub second_refused : (f g w old : Bytes) (a : Attributes) (from : ℕ) → FileH
 unfolding join_file
 second_refused f g w old a from held n m e is = (is ∙ sym (rw (held.is_read, e)), sym (rw (held.is_read, e)))
 
--- The line of an attribute that differs is not 0
-none_found : (first : List Attribute) (n : ℕ) (second : List Attribute) → place_or 0 (first_differing first (suc n) second) ≡ 0 → first_differing first (suc n) second ≡ none
-none_found first n [] h = refl
-none_found first n (b ∷ bs) h = go (test (any (differs b) first)) (none_found first (suc n) bs) h
-  where
-    go : Test (any (differs b) first) → (place_or 0 (first_differing first (suc (suc n)) bs) ≡ 0 → first_differing first (suc (suc n)) bs ≡ none)
-        → place_or 0 (first_differing first (suc n) (b ∷ bs)) ≡ 0 → first_differing first (suc n) (b ∷ bs) ≡ none
-    go (passed e) later h = let z : suc n ≡ 0 = rw e at h in absurd (omega arith)
-    go (failed e) later h = rw e (later (rw e at h))
-
-some_found : (o : Option ℕ) (line : ℕ) → line ≡ place_or 0 o → line ≢ 0 → o ≡ some line
-some_found none line e h = absurd (h e)
-some_found (some n) line e h = ap some (sym e)
-
 -- A word of the four is short
 word_short : (w : Word) → length (word_text w) ≤ 32
 word_short Word.Permit = omega arith
@@ -99,7 +82,7 @@ short_word w is h =
     subst (λ t. length t ≤ 32) (spelled_some word_text w (words Kind.Set) v is_word) (word_short v)
 
 -- What the two files give, by their attributes
-module _ (w f g : Bytes) (a b : Attributes) (from other : ℕ) (first-held : FileHeld f a from) (second-held : FileHeld g b other) where
+module _ (w : Bytes) {f g : Bytes} {a b : Attributes} {from other : ℕ} (first-held : FileHeld f a from) (second-held : FileHeld g b other) where
   abbrev first : List Attribute
   first = attributes_of f a
 
@@ -117,24 +100,17 @@ module _ (w f g : Bytes) (a b : Attributes) (from other : ℕ) (first-held : Fil
   given_then (refused n m) room = refl
   given_then (given j) room = refl
 
-  module _ (line : ℕ) (line-is : line ≡ place_or 0 (first_differing first 1 second)) where
-    line_told : line ≢ 0 → (room : ℕ) → join_file room f g w ≡ refused 19 line
+  -- no attribute differs
+  module _ (none_differ : first_differing first 1 second ≡ none) {none_there : Bool} (word-is : is_none (word_of Kind.Set w) ≡ none_there) where
+    word_told : none_there ≡ true → (room : ℕ) → join_file room f g w ≡ refused 7 (suc (length (both first second)))
     unfolding joined
-    line_told h room = both_read room ∙ rw (some_found (first_differing first 1 second) line line-is h)
+    word_told h room = both_read room ∙ rw (none_differ, no_word (word_of Kind.Set w) word-is h)
 
-    module _ (alike : line ≡ 0) {none_there : Bool} (word-is : is_none (word_of Kind.Set w) ≡ none_there) where
-      none_differ : first_differing first 1 second ≡ none
-      none_differ = none_found first 0 second (sym line-is ∙ alike)
-
-      word_told : none_there ≡ true → (room : ℕ) → join_file room f g w ≡ refused 7 (suc (length (both first second)))
-      unfolding joined
-      word_told h room = both_read room ∙ rw (none_differ, no_word (word_of Kind.Set w) word-is h)
-
-      text_told_lem : none_there ≡ false → (room : ℕ) → join_file room f g w ≡ if_accepted room text
-      unfolding joined
-      text_told_lem h room =
-          let (v, is) = word_there (word_of Kind.Set w) word-is h in
-          both_read room ∙ rw (none_differ, is) (given_then (read text) room)
+    text_told_lem : none_there ≡ false → (room : ℕ) → join_file room f g w ≡ if_accepted room text
+    unfolding joined
+    text_told_lem h room =
+        let (v, is) = word_there (word_of Kind.Set w) word-is h in
+        both_read room ∙ rw (none_differ, is) (given_then (read text) room)
 
   -- A text that is too long, and one that is laid down in a buffer that is long enough
   too_long : 16384 < length text → read text ≡ refused 1 0
@@ -143,20 +119,21 @@ module _ (w f g : Bytes) (a b : Attributes) (from other : ℕ) (first-held : Fil
 
   -- what the contract says of a buffer
   abbrev Joins : Bytes → Bytes → Answer → Type 0
-  Joins old new r = (r ≡ join_answer f g w old) × (new ≡ join_lent f g w old)
+  Joins old new r = record { value : r ≡ join_answer f g w old; out_after : new ≡ join_lent f g w old }
 
   told : (old : Bytes) {r : Answer} (n m : ℕ) → join_file (length old) f g w ≡ refused n m → r ≡ record { number = n; second = m } → Joins old old r
-  told old n m e is = (is ∙ sym (ap (answered length) e), sym (ap (lent old) e))
+  told old n m e is = record { value = is ∙ sym (ap (answered length) e); out_after = sym (ap (lent old) e) }
 
-  module _ (line : ℕ) (line-is : line ≡ place_or 0 (first_differing first 1 second)) (old : Bytes) where
-    pub differs_told : line ≢ 0 → {r : Answer} → r ≡ record { number = 19; second = line } → Joins old old r
-    differs_told h is = told old 19 line (line_told line line-is h (length old)) is
+  module _ (old : Bytes) where
+    pub differs_told : {line : ℕ} → first_differing first 1 second ≡ some line → {r : Answer} → r ≡ record { number = 19; second = line } → Joins old old r
+    unfolding joined
+    differs_told {line} e is = told old 19 line (both_read (length old) ∙ rw e) is
 
-    module _ (alike : line ≡ 0) {none_there : Bool} (word-is : is_none (word_of Kind.Set w) ≡ none_there) where
+    module _ (none_differ : first_differing first 1 second ≡ none) {none_there : Bool} (word-is : is_none (word_of Kind.Set w) ≡ none_there) where
       pub no_word_told : none_there ≡ true → (p : Placing) → p ≡ listed (places_in first (both first second)) → {r : Answer} → r ≡ record { number = 7; second = p.len + 1 } → Joins old old r
       no_word_told h p is answers =
           let size : p.len + 1 ≡ suc (length (both first second)) = omega (arith, ap (λ x. x.len) is, length-map (both first second) (λ c. place_in first c.name)) in
-          told old 7 (suc (length (both first second))) (word_told line line-is alike word-is h (length old)) (answers ∙ ap (λ k. record { number = 7; second = k }) size)
+          told old 7 (suc (length (both first second))) (word_told none_differ word-is h (length old)) (answers ∙ ap (λ k. record { number = 7; second = k }) size)
 
       module _ (h : none_there ≡ false) {x y : List ℕ} {needed : ℕ} (laid : Wrote x 0 text y needed) where
         counted : needed ≡ length text
@@ -164,7 +141,7 @@ module _ (w f g : Bytes) (a b : Attributes) (from other : ℕ) (first-held : Fil
 
         pub too_long_told : 16384 < needed → {r : Answer} → r ≡ record { number = 1; second = 0 } → Joins old old r
         too_long_told l is =
-            told old 1 0 (text_told_lem line line-is alike word-is h (length old) ∙ ap (λ x. x then λ j. fitted (length old) text) (too_long (omega (arith, counted)))) is
+            told old 1 0 (text_told_lem none_differ word-is h (length old) ∙ ap (λ x. x then λ j. fitted (length old) text) (too_long (omega (arith, counted)))) is
 
         -- the text stands at the start of what it was laid into
         stands : needed ≤ length x → take needed y ≡ text
@@ -172,6 +149,6 @@ module _ (w f g : Bytes) (a b : Attributes) (from other : ℕ) (first-held : Fil
 
         pub text_joined : {new : Bytes} {r : Answer} → needed ≤ length x → Accepted (take needed y) old new r → Joins old new r
         text_joined {new} {r} l accepted =
-            let e = text_told_lem line line-is alike word-is h (length old) in
+            let e = text_told_lem none_differ word-is h (length old) in
             let a = subst (λ t. Accepted t old new r) (stands l) accepted in
-            (a.answers ∙ sym (ap (answered length) e), a.lends ∙ sym (ap (lent old) e))
+            record { value = a.answers ∙ sym (ap (answered length) e); out_after = a.lends ∙ sym (ap (lent old) e) }

@@ -45,8 +45,7 @@ fn join_both(
     ensures value { result ≡ join_answer first.now second.now word.now out.old }
     ensures out_after { out.new ≡ join_lent first.now second.now word.now out.old }
 {
-    let line = joined_attributes::first_differing(first, a, second, b);
-    if line != 0 {
+    if let Some(line) = joined_attributes::first_differing(first, a, second, b) {
         let refused = Refused {
             why: Refusal::OtherAttribute,
             second: line as u32,

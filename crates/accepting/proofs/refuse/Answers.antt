@@ -13,7 +13,7 @@ first_other-requires c =
 pub returns-in-Ok : goal.returns-in-Ok
 returns-in-Ok c =
     let (q, i, holds) = file_read c.in-Ok.ensures in
-    told_line c.args.file.now c.args.proposal.now c.requires q i _ c.first_other.ensures.value
+    rw c.unwrap_or.ensures (told_line c.args.file.now c.args.proposal.now c.requires q i c.first_other.ensures.value)
 
 pub returns-in-Err : goal.returns-in-Err
 returns-in-Err c = told_refusal c.args.file.now c.args.proposal.now c.requires (file_refused c.in-Err.ensures)

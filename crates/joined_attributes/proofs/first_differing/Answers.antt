@@ -6,10 +6,10 @@ use native.Mathlib.Numerals.{add-one}
 use native.Mathlib.Omega.{arith}
 use borrow.Author.Rules.{rules}
 use Rattle.meaning.specs.Joining.{first_differing}
-use Rattle.table.specs.Tree.{place_or}
+use Rattle.laws.specs.Found.{found}
 use Rattle.layout.specs.Places.{attribute_at, attributes_from, attributes_of}
 use Rattle.layout.proofs.Names.{attributes_end, attributes_next}
-use Rattle.joined_attributes.proofs.Differing.{found, passed_over}
+use Rattle.joined_attributes.proofs.Differing.{differing, passed_over}
 use Rattle.joined_attributes.proofs.first_differing.Goals as goal
 
 pub loop-j-init : goal.loop-j-init
@@ -24,8 +24,8 @@ returns-then-differ_any c =
     let l = c.loop-j in
     let own = attributes_of c.args.first.now c.args.a in
     let next = attributes_next c.args.second.now c.args.b l.j (omega arith) in record {
-      value = found own (l.j + 1) (attribute_at c.args.second.now c.args.b l.j) (attributes_from c.args.second.now c.args.b (l.j + 1) (c.args.b.len - (l.j + 1))) (sym c.differ_any.ensures ∙ c.if-differ_any.true)
-          ∙ sym (ap (place_or 0) (l.invariant ∙ ap (first_differing own (l.j + 1)) next));
+      value = ap found (sym (differing own (l.j + 1) (attribute_at c.args.second.now c.args.b l.j) (attributes_from c.args.second.now c.args.b (l.j + 1) (c.args.b.len - (l.j + 1))) (sym c.differ_any.ensures ∙ c.if-differ_any.true))
+          ∙ sym (l.invariant ∙ ap (first_differing own (l.j + 1)) next));
       within = omega (arith, c.requires.1.few);
     }
 
@@ -43,4 +43,4 @@ pub returns : goal.returns
 returns c =
     let l = c.loop-j in
     let own = attributes_of c.args.first.now c.args.a in
-    record { value = sym (ap (place_or 0) (l.invariant ∙ ap (first_differing own (l.j + 1)) (attributes_end c.args.second.now c.args.b l.j (omega arith)))); within = search rules }
+    record { value = sym (ap found (l.invariant ∙ ap (first_differing own (l.j + 1)) (attributes_end c.args.second.now c.args.b l.j (omega arith)))); within = search rules }

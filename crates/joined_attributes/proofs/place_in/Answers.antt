@@ -1,7 +1,7 @@
 -- `place_in`: where the name is not declared, the count.
-use mathlib.Core.Path.{ap, ap₂, sym, ◌∙◌}
+use mathlib.Core.Path.{ap₂, sym, ◌∙◌}
 use Rattle.std.specs.Option.{unwrap_or}
-use Rattle.layout.specs.Places.{attributes_of, place_named}
+use Rattle.layout.specs.Places.{attributes_of}
 use Rattle.layout.proofs.Laws.{attributes_length}
 use Rattle.joined_attributes.proofs.Listing.{place_or_count}
 use Rattle.joined_attributes.proofs.place_in.Goals as goal
