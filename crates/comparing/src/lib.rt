@@ -13,7 +13,8 @@ fn below(b: u8, h: u64) -> u64
     b as u64 + 256 * h
 }
 
-// Eight bytes as one number, the lowest first.
+// Eight bytes as one number, the lowest first. Written out, which the compiler makes one load: a loop over bytes is what `same_bytes`
+// is for, on long texts.
 fn word(s: &[u8], i: usize) -> u64
     requires { i + 8 ≤ length s.now }
     ensures value { result ≡ word_at s.now i }

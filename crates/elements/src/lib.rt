@@ -7,7 +7,8 @@ ghost use Rattle.elements.specs.Listed.{no_elements, with_element, elements_of};
 
 use meaning::{Element, Kind, Obligation, Word};
 
-// The first `len` elements; the places behind them don't matter.
+// The first `len` elements; the places behind them don't matter. An array and a length, since a list is copied, as an
+// `ArrayVec` can't be.
 #[derive(Clone, Copy)]
 pub struct Elements {
     pub all: [Element; 65],

@@ -6,7 +6,8 @@ ghost use Rattle.std.specs.Prelude.{◌≡◌, [], get_or};
 ghost use Rattle.meaning.specs.Text.{cut, tab};
 ghost use Rattle.fields.specs.Places.{field_at, place_after};
 
-// `at` is where a field starts, or past the end of the line where no field is left.
+// `at` is where a field starts, or past the end of the line where no field is left. A slice and a place, the form that
+// docs/DECISIONS.md names.
 #[derive(Clone, Copy)]
 pub struct Fields<'a> {
     pub line: &'a [u8],

@@ -10,7 +10,8 @@ ghost use Rattle.joined_attributes.specs.Placing.{listed, places_in};
 
 use layout::Attributes;
 
-// For each attribute of the joined file its place among those of one file, or their count where that file lacks it; zeros behind the last.
+// For each attribute of the joined file its place among those of one file, or their count where that file lacks it; zeros behind the last. An
+// array and a length, since it is handed on by copying, as an `ArrayVec` can't be.
 #[derive(Clone, Copy)]
 pub struct Placing {
     pub places: [usize; 12],

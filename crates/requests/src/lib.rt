@@ -7,7 +7,8 @@ ghost use Rattle.meaning.specs.Deciding.{number_of, request_of, next_request, bi
 ghost use Rattle.requests.specs.Values.{values_of, severals_of, request_with, revalued, Fitting};
 
 // The numbers of `len` attributes, each that of a value or, where `several` says so, that of a set of values; the places
-// behind them don't matter. It lies as in C, for `stepping`.
+// behind them don't matter. It lies as in C, for `stepping`. Methods take it and its array by value, the form that
+// docs/DECISIONS.md names.
 #[repr(C)]
 #[derive(Clone, Copy)]
 pub struct Request {

@@ -13,7 +13,7 @@ use meaning::Word;
 use requests::Request;
 
 // A policy's shape: `n` elements; at which of `len` attributes a request has sets of values, how many choices each has, and
-// their product, the number of requests.
+// their product, the number of requests. Arrays of six and `len`, as a request has them: it lies as in C.
 #[derive(Clone, Copy)]
 pub struct Shape {
     pub n: usize,

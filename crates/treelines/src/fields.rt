@@ -6,7 +6,7 @@ ghost use Rattle.printing.specs.Wrote.{Wrote};
 
 use meaning::{Kind, Word};
 
-// The letter of a kind.
+// The letter of a kind. Letters and words are byte strings, the form that docs/DECISIONS.md names.
 fn letter(kind: Kind) -> &'static [u8]
     ensures { result.now ≡ kind_text kind }
 {
