@@ -17,8 +17,8 @@ ghost use Rattle.refusals.specs.Numbers.{answer_of};
 ghost use Rattle.accepting.specs.Judged.{lines_from, judged_at, LeavesOthersOut};
 
 use blocks::Effects;
-use differences::{PolicyFile, PolicyOutcomes};
-use layout::ElementPlaces;
+use differences::PolicyOutcomes;
+use layout::{ElementPlaces, PolicyFile};
 use meaning::Answer;
 use refusals::{Refusal, Refused};
 use table::{Row, Shape};

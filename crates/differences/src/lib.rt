@@ -13,20 +13,10 @@ ghost use Rattle.differences.specs.Apart.{apart, Compared, Suspects, Untouched, 
 ghost use Rattle.differences.specs.Marks.{Marked, LikeMarks, others_given, Among};
 
 use blocks::{Block, Effects};
-use layout::ElementPlaces;
+use layout::{ElementPlaces, PolicyFile};
 use obligations::Marks;
-use table::{Row, Shape};
 
-// A policy file that was read: its bytes, where its elements and their obligations stand there, the table of the elements, and the policy's shape.
-#[derive(Clone, Copy)]
-pub struct PolicyFile<'a> {
-    pub file: &'a [u8],
-    pub places: &'a [ElementPlaces],
-    pub table: &'a [Row],
-    pub shape: Shape,
-}
-
-// With it which requests match its elements and what each request gets, by words of 64, and whether an element has obligations.
+// A policy file, with which requests match its elements and what each request gets, by words of 64, and whether an element has obligations.
 #[derive(Clone, Copy)]
 pub struct PolicyOutcomes<'a> {
     pub policy: PolicyFile<'a>,
@@ -87,7 +77,7 @@ fn touched(struck: &[u8], hits: &[[u64; 64]], n: usize, block: usize) -> u64
     word
 }
 
-impl<'a> PolicyFile<'a> {
+impl<'a> PolicyOutcomes<'a> {
     // The first request from `from` on, of 64 at most and below `bound`, that is among those of `on` and gets other obligations by the one marks than by the other. The requests of `permits` are permitted, the others denied. Requests with the marks and the decision of one that was compared need no comparison.
     fn first_given(
         &self,
@@ -98,19 +88,20 @@ impl<'a> PolicyFile<'a> {
         from: usize,
         bound: usize,
     ) -> Option<usize>
-        requires { let p = self.now in Giving p.file.now p.places.now one.now p.shape.n 0 × (p.shape.n ≤ length other.now) × (from < 4096) }
-        ensures { let p = self.now in Among (others_given p.file.now p.places.now p.shape.n one.now other.now permits) on from bound result }
+        requires { let p = self.now.policy in Giving p.file.now p.places.now one.now p.shape.n 0 × (p.shape.n ≤ length other.now) × (from < 4096) }
+        ensures { let p = self.now.policy in Among (others_given p.file.now p.places.now p.shape.n one.now other.now permits) on from bound result }
     {
-        let n = self.shape.n;
+        let policy = self.policy;
+        let n = policy.shape.n;
         let ones = Marks {
-            file: self.file,
-            places: self.places,
+            file: policy.file,
+            places: policy.places,
             n,
             words: one,
         };
         let others = Marks {
-            file: self.file,
-            places: self.places,
+            file: policy.file,
+            places: policy.places,
             n,
             words: other,
         };
@@ -132,9 +123,7 @@ impl<'a> PolicyFile<'a> {
         }
         None
     }
-}
 
-impl<'a> PolicyOutcomes<'a> {
     // The first request of the block that gets another decision under `struck` than under `before`, or other obligations. `first` is the first that gets another decision, and outside `on` no request gets anything else.
     fn obligation_difference(
         &self,
@@ -169,7 +158,7 @@ impl<'a> PolicyOutcomes<'a> {
         chains::ask_all(&without, &mut other);
         let suspect = on & unlike(policy.places, n, &one, &other);
         let bound = first.unwrap_or(policy.shape.space);
-        let given = policy.first_given(
+        let given = self.first_given(
             &one,
             &other,
             self.outcomes[block].permits,

@@ -6,8 +6,7 @@ ghost use Rattle.meaning.specs.Operations.{step_answer, step_lent};
 ghost use Rattle.trimmed_text.specs.Held.{PolicyHeld};
 ghost use Rattle.held_state.specs.Closed.{closed};
 
-use differences::PolicyFile;
-use layout::ElementPlaces;
+use layout::{ElementPlaces, PolicyFile};
 use meaning::Stepped;
 use table::{Row, Shape};
 

@@ -5,8 +5,7 @@ ghost use Rattle.std.specs.Prelude.{◌≡◌};
 ghost use Rattle.meaning.specs.Operations.{decide_answer, decide_lent, trim_answer, trim_lent, next_rule_answer, next_rule_lent, strike_answer, strike_lent, step_answer, step_lent, accept_answer, join_answer, join_lent, report_answer, report_lent, value_pairs_answer, value_pairs_lent};
 ghost use Rattle.refusals.specs.Numbers.{number_of};
 
-use differences::PolicyFile;
-use layout::ElementPlaces;
+use layout::{ElementPlaces, PolicyFile};
 use meaning::{Answer, Decided, Stepped};
 use refusals::Refused;
 use table::Row;

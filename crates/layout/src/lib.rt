@@ -14,6 +14,7 @@ pub use element_places::{element_name, element_named, known_element, put_element
 pub use growing::{well_placed, with_element};
 use meaning::Kind;
 pub use obligation_places::{known_obligation, put_obligation};
+use table::{Row, Shape};
 
 // Where an attribute stands, and whether it may have several values in a request: the start of its name, of its first value, the end of its
 // line; and its value count.
@@ -55,6 +56,15 @@ pub struct Tree {
     pub len: usize,
     pub depth: usize,
     pub kinds: [Option<Kind>; 8],
+}
+
+// A policy file that was read: its bytes, where its elements and their obligations stand there, the table of the elements, and the policy's shape.
+#[derive(Clone, Copy)]
+pub struct PolicyFile<'a> {
+    pub file: &'a [u8],
+    pub places: &'a [ElementPlaces],
+    pub table: &'a [Row],
+    pub shape: Shape,
 }
 
 // How many choices an attribute of so many values has in the space: its values, or their non-empty sets.

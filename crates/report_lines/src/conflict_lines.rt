@@ -5,7 +5,7 @@ ghost use Rattle.printing.specs.Wrote.{Wrote};
 ghost use Rattle.report_lines.specs.Lines.{conflict_row, later_lines, pair_lines};
 
 use crate::fields;
-use differences::PolicyFile;
+use layout::PolicyFile;
 
 // A conflict of two children of a parent, and the request that shows it.
 #[derive(Clone, Copy)]

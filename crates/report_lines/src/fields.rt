@@ -6,7 +6,8 @@ ghost use Rattle.layout.specs.Places.{name_in, NameAt, Naming};
 ghost use Rattle.printing.specs.Wrote.{Wrote};
 ghost use Rattle.report_lines.specs.Lines.{names_of, later_names};
 
-use differences::PolicyFile;
+use layout::PolicyFile;
+
 
 // The name of element i.
 fn put_name(policy: &PolicyFile, i: usize, out: &mut [u8], at: usize) -> usize

@@ -12,7 +12,7 @@ ghost use Rattle.printing.specs.Wrote.{Wrote};
 ghost use Rattle.report_lines.specs.Lines.{segment_text, conflict_text, struck_text, kept_text};
 ghost use Rattle.report_lines.specs.Ready.{Ordered};
 
-use differences::PolicyFile;
+use layout::PolicyFile;
 use meaning::Decision;
 use segment_lines::Segment;
 

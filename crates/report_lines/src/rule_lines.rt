@@ -5,7 +5,7 @@ ghost use Rattle.printing.specs.Wrote.{Wrote};
 ghost use Rattle.report_lines.specs.Lines.{struck_line, kept_line};
 
 use crate::fields;
-use differences::PolicyFile;
+use layout::PolicyFile;
 
 // The line of element i, which is struck.
 pub(crate) fn put_struck_rule(policy: &PolicyFile, i: u8, out: &mut [u8], at: usize) -> usize

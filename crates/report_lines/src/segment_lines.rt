@@ -5,7 +5,7 @@ ghost use Rattle.printing.specs.Wrote.{Wrote};
 ghost use Rattle.report_lines.specs.Lines.{segment_row};
 
 use crate::fields;
-use differences::PolicyFile;
+use layout::PolicyFile;
 use meaning::Decision;
 
 // A segment: its first request, how many it has, their decision, and the word of the elements that apply to them.

@@ -16,8 +16,8 @@ ghost use Rattle.report_lines.specs.Ready.{Ordered};
 ghost use Rattle.reporting.specs.Found.{SegmentsFound, ConflictsFound, RulesFound};
 
 use blocks::Effects;
-use differences::{PolicyFile, PolicyOutcomes};
-use layout::ElementPlaces;
+use differences::PolicyOutcomes;
+use layout::{ElementPlaces, PolicyFile};
 use meaning::{Answer, Decision};
 use report_lines::{put_conflicts, put_kept, put_segments, put_struck};
 use table::{Row, Shape};

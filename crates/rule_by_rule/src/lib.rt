@@ -9,8 +9,7 @@ ghost use Rattle.printing.specs.Wrote.{Wrote};
 ghost use Rattle.trimmed_text.specs.Held.{PolicyHeld};
 ghost use Rattle.rule_by_rule.specs.Shown.{name_or_none};
 
-use differences::PolicyFile;
-use layout::ElementPlaces;
+use layout::{ElementPlaces, PolicyFile};
 use meaning::Answer;
 use table::{Row, Shape};
 

@@ -15,7 +15,8 @@ ghost use Rattle.trials.specs.Steady.{Steady};
 ghost use Rattle.trials.specs.Trial.{Grouped, Laid, Trial, Tries, Tells};
 
 use blocks::Effects;
-use differences::{PolicyFile, PolicyOutcomes};
+use differences::PolicyOutcomes;
+use layout::PolicyFile;
 use meaning::Word;
 use table::Row;
 

@@ -13,7 +13,8 @@ ghost use Rattle.trimming.specs.Known.{HintsFit, Known, Forgets};
 ghost use Rattle.trimming.specs.Trims.{Trims};
 
 use blocks::Effects;
-use differences::{PolicyFile, PolicyOutcomes};
+use differences::PolicyOutcomes;
+use layout::PolicyFile;
 use trials::Tried;
 
 // The last needless rule. A rule's hint is a request that got something else without it when it was tried last; known rules need no other try.

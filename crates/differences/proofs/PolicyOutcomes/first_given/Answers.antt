@@ -1,4 +1,4 @@
--- `PolicyFile::first_given`: none of those passed, and none that is left out, gets other obligations. Assumes nothing.
+-- `PolicyOutcomes::first_given`: none of those passed, and none that is left out, gets other obligations. Assumes nothing.
 use Prim.Native.Nat.{◌<◌}
 use mathlib.Core.Path.{◌≡◌, refl, sym, ap, ◌∙◌}
 use mathlib.Core.Bool.{false, not}
@@ -8,7 +8,7 @@ use Rattle.laws.proofs.Bools.{contradiction}
 use Rattle.outcomes.proofs.Searching.{up_to}
 use Rattle.differences.specs.Marks.{others_given}
 use Rattle.differences.proofs.Likes.{left_next}
-use Rattle.differences.proofs.PolicyFile.first_given.Goals as goal
+use Rattle.differences.proofs.PolicyOutcomes.first_given.Goals as goal
 
 pub loop-v-init : goal.loop-v-init
 loop-v-init c = (λ u l. absurd (omega arith), λ u among off. contradiction among off)
@@ -48,7 +48,7 @@ like_marks-like-requires c = (omega arith, c.requires.1)
 pub loop-v-preserved : goal.loop-v-preserved
 loop-v-preserved c =
     let args = c.args in
-    let p = args.self.now in
+    let p = args.self.now.policy in
     let turn = c.loop-v in
     let here : others_given p.file.now p.places.now p.shape.n args.one.now args.other.now args.permits turn.v ≡ false = ap not (sym c.same.ensures ∙ c.if-not-same.false) in (
       up_to _ turn.v turn.invariant.0 (λ among. here),
