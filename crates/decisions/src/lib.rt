@@ -28,6 +28,7 @@ const UNMATCHED: Reply = Reply {
 };
 
 // The next decision, by algorithm, decision so far and child's decision, these in the order of `Decision`.
+// (The paper names this form, a table of constants, so it is no `match`.)
 const NEXT: [[[Decision; 4]; 4]; 3] = [
     // deny-overrides
     [
@@ -100,6 +101,7 @@ fn step(algorithm: Word, so_far: Reply, child: Reply) -> Reply
 }
 
 // Decides element `at`: behind it stand its children, and what comes after them.
+// (It and `fold` call each other: the paper names this form.)
 #[cycle(decide_at_fold)]
 fn decide_at(table: &[Row], struck: &[u8], n: usize, at: usize, q: Request) -> Reply
     requires { Room table.now struck.now n (at + 1) × (q.len ≤ 6) }

@@ -34,7 +34,7 @@ fn narrow(own: &[u64; 64], blocks: usize, row: &mut [u64])
 }
 
 // Keeps of a row the requests to which element i applies: that match its own target, and to which its parent applies.
-// (It calls itself on the parent, as the paper says it: at most seven stand above an element.)
+// (It calls itself on the parent: the paper names this form.)
 fn apply(table: &[Row], hits: &[[u64; 64]], n: usize, blocks: usize, i: usize, row: &mut [u64])
     requires { Rowed table.now hits.now n blocks × (i < n) × (blocks ≤ length row.old) }
     ensures { Narrowed table.now hits.now n blocks i row.old row.new }
