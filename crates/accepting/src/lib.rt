@@ -56,28 +56,18 @@ fn first_needless(o: &PolicyOutcomes, struck: &mut [u8]) -> Option<usize>
 }
 
 // What a proposal gets that is the file's lines without those of the rules struck. The decisions of the file are laid down once; where the proposal gives the same, they are its own.
-fn judge(
-    file: &[u8],
-    table: &[Row],
-    places: &[ElementPlaces],
-    shape: Shape,
-    struck: &mut [u8],
-) -> Answer
-    requires { Steady file.now places.now table.now shape × PolicyTable table.now none_struck shape × PolicyTable table.now struck.old shape × Untouched file.now places.now table.now none_struck struck.old shape }
-    ensures { (result ≡ judged_at file.now places.now table.now shape struck.old) × (struck.new ≡ struck.old) }
+fn judge(policy: PolicyFile, struck: &mut [u8]) -> Answer
+    requires { let p = policy in Steady p.file.now p.places.now p.table.now p.shape × PolicyTable p.table.now none_struck p.shape × PolicyTable p.table.now struck.old p.shape × Untouched p.file.now p.places.now p.table.now none_struck struck.old p.shape }
+    ensures { let p = policy.entry in (result ≡ judged_at p.file.now p.places.now p.table.now p.shape struck.old) × (struck.new ≡ struck.old) }
 {
+    let shape = policy.shape;
     let none = [0u8; 64];
     let mut hits = [[0u64; 64]; 64];
     let mut outcomes = [Effects::NONE; 64];
-    outcomes::find_outcomes(table, &none, shape, &mut hits, &mut outcomes);
-    let obliged = obligations::any_obligations(places, shape.n);
+    outcomes::find_outcomes(policy.table, &none, shape, &mut hits, &mut outcomes);
+    let obliged = obligations::any_obligations(policy.places, shape.n);
     let o = PolicyOutcomes {
-        policy: PolicyFile {
-            file,
-            places,
-            table,
-            shape,
-        },
+        policy,
         hits: &hits,
         outcomes: &outcomes,
         obliged,
@@ -97,7 +87,7 @@ fn judge(
     };
     let refused = Refused {
         why: Refusal::NeedlessRule,
-        second: line_of(places, struck, shape.len, rule) as u32,
+        second: line_of(policy.places, struck, shape.len, rule) as u32,
     };
     refused.into()
 }
@@ -119,20 +109,14 @@ fn refuse(file: &[u8], proposal: &[u8]) -> Refused
 }
 
 // The answer to a proposal beside the file. One that is the file's lines without those of some rules is a policy file, so it is not read: the flags of these rules stand for it.
-pub fn accept(
-    file: &[u8],
-    table: &[Row],
-    places: &[ElementPlaces],
-    shape: Shape,
-    proposal: &[u8],
-) -> Answer
-    requires { PolicyHeld file.now table.now places.now shape }
-    ensures { result ≡ accept_answer file.now proposal.now }
+pub fn accept(policy: PolicyFile, proposal: &[u8]) -> Answer
+    requires { PolicyHeld policy.file.now policy.table.now policy.places.now policy.shape }
+    ensures { result ≡ accept_answer policy.entry.file.now proposal.now }
 {
     let mut struck = [0u8; 64];
-    if left_out::leave_out(file, places, table, shape.n, proposal, &mut struck) {
-        judge(file, table, places, shape, &mut struck)
+    if left_out::leave_out(policy, proposal, &mut struck) {
+        judge(policy, &mut struck)
     } else {
-        refuse(file, proposal).into()
+        refuse(policy.file, proposal).into()
     }
 }

@@ -117,7 +117,15 @@ pub fn jogimaduve_accept(original: &[u8], proposal: &[u8]) -> Answer
     let mut table = [Row::NONE; 64];
     let mut places = [ElementPlaces::NONE; 64];
     match reader::read(original, &mut table, &mut places) {
-        Ok(policy) => accepting::accept(original, &table, &places, policy.shape(), proposal),
+        Ok(policy) => {
+            let held = PolicyFile {
+                file: original,
+                places: &places,
+                table: &table,
+                shape: policy.shape(),
+            };
+            accepting::accept(held, proposal)
+        }
         Err(refused) => refused.into(),
     }
 }

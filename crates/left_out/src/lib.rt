@@ -8,9 +8,8 @@ ghost use Rattle.layout.specs.Places.{part};
 ghost use Rattle.trimmed_text.specs.Copied.{Copies};
 ghost use Rattle.left_out.specs.Leaving.{leaving};
 
-use layout::ElementPlaces;
+use layout::PolicyFile;
 use meaning::Word;
-use table::Row;
 
 // Whether the text from `at` on begins with the file's bytes from `start` to `end`.
 fn begins(text: &[u8], at: usize, file: &[u8], start: usize, end: usize) -> bool
@@ -25,17 +24,13 @@ fn begins(text: &[u8], at: usize, file: &[u8], start: usize, end: usize) -> bool
 }
 
 // Sets the flag of each rule whose line the proposal leaves out, up to the first line of another element that it lacks. Whether it is the file's lines without those, is the result.
-pub fn leave_out(
-    file: &[u8],
-    places: &[ElementPlaces],
-    table: &[Row],
-    n: usize,
-    proposal: &[u8],
-    struck: &mut [u8],
-) -> bool
-    requires { Copies file.now places.now struck.old n × Rows table.now n }
-    ensures { (result ≡ (leaving file.now places.now table.now n proposal.now struck.old).whole) × (struck.new ≡ (leaving file.now places.now table.now n proposal.now struck.old).flags) }
+pub fn leave_out(policy: PolicyFile, proposal: &[u8], struck: &mut [u8]) -> bool
+    requires { Copies policy.file.now policy.places.now struck.old policy.shape.n × Rows policy.table.now policy.shape.n }
+    ensures { let p = policy.entry in let left = leaving p.file.now p.places.now p.table.now p.shape.n proposal.now struck.old in (result ≡ left.whole) × (struck.new ≡ left.flags) }
 {
+    let file = policy.file;
+    let places = policy.places;
+    let n = policy.shape.n;
     let first = places[0].start;
     if !begins(proposal, 0, file, 0, first) {
         return false;
@@ -48,7 +43,7 @@ pub fn leave_out(
             at += end - start;
             continue;
         }
-        match table::word_at(table, i) {
+        match table::word_at(policy.table, i) {
             Word::Permit | Word::Deny => struck[i] = 1,
             _ => return false,
         }

@@ -13,32 +13,32 @@ any_obligations-obliged-requires c = obligation_room c.requires.0.obliged c.requ
 pub overflow_cast-refused : goal.overflow_cast-refused
 overflow_cast-refused c =
     let a = c.args in
-    omega (arith, request_below a.file.now a.places.now a.table.now a.shape a.struck.now _ (found_some _ (sym c.in-Some.ensures)), c.requires.1.small)
+    omega (arith, request_below a.policy.file.now a.policy.places.now a.policy.table.now a.policy.shape a.struck.now _ (found_some _ (sym c.in-Some.ensures)), c.requires.1.small)
 
 pub returns-in-Some : goal.returns-in-Some
 returns-in-Some c =
     let a = c.args in
-    (c.into.ensures ∙ told_request a.file.now a.places.now a.table.now a.shape a.struck.now _ (found_some _ (sym c.in-Some.ensures)), refl)
+    (c.into.ensures ∙ told_request a.policy.file.now a.policy.places.now a.policy.table.now a.policy.shape a.struck.now _ (found_some _ (sym c.in-Some.ensures)), refl)
 
 pub first_needless-requires : goal.first_needless-requires
 first_needless-requires c =
     let a = c.args in
     let outcomes = c.find_outcomes.ensures in
     let none = found_none _ (sym c.first_difference.ensures ∙ c.in_default.is) in
-    record { steady = c.requires.0; ready = c.requires.2; matched = outcomes.0; holds = same_laid a.file.now a.places.now a.table.now a.shape a.struck.now none _ outcomes.2 }
+    record { steady = c.requires.0; ready = c.requires.2; matched = outcomes.0; holds = same_laid a.policy.file.now a.policy.places.now a.policy.table.now a.policy.shape a.struck.now none _ outcomes.2 }
 
 pub returns-in_default-first_needless : goal.returns-in_default-first_needless
 returns-in_default-first_needless c =
     let a = c.args in
     let none = found_none _ (sym c.first_difference.ensures ∙ c.in_default.is) in
     let rule = c.first_needless.ensures in
-    (told_none a.file.now a.places.now a.table.now a.shape a.struck.now none (found_none _ (sym rule.0 ∙ c.in_default-first_needless.is)), rule.1)
+    (told_none a.policy.file.now a.policy.places.now a.policy.table.now a.policy.shape a.struck.now none (found_none _ (sym rule.0 ∙ c.in_default-first_needless.is)), rule.1)
 
 pub line_of-requires : goal.line_of-requires
 line_of-requires c =
     let a = c.args in
     let (rule, same) = c.in-Some-first_needless.ensures in
-    let here = rule_below a.file.now a.places.now a.table.now a.shape a.struck.now _ (found_some _ (sym rule)) in
+    let here = rule_below a.policy.file.now a.policy.places.now a.policy.table.now a.policy.shape a.struck.now _ (found_some _ (sym rule)) in
     let ready = c.requires.2 in
     (omega (arith, here, obligation_room c.requires.0.obliged ready), omega (arith, here, ready.flags, ap length same), omega (arith, here, ready.few), ready.counted.attributes)
 
@@ -47,4 +47,4 @@ returns c =
     let a = c.args in
     let none = found_none _ (sym c.first_difference.ensures ∙ c.in_default.is) in
     let (rule, same) = c.in-Some-first_needless.ensures in
-    (c.into-2.ensures ∙ told_rule a.file.now a.places.now a.table.now a.shape a.struck.now none _ (found_some _ (sym rule)) _ same _ c.line_of.ensures.0, same)
+    (c.into-2.ensures ∙ told_rule a.policy.file.now a.policy.places.now a.policy.table.now a.policy.shape a.struck.now none _ (found_some _ (sym rule)) _ same _ c.line_of.ensures.0, same)
