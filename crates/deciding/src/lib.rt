@@ -13,6 +13,7 @@ use blocks::Block;
 use layout::ElementPlaces;
 use meaning::{Answer, Decided, Decision};
 use obligations::Marks;
+use printing::Sink;
 use requests::Request;
 use table::Row;
 
@@ -85,17 +86,23 @@ fn give(
     let mut given = [0u64; 64];
     ask_one(table, n, q, &mut given);
     let permit = decision == Decision::Permit;
-    let mut none = [0u8; 0];
     let marks = Marks {
         file,
         places,
         n,
         words: &given,
     };
-    let needed = marks.put(0, permit, &mut none, 0);
+    let mut none = [0u8; 0];
+    let mut count = Sink {
+        out: &mut none,
+        at: 0,
+    };
+    marks.put(0, permit, &mut count);
+    let needed = count.at;
     let room = out.len();
-    let part = printing::lend(needed, room);
-    marks.put(0, permit, &mut out[..part], 0);
+    if needed <= room {
+        marks.put(0, permit, &mut Sink { out, at: 0 });
+    }
     with_decision(printing::text_answer(needed, room), decision)
 }
 

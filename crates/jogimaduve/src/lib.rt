@@ -7,6 +7,7 @@ ghost use Rattle.refusals.specs.Numbers.{number_of};
 
 use layout::{ElementPlaces, PolicyFile};
 use meaning::{Answer, Decided, Stepped};
+use printing::Sink;
 use refusals::Refused;
 use table::Row;
 
@@ -60,10 +61,16 @@ pub fn jogimaduve_trim(file: &[u8], out: &mut [u8]) -> Answer
     };
     trimming::strike(held, &mut struck);
     let mut none = [0u8; 0];
-    let needed = trimmed_text::put_text(file, &places, &struck, n, &mut none);
+    let mut count = Sink {
+        out: &mut none,
+        at: 0,
+    };
+    trimmed_text::put_text(file, &places, &struck, n, &mut count);
+    let needed = count.at;
     let room = out.len();
-    let part = printing::lend(needed, room);
-    trimmed_text::put_text(file, &places, &struck, n, &mut out[..part]);
+    if needed <= room {
+        trimmed_text::put_text(file, &places, &struck, n, &mut Sink { out, at: 0 });
+    }
     printing::text_answer(needed, room)
 }
 

@@ -1,5 +1,5 @@
 -- The attribute lines of the joined file, one by one, and the line of its set.
-use mathlib.Core.Path.{◌≡◌, refl, sym, ap, ◌∙◌, subst}
+use mathlib.Core.Path.{◌≡◌, refl, sym, ap, ◌∙◌}
 use mathlib.Core.Bool.{true, false, not, cond}
 use mathlib.Core.List.{List, [], ◌∷◌, ◌++◌}
 use Prim.Native.Nat.{ℕ, zero, suc, ◌+◌, ◌-◌, ◌≤◌}
@@ -13,12 +13,9 @@ use Rattle.laws.proofs.Lists.{gathered_keep}
 use Rattle.layout.specs.declared.Attributes.{Attributes}
 use Rattle.layout.specs.Places.{place_at, values_in, attribute_at, attributes_from, attributes_of, Standing}
 use Rattle.attribute_lines.proofs.Parts.{part_length}
-use Rattle.printing.specs.Wrote.{Wrote}
-use Rattle.printing.proofs.Laws.{then, line_next, line_behind}
-
--- an equal text is stored as well
-pub same_text : {x y s t : List ℕ} {n m : ℕ} → s ≡ t → Wrote x n s y m → Wrote x n t y m
-same_text {x} {y} {n = n} {m = m} e w = subst (λ t. Wrote x n t y m) e w
+use Rattle.printing.specs.declared.Sink.{Sink}
+use Rattle.printing.specs.Puts.{Puts}
+use Rattle.printing.proofs.Laws.{then, same_text, line_next, line_behind}
 
 -- a line's first two fields, and the others as they stand in a file, parted by tabs
 attribute_line_lem : (letter name values : Bytes) → (letter ++ (tab ∷ [])) ++ ((name ++ (tab ∷ [])) ++ (values ++ (newline ∷ []))) ≡ line (letter ∷ name ∷ cut tab values)
@@ -40,14 +37,14 @@ module _ (f : Bytes) (a : Attributes) (i : ℕ) (here : Standing f a i) where
   values_length = part_length f (place_at a i).values (place_at a i).end here.inside
 
   -- its letter, its name and its values, stored one behind the other
-  pub attribute_put : {x y z w name all : List ℕ} {at m k r : ℕ} → length f ≤ 16384 → Wrote x at (letter_text (place_at a i).several ++ (tab ∷ [])) y m × (m ≤ at + 2) → name ≡ (attribute_at f a i).name → Wrote y m (name ++ (tab ∷ [])) z k
-      → all ≡ values_in f a i → Wrote z k (all ++ (newline ∷ [])) w r → Wrote x at (line_at f a i) w r × (r ≤ at + 16388)
-  attribute_put {at = at} {r = r} short (letter, few) is named same_values all-put =
+  pub attribute_put : {b c d e : Sink} {name all : List ℕ} → length f ≤ 16384 → Puts b (letter_text (place_at a i).several ++ (tab ∷ [])) c × (c.at ≤ b.at + 2) → name ≡ (attribute_at f a i).name → Puts c (name ++ (tab ∷ [])) d
+      → all ≡ values_in f a i → Puts d (all ++ (newline ∷ [])) e → Puts b (line_at f a i) e × (e.at ≤ b.at + 16388)
+  attribute_put {b} {e = e} short (letter, few) is named same_values all-put =
       let own = (attribute_at f a i).name in
       let all = values_in f a i in
       let values = same_text (ap (λ t. t ++ (newline ∷ [])) same_values) all-put in
       let name-put = same_text (ap (λ n. n ++ (tab ∷ [])) is) named in
-      let within : r ≤ at + 16388 = omega (arith, few, name-put.moved, values.moved, length-append own (tab ∷ []), length-append all (newline ∷ []), name_length, values_length, here.name, here.line, here.inside) in
+      let within : e.at ≤ b.at + 16388 = omega (arith, few, name-put.wrote.moved, values.wrote.moved, length-append own (tab ∷ []), length-append all (newline ∷ []), name_length, values_length, here.name, here.line, here.inside) in
       (same_text (attribute_line_lem (letter_text (place_at a i).several) own all) (then letter (then name-put values)), within)
 
 -- all attributes, by their numbers

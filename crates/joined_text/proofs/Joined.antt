@@ -1,5 +1,5 @@
 -- The joined text, by the places of the joined attributes among those of each file.
-use mathlib.Core.Path.{◌≡◌, refl, sym, ap, ◌∙◌, subst}
+use mathlib.Core.Path.{◌≡◌, refl, sym, ap, ◌∙◌}
 use mathlib.Core.Bool.{cond, not}
 use mathlib.Core.List.{List, [], ◌∷◌, ◌++◌, map}
 use Prim.Native.Nat.{ℕ, zero, suc, ◌+◌, ◌-◌, ◌≤◌}
@@ -17,8 +17,9 @@ use Rattle.layout.specs.declared.Attributes.{Attributes}
 use Rattle.layout.specs.Places.{attributes_of}
 use Rattle.joined_text.proofs.Placed.{declared_place}
 use Rattle.layout.proofs.Laws.{attributes_length}
-use Rattle.printing.specs.Wrote.{Wrote}
-use Rattle.printing.proofs.Laws.{then}
+use Rattle.printing.specs.declared.Sink.{Sink}
+use Rattle.printing.specs.Puts.{Puts}
+use Rattle.printing.proofs.Laws.{then, same_text}
 use Rattle.joined_attributes.specs.declared.Placing.{Placing}
 use Rattle.joined_attributes.specs.Placing.{listed, places_in}
 use Rattle.joined_text.specs.Lines.{places_of, placed_target, deeper_placed, Joinable}
@@ -63,19 +64,19 @@ module _ (w f g : Bytes) (a b : Attributes) (from other : ℕ) (first-joins : Jo
   abbrev second : List Attribute
   second = attributes_of g b
 
-  pub whole_text : {x u v z s y : List ℕ} {at k l m r : ℕ} {p q : Placing} → p ≡ listed (places_in first (both first second)) → q ≡ listed (places_in second (both first second))
-      → Wrote x at (gathered (λ c. line (attribute_fields c)) first) u k
-      → Wrote u k (gathered (λ c. line (attribute_fields c)) (keep (λ c. not (declared first c.name)) second)) v l
-      → Wrote v l (line (bytes "S" ∷ bytes "0" ∷ bytes "joined" ∷ w ∷ replicate p.len (bytes "*"))) z m
-      → {n : ℕ} → Wrote z m (gathered (deeper_placed (places_of p) a.len) (file_lines (drop from f))) s n
-      → Wrote s n (gathered (deeper_placed (places_of q) b.len) (file_lines (drop other g))) y r
-      → Wrote x at (joined_text w f first g second) y r
+  pub whole_text : {x y z u v t : Sink} {p q : Placing} → p ≡ listed (places_in first (both first second)) → q ≡ listed (places_in second (both first second))
+      → Puts x (gathered (λ c. line (attribute_fields c)) first) y
+      → Puts y (gathered (λ c. line (attribute_fields c)) (keep (λ c. not (declared first c.name)) second)) z
+      → Puts z (line (bytes "S" ∷ bytes "0" ∷ bytes "joined" ∷ w ∷ replicate p.len (bytes "*"))) u
+      → Puts u (gathered (deeper_placed (places_of p) a.len) (file_lines (drop from f))) v
+      → Puts v (gathered (deeper_placed (places_of q) b.len) (file_lines (drop other g))) t
+      → Puts x (joined_text w f first g second) t
   unfolding joined_text
-  whole_text {x} {y = y} {at = at} {r = r} {p = p} {q = q} p-is q-is one two three four fifth =
+  whole_text {p = p} {q = q} p-is q-is one two three four fifth =
       let attrs = both first second in
       let size : p.len ≡ length attrs = ap (λ z. z.len) p-is ∙ length-map attrs (λ c. place_in first c.name) in
       let header = sym (gathered_append (λ c. line (attribute_fields c)) first (keep (λ c. not (declared first c.name)) second)) in
       let set = ap (λ ts. line (bytes "S" ∷ bytes "0" ∷ bytes "joined" ∷ w ∷ ts)) (ap (λ n. replicate n (bytes "*")) size ∙ stars attrs) in
       let own = tree_text_lem first attrs p a.len f (file_lines (drop from f)) p-is (sym (attributes_length f a)) (first-joins.other_lines ∙ ap (λ n. drop n (file_lines f)) (sym (attributes_length f a))) in
       let others = tree_text_lem second attrs q b.len g (file_lines (drop other g)) q-is (sym (attributes_length g b)) (second-joins.other_lines ∙ ap (λ n. drop n (file_lines g)) (sym (attributes_length g b))) in
-      subst (λ t. Wrote x at t y r) (λ i. header i ++ (set i ++ (own i ++ others i))) (then (then one two) (then three (then four fifth)))
+      same_text (λ i. header i ++ (set i ++ (own i ++ others i))) (then (then one two) (then three (then four fifth)))

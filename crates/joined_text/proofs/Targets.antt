@@ -9,7 +9,8 @@ use lib.ListN.{length, get_or}
 use borrow.Author.Tests.{lt-ltb, le-ltb}
 use Rattle.meaning.specs.Text.{Bytes, bytes, longer, cut, tab}
 use Rattle.laws.proofs.Bools.{Test, passed, failed, test}
-use Rattle.printing.specs.Wrote.{Wrote}
+use Rattle.printing.specs.declared.Sink.{Sink}
+use Rattle.printing.specs.Puts.{Puts}
 use Rattle.printing.proofs.Laws.{then}
 use Rattle.joined_text.specs.Lines.{placed_target}
 
@@ -31,15 +32,15 @@ piece_short b (x ∷ xs) k = go (test (eqb x b)) k (piece_short b xs)
     go (failed e) k h = rw e (longer_short x (length xs) (cut b xs) h k)
 
 -- a file's own target, and `*` where it lacks the attribute
-module _ {x y z : List ℕ} {at m r : ℕ} (targets : Bytes) (n k : ℕ) (parted : Wrote x at (tab ∷ []) y m) where
-  pub own_target : k < n → {field : Bytes} → field ≡ get_or (cut tab targets) k [] → Wrote y m field z r → Wrote x at (tab ∷ placed_target n (cut tab targets) k) z r × (r ≤ at + length targets + 2)
+module _ {a b c : Sink} (targets : Bytes) (n k : ℕ) (parted : Puts a (tab ∷ []) b) where
+  pub own_target : k < n → {field : Bytes} → field ≡ get_or (cut tab targets) k [] → Puts b field c → Puts a (tab ∷ placed_target n (cut tab targets) k) c × (c.at ≤ a.at + length targets + 2)
   own_target l {field} e w = (
-    rw (lt-ltb k n l) (subst (λ t. Wrote x at (tab ∷ t) z r) e (then parted w)),
-    omega (arith, parted.moved, w.moved, ap length e, piece_short tab targets k),
+    rw (lt-ltb k n l) (subst (λ t. Puts a (tab ∷ t) c) e (then parted w)),
+    omega (arith, parted.wrote.moved, w.wrote.moved, ap length e, piece_short tab targets k),
   )
 
-  pub star_target : n ≤ k → Wrote y m (bytes "*") z r → Wrote x at (tab ∷ placed_target n (cut tab targets) k) z r × (r ≤ at + length targets + 2)
-  star_target l w = (rw (le-ltb k n l) (then parted w), omega (arith, parted.moved, w.moved))
+  pub star_target : n ≤ k → Puts b (bytes "*") c → Puts a (tab ∷ placed_target n (cut tab targets) k) c × (c.at ≤ a.at + length targets + 2)
+  star_target l w = (rw (le-ltb k n l) (then parted w), omega (arith, parted.wrote.moved, w.wrote.moved))
 
 -- at most twelve of them
 pub room_for : (size i : ℕ) → i ≤ 12 → size * i ≤ 12 * size

@@ -7,6 +7,7 @@ ghost use Rattle.joining.specs.Held.{FileHeld, Accepted};
 
 use layout::{Attributes, ElementPlaces};
 use meaning::{Answer, Kind};
+use printing::Sink;
 use refusals::{Refusal, Refused};
 use table::Row;
 
@@ -21,8 +22,10 @@ fn accept(text: &[u8], out: &mut [u8]) -> Answer
         Ok(_) => {
             let needed = text.len();
             let room = out.len();
-            let part = printing::lend(needed, room);
-            printing::put_bytes(&mut out[..part], 0, text);
+            if needed <= room {
+                let mut sink = Sink { out, at: 0 };
+                sink.put_bytes(text);
+            }
             printing::text_answer(needed, room)
         }
         Err(refused) => refused.into(),
@@ -61,7 +64,12 @@ fn join_both(
         return refused.into();
     }
     let mut text = [0u8; 16384];
-    let needed = joined_text::put_joined(first, a, from, second, b, other, word, &mut text);
+    let mut sink = Sink {
+        out: &mut text,
+        at: 0,
+    };
+    joined_text::put_joined(first, a, from, second, b, other, word, &mut sink);
+    let needed = sink.at;
     if 16384 < needed {
         let refused = Refused {
             why: Refusal::LongFile,

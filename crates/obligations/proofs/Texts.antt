@@ -1,6 +1,6 @@
 -- Laws of the text: by marks that agree, where no element has obligations, and place by place.
 use Prim.Native.Nat.{ℕ, zero, suc, ◌+◌, ◌-◌, ◌≤◌, ◌<◌}
-use mathlib.Core.Path.{◌≡◌, refl, sym, ap, ap₂, ◌∙◌, subst}
+use mathlib.Core.Path.{◌≡◌, refl, sym, ap, ap₂, ◌∙◌}
 use mathlib.Core.Logic.{◌≢◌}
 use mathlib.Core.Bool.{Bool, true, false, not, cond}
 use mathlib.Core.List.{List, [], ◌∷◌, ◌++◌, append-nil}
@@ -19,8 +19,10 @@ use Rattle.chains.specs.Chain.{alike, chained, ChainLaid}
 use Rattle.layout.specs.declared.ElementPlaces.{ElementPlaces}
 use Rattle.layout.specs.Places.{part, obligation_start, obligation_end, effect_at, obligation_at, obligations_in, Obliged}
 use Rattle.layout.proofs.Slots.{none_in}
+use Rattle.printing.specs.declared.Sink.{Sink}
 use Rattle.printing.specs.Wrote.{Wrote}
-use Rattle.printing.proofs.Laws.{nothing, at_start}
+use Rattle.printing.specs.Puts.{Puts}
+use Rattle.printing.proofs.Laws.{nothing, at_start, same_text}
 use Rattle.printing.proofs.Walks.{gathered_last}
 use Rattle.obligations.specs.Given.{spelling, slot_text, own_text, given_text, effect, marks_in, any_obliged}
 
@@ -119,8 +121,8 @@ name_length f places i k o l = omega (arith, length-take (obligation_end places 
 
 -- The text of one place is stored: none, one of the other effect, or a name of at most 16 bytes and its newline
 module _ (f : Bytes) (places : List ElementPlaces) (i k : ℕ) (permit : Bool) where
-  abbrev Stored : (x : List ℕ) (n : ℕ) (y : List ℕ) (m : ℕ) → Type 0
-  Stored x n y m = Wrote x n (slot_text (effect permit) f places i k) y m × (m ≤ n + 17)
+  abbrev Stored : (a b : Sink) → Type 0
+  Stored a b = Puts a (slot_text (effect permit) f places i k) b × (b.at ≤ a.at + 17)
 
   abbrev name : Bytes
   name = part f (obligation_start places i k) (obligation_end places i k)
@@ -128,18 +130,18 @@ module _ (f : Bytes) (places : List ElementPlaces) (i k : ℕ) (permit : Bool) w
   abbrev spelled : Bool
   spelled = same (word_text (effect_at (get_or f (obligation_end places i k + 1) 0))) (decision_text (effect permit))
 
-  pub no_slot : {x : List ℕ} {n : ℕ} → obligation_end places i k ≡ 0 → Stored x n x n
-  no_slot {x} {n} none = (rw (eq-eqb (obligation_end places i k) 0 none) (nothing x n), omega arith)
+  pub no_slot : (a : Sink) → obligation_end places i k ≡ 0 → Stored a a
+  no_slot a none = (rw (eq-eqb (obligation_end places i k) 0 none) (nothing a), omega arith)
 
   module _ (some : obligation_end places i k ≢ 0) where
-    pub other_slot : {x : List ℕ} {n : ℕ} → spelled ≡ false → Stored x n x n
-    other_slot {x} {n} e = (rw (ne_eqb (obligation_end places i k) 0 some, e) (nothing x n), omega arith)
+    pub other_slot : (a : Sink) → spelled ≡ false → Stored a a
+    other_slot a e = (rw (ne_eqb (obligation_end places i k) 0 some, e) (nothing a), omega arith)
 
     name_is : spelled ≡ true → name ++ (newline ∷ []) ≡ slot_text (effect permit) f places i k
     name_is e = sym (rw (ne_eqb (obligation_end places i k) 0 some, e, append-nil, take-append_seam name))
 
-    pub name_slot : {x y : List ℕ} {n m : ℕ} → Obliged f places i → k < 2 → spelled ≡ true → Wrote x n (name ++ (newline ∷ [])) y m → Stored x n y m
-    name_slot {x} {y} {n} {m} o l e w = (subst (λ t. Wrote x n t y m) (name_is e) w, omega (arith, w.moved, length-append name (newline ∷ []), name_length f places i k o l))
+    pub name_slot : {a b : Sink} → Obliged f places i → k < 2 → spelled ≡ true → Puts a (name ++ (newline ∷ [])) b → Stored a b
+    name_slot {a} {b} o l e p = (same_text (name_is e) p, omega (arith, p.wrote.moved, length-append name (newline ∷ []), name_length f places i k o l))
 
 -- An effect by its first byte
 pub permit_spelled : (permit : Bool) → same (word_text Word.Permit) (decision_text (effect permit)) ≡ permit

@@ -5,10 +5,11 @@ ghost use Rattle.std.specs.Prelude.{◌≡◌, ◌+◌, ◌*◌, ◌≤◌, ◌<
 ghost use Rattle.meaning.specs.Text.{same};
 ghost use Rattle.meaning.specs.Model.{word_text, decision_text};
 ghost use Rattle.layout.specs.Places.{effect_at, obligations_in, Obliged};
-ghost use Rattle.printing.specs.Wrote.{Wrote};
+ghost use Rattle.printing.specs.Puts.{Puts};
 ghost use Rattle.obligations.specs.Given.{spelling, slot_text, given_text, effect, marks_in, any_obliged, Giving};
 
 use layout::ElementPlaces;
+use printing::Sink;
 
 // Whether the effect that starts with this byte is the one that permits, or the one that denies.
 fn spells(byte: u8, permit: bool) -> bool
@@ -27,36 +28,28 @@ fn put_obligation(
     i: usize,
     k: usize,
     permit: bool,
-    out: &mut [u8],
-    at: usize,
-) -> usize
-    requires { Obliged file.now places.now i × (k < 2) × (at + 17 < 2 ^ 64) }
-    ensures { Wrote out.old at (slot_text (effect permit) file.now places.now i k) out.new result × (result ≤ at + 17) }
+    sink: &mut Sink,
+)
+    requires { Obliged file.now places.now i × (k < 2) × (sink.old.at + 17 < 2 ^ 64) }
+    ensures { Puts sink.old (slot_text (effect permit) file.now places.now i k) sink.new × (sink.new.at ≤ sink.old.at + 17) }
 {
     let name = places[i].obligation(k);
     if name.is_none() {
-        return at;
+        return;
     }
     if !spells(file[name.end + 1], permit) {
-        return at;
+        return;
     }
-    printing::put_field(out, at, &file[name.start..name.end], 10)
+    sink.put_field(&file[name.start..name.end], 10);
 }
 
 // Stores those of element i.
-fn put_own(
-    file: &[u8],
-    places: &[ElementPlaces],
-    i: usize,
-    permit: bool,
-    out: &mut [u8],
-    at: usize,
-) -> usize
-    requires { Obliged file.now places.now i × (at + 34 < 2 ^ 64) }
-    ensures { Wrote out.old at (spelling (effect permit) (obligations_in file.now places.now i)) out.new result × (result ≤ at + 34) }
+fn put_own(file: &[u8], places: &[ElementPlaces], i: usize, permit: bool, sink: &mut Sink)
+    requires { Obliged file.now places.now i × (sink.old.at + 34 < 2 ^ 64) }
+    ensures { Puts sink.old (spelling (effect permit) (obligations_in file.now places.now i)) sink.new × (sink.new.at ≤ sink.old.at + 34) }
 {
-    let first = put_obligation(file, places, i, 0, permit, out, at);
-    put_obligation(file, places, i, 1, permit, out, first)
+    put_obligation(file, places, i, 0, permit, sink);
+    put_obligation(file, places, i, 1, permit, sink);
 }
 
 // A word of 64 requests for each of n elements, whose obligations lie in a file: bit v marks those that come with request v.
@@ -70,17 +63,15 @@ pub struct Marks<'a> {
 
 impl<'a> Marks<'a> {
     // Stores the obligations of the elements in whose word bit v is set.
-    pub fn put(&self, v: usize, permit: bool, out: &mut [u8], at: usize) -> usize
-        requires { Giving self.now.file.now self.now.places.now self.now.words.now self.now.n v × (at + 2176 < 2 ^ 64) }
-        ensures { Wrote out.old at (given_text (effect permit) (marks_in self.now.words.now v) self.now.file.now self.now.places.now self.now.n) out.new result × (result ≤ at + 2176) }
+    pub fn put(&self, v: usize, permit: bool, sink: &mut Sink)
+        requires { Giving self.now.file.now self.now.places.now self.now.words.now self.now.n v × (sink.old.at + 2176 < 2 ^ 64) }
+        ensures { Puts sink.old (given_text (effect permit) (marks_in self.now.words.now v) self.now.file.now self.now.places.now self.now.n) sink.new × (sink.new.at ≤ sink.old.at + 2176) }
     {
-        let mut end = at;
         for i in 0..self.n {
             if (self.words[i] >> v) % 2 == 1 {
-                end = put_own(self.file, self.places, i, permit, out, end);
+                put_own(self.file, self.places, i, permit, sink);
             }
         }
-        end
     }
 
     // Whether two such texts, of two files or of one, are the same bytes: both are laid down and compared.
@@ -90,8 +81,18 @@ impl<'a> Marks<'a> {
     {
         let mut one = [0u8; 2176];
         let mut two = [0u8; 2176];
-        let end = self.put(v, permit, &mut one, 0);
-        let other_end = other.put(v, permit, &mut two, 0);
+        let mut sink = Sink {
+            out: &mut one,
+            at: 0,
+        };
+        self.put(v, permit, &mut sink);
+        let end = sink.at;
+        let mut other_sink = Sink {
+            out: &mut two,
+            at: 0,
+        };
+        other.put(v, permit, &mut other_sink);
+        let other_end = other_sink.at;
         comparing::same(&one[0..end], &two[0..other_end])
     }
 }

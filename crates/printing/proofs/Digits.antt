@@ -1,6 +1,6 @@
 -- A number's digits: the last one behind those of its tenth.
 use mathlib.Core.Path.{◌≡◌, ap}
-use mathlib.Core.List.{List, [], ◌∷◌, ◌++◌}
+use mathlib.Core.List.{[], ◌∷◌, ◌++◌}
 use Prim.Native.Nat.{ℕ, zero, suc, ◌+◌, ◌/◌, ◌%◌, ◌^◌, ◌≤◌, ◌<◌}
 use native.Mathlib.Nat.{pow-suc}
 use native.Mathlib.Omega.{arith}
@@ -10,7 +10,8 @@ use borrow.Author.Tests.{ltb-true, ltb-false, le-ltb}
 use Rattle.meaning.specs.Text.{digits, decimal}
 use Rattle.laws.proofs.Bools.{Test, passed, failed, test}
 use Rattle.laws.proofs.Fields.{digit}
-use Rattle.printing.specs.Wrote.{Wrote}
+use Rattle.printing.specs.declared.Sink.{Sink}
+use Rattle.printing.specs.Puts.{Puts}
 use Rattle.printing.proofs.Laws.{then}
 
 -- more fuel than digits changes nothing
@@ -27,11 +28,11 @@ last_digit : (n : ℕ) → 10 ≤ n → decimal n ≡ decimal (n / 10) ++ ((48 +
 last_digit n h = rw (le-ltb n 10 h) (ap (λ ds. ds ++ ((48 + (n % 10)) ∷ [])) (digits_enough n (suc (n / 10)) (n / 10) (omega arith) (omega arith)))
 
 -- a number of one digit, and one with a digit more than its tenth
-pub one_digit : {x y : List ℕ} {at r : ℕ} (n : ℕ) → n < 10 → Wrote x at ((48 + n) ∷ []) y r → Wrote x at (decimal n) y r × (r ≤ at + n / 10 + 1)
-one_digit n few w = (rw (digit n few) w, omega (arith, w.moved))
+pub one_digit : {a b : Sink} (n : ℕ) → n < 10 → Puts a ((48 + (n % 10)) ∷ []) b → Puts a (decimal n) b × (b.at ≤ a.at + n / 10 + 1)
+one_digit n few p = let same : n % 10 ≡ n = omega arith in (rw (digit n few, ← same) p, omega (arith, p.wrote.moved))
 
-pub digit_more : {x y z : List ℕ} {at m r : ℕ} (n : ℕ) → 10 ≤ n → Wrote x at (decimal (n / 10)) y m × (m ≤ at + n / 10 / 10 + 1) → Wrote y m ((48 + (n % 10)) ∷ []) z r → Wrote x at (decimal n) z r × (r ≤ at + n / 10 + 1)
-digit_more n many (w, l) v = (rw (last_digit n many) (then w v), omega (arith, l, v.moved))
+pub digit_more : {a b c : Sink} (n : ℕ) → 10 ≤ n → Puts a (decimal (n / 10)) b × (b.at ≤ a.at + n / 10 / 10 + 1) → Puts b ((48 + (n % 10)) ∷ []) c → Puts a (decimal n) c × (c.at ≤ a.at + n / 10 + 1)
+digit_more n many (p, l) q = (rw (last_digit n many) (then p q), omega (arith, l, q.wrote.moved))
 
 -- a number below a power of ten has no more digits than its exponent
 pub decimal_short : (k n : ℕ) → n < 10 ^ suc k → length (decimal n) ≤ suc k

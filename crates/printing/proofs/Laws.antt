@@ -12,7 +12,9 @@ use borrow.Rule.Slice.PartMut.{put_mid}
 use Rattle.std.proofs.lemmas.Slice.{put_mid-paste}
 use Rattle.laws.proofs.Bools.{Test, passed, failed, test}
 use Rattle.meaning.specs.Text.{Bytes, gathered, join, newline, tab, line}
+use Rattle.printing.specs.declared.Sink.{Sink}
 use Rattle.printing.specs.Wrote.{Wrote}
+use Rattle.printing.specs.Puts.{Puts}
 
 sets_append : (l : List ℕ) (i : ℕ) (xs ys : List ℕ) → sets l i (xs ++ ys) ≡ sets (sets l i xs) (i + length xs) ys
 sets_append l i [] ys = rw (add-zero i)
@@ -46,19 +48,26 @@ copied_fit l ys xs n k i inside fit same copied =
     ∙ sets_fit l xs n i fit
 
 -- one text behind the other, and no text
-pub then : {x y z s t : List ℕ} {n m k : ℕ} → Wrote x n s y m → Wrote y m t z k → Wrote x n (s ++ t) z k
-then {x} {y} {z} {s} {t} {n} {m} {k} p q =
+wrote_then : {x y z s t : List ℕ} {n m k : ℕ} → Wrote x n s y m → Wrote y m t z k → Wrote x n (s ++ t) z k
+wrote_then {x} {y} {z} {s} {t} {n} {m} {k} p q =
     record {
       moved = omega (arith, p.moved, q.moved, length-append s t);
       laid = rw (q.laid, p.laid, p.moved, sets_append x n s t);
     }
 
--- one text behind another whose end is known because it was counted
-pub then_counted : {x y z a b s t : List ℕ} {n m k l : ℕ} → Wrote a n s b m → Wrote x n s y l → Wrote y m t z k → Wrote x n (s ++ t) z k
-then_counted {x} {y} {s = s} {n = n} c w = then (subst (Wrote x n s y) (w.moved ∙ sym c.moved) w)
+pub then : {a b c : Sink} {s t : List ℕ} → Puts a s b → Puts b t c → Puts a (s ++ t) c
+then p q = record { buffer = q.buffer ∙ p.buffer; wrote = wrote_then p.wrote q.wrote }
 
-pub nothing : (x : List ℕ) (n : ℕ) → Wrote x n [] x n
-nothing x n = record { moved = omega arith; laid = refl }
+pub nothing : (a : Sink) → Puts a [] a
+nothing a = record { buffer = refl; wrote = record { moved = omega arith; laid = refl } }
+
+-- an equal text is put as well
+pub same_text : {a b : Sink} {s t : List ℕ} → s ≡ t → Puts a s b → Puts a t b
+same_text {a} {b} same p = subst (λ t. Puts a t b) same p
+
+-- what a lent buffer holds once the sink over it is done with
+pub filled : {a b : Sink} {text y : List ℕ} → Puts a text b → y ≡ b.out.now → Wrote a.out.now a.at text y b.at
+filled p same = rw same p.wrote
 
 -- a text that is laid over the start of a buffer that holds it
 pub at_start : {x t y : List ℕ} {m : ℕ} → Wrote x 0 t y m → length t ≤ length x → y ≡ t ++ drop (length t) x

@@ -5,10 +5,10 @@ use native.Mathlib.Nat.{zero-add, mul-suc}
 use native.Mathlib.Omega.{arith}
 use mathlib.Core.List.{List, [], ◌∷◌, ◌++◌, append_assoc, append-nil}
 use lib.ListN.{length, take, get_or}
-use lib.Seq.{length-sets}
 use Rattle.meaning.specs.Text.{Bytes, gathered, counting}
-use Rattle.printing.specs.Wrote.{Wrote}
-use Rattle.printing.proofs.Laws.{then, nothing}
+use Rattle.printing.specs.declared.Sink.{Sink}
+use Rattle.printing.specs.Puts.{Puts}
+use Rattle.printing.proofs.Laws.{then, nothing, same_text}
 
 pub gathered_last : (F : ℕ → Bytes) (a k : ℕ) → gathered F (counting a (suc k)) ≡ gathered F (counting a k) ++ F (a + k)
 gathered_last F a zero = let here : a + 0 ≡ a = omega arith in rw here (append-nil (F a))
@@ -24,18 +24,17 @@ gathered_more F a (suc m) k =
     let behind : suc a + m ≡ a + suc m = omega arith in
     rw next (ap (λ t. F a ++ t) (gathered_more F (suc a) m k ∙ ap (λ n. gathered F (counting (suc a) m) ++ gathered F (counting n k)) behind) ∙ sym (append_assoc (F a) (gathered F (counting (suc a) m)) (gathered F (counting (a + suc m) k))))
 
--- the texts of the numbers from a up to i, of at most so many bytes each, stored over x from n on
-pub record Sofar (F : ℕ → Bytes) (most a : ℕ) (x : List ℕ) (n i : ℕ) (y : List ℕ) (m : ℕ) : Type 0 where
+-- the texts of the numbers from a up to i, of at most so many bytes each, put into a sink
+pub record Sofar (F : ℕ → Bytes) (most a : ℕ) (begin : Sink) (i : ℕ) (end : Sink) : Type 0 where
   pub from : a ≤ i
-  pub text : Wrote x n (gathered F (counting a (i - a))) y m
-  pub within : m ≤ n + most * (i - a)
-  pub same_length : length y ≡ length x
+  pub text : Puts begin (gathered F (counting a (i - a))) end
+  pub within : end.at ≤ begin.at + most * (i - a)
 
-module _ (F : ℕ → Bytes) (most a : ℕ) (x : List ℕ) (n : ℕ) where
-  pub begun : Sofar F most a x n a x n
-  begun = let none : a - a ≡ 0 = omega arith in record { from = omega arith; text = rw none (nothing x n); within = omega arith; same_length = refl }
+module _ {F : ℕ → Bytes} {most a : ℕ} {begin : Sink} where
+  pub begun : Sofar F most a begin a begin
+  begun = let none : a - a ≡ 0 = omega arith in record { from = omega arith; text = rw none (nothing begin); within = omega arith }
 
-  module _ {y : List ℕ} {m : ℕ} (i : ℕ) (sofar : Sofar F most a x n i y m) where
+  module _ {i : ℕ} {b : Sink} (sofar : Sofar F most a begin i b) where
     one_more : i + 1 - a ≡ suc (i - a)
     one_more = omega (arith, sofar.from)
 
@@ -47,25 +46,24 @@ module _ (F : ℕ → Bytes) (most a : ℕ) (x : List ℕ) (n : ℕ) where
     room_more : most * (i + 1 - a) ≡ most * (i - a) + most
     room_more = ap (λ k. most * k) one_more ∙ mul-suc most (i - a)
 
-    pub stored : {z : List ℕ} {k : ℕ} → Wrote y m (F i) z k × (k ≤ m + most) → Sofar F most a x n (i + 1) z k
-    stored {z} {k} (w, l) =
+    pub stored : {c : Sink} → Puts b (F i) c × (c.at ≤ b.at + most) → Sofar F most a begin (i + 1) c
+    stored {c} (p, l) =
         record {
           from = omega (arith, sofar.from);
-          text = subst (λ t. Wrote x n t z k) text_more (then sofar.text w);
+          text = same_text text_more (then sofar.text p);
           within = omega (arith, sofar.within, room_more, l);
-          same_length = ap length w.laid ∙ length-sets y m (F i) ∙ sofar.same_length;
         }
 
-    pub passed_over : F i ≡ [] → Sofar F most a x n (i + 1) y m
-    passed_over e = stored (subst (λ t. Wrote y m t y m) (sym e) (nothing y m), omega arith)
+    pub passed_over : F i ≡ [] → Sofar F most a begin (i + 1) b
+    passed_over e = stored (same_text (sym e) (nothing b), omega arith)
 
     -- all of the numbers
-    pub ended : (end : ℕ) → i ≡ end → Wrote x n (gathered F (counting a (end - a))) y m
-    ended end e = subst (λ k. Wrote x n (gathered F (counting a (k - a))) y m) e sofar.text
+    pub ended : (end : ℕ) → i ≡ end → Puts begin (gathered F (counting a (end - a))) b
+    ended end e = subst (λ k. Puts begin (gathered F (counting a (k - a))) b) e sofar.text
 
 -- the same from 0 on
-pub ended_all : (F : ℕ → Bytes) (most : ℕ) (x : List ℕ) (n : ℕ) {y : List ℕ} {m : ℕ} (i : ℕ) → Sofar F most 0 x n i y m → (end : ℕ) → i ≡ end → Wrote x n (gathered F (counting 0 end)) y m
-ended_all F most x n {y} {m} i sofar end e = let all : end - 0 ≡ end = omega arith in subst (λ k. Wrote x n (gathered F (counting 0 k)) y m) all (ended F most 0 x n i sofar end e)
+pub ended_all : {F : ℕ → Bytes} {most : ℕ} {begin : Sink} {i : ℕ} {b : Sink} → Sofar F most 0 begin i b → (end : ℕ) → i ≡ end → Puts begin (gathered F (counting 0 end)) b
+ended_all {F} {begin = begin} {b = b} sofar end e = let all : end - 0 ≡ end = omega arith in subst (λ k. Puts begin (gathered F (counting 0 k)) b) all (ended sofar end e)
 
 -- what the first elements of a list give, by their places
 gathered_shift : (F : ℕ → Bytes) (a k : ℕ) → gathered F (counting (suc a) k) ≡ gathered (λ i. F (suc i)) (counting a k)

@@ -4,88 +4,85 @@
 ghost use Rattle.std.specs.Prelude.{◌≡◌, ◌+◌, ◌/◌, ◌≤◌, ◌<◌, ◌^◌, [], ◌∷◌, ◌++◌, length};
 ghost use Rattle.meaning.specs.Text.{decimal};
 ghost use Rattle.meaning.specs.Model.{decision_text};
-ghost use Rattle.printing.specs.Wrote.{Wrote};
-ghost use Rattle.printing.specs.Fitted.{lendable, text_told};
+ghost use Rattle.printing.specs.Puts.{Puts};
+ghost use Rattle.printing.specs.Fitted.{text_told};
 
 use meaning::{Answer, Decision};
+use refusals::{Refusal, Refused};
 
-// Stores a byte.
-pub fn put(out: &mut [u8], at: usize, b: u8) -> usize
-    requires { at + 1 < 2 ^ 64 }
-    ensures { Wrote out.old at (b ∷ []) out.new result }
-{
-    if at < out.len() {
-        out[at] = b;
-        return at + 1;
+// A text in the making: a lent buffer, and the place behind what was laid down.
+#[derive(Drop)]
+pub struct Sink<'a> {
+    pub out: &'a mut [u8],
+    pub at: usize,
+}
+
+impl<'a> Sink<'a> {
+    // Stores a byte.
+    pub fn put(&mut self, b: u8)
+        requires { self.old.at + 1 < 2 ^ 64 }
+        ensures { Puts self.old (b ∷ []) self.new }
+    {
+        if self.at < self.out.len() {
+            self.out[self.at] = b;
+        }
+        self.at += 1;
     }
-    at + 1
-}
 
-// Stores bytes one behind the other: those that fit.
-pub fn put_bytes(out: &mut [u8], at: usize, bytes: &[u8]) -> usize
-    requires { at + length bytes.now < 2 ^ 64 }
-    ensures { Wrote out.old at bytes.now out.new result }
-{
-    if out.len() <= at {
-        return at + bytes.len();
+    // Stores bytes one behind the other: those that fit.
+    pub fn put_bytes(&mut self, bytes: &[u8])
+        requires { self.old.at + length bytes.now < 2 ^ 64 }
+        ensures { Puts self.old bytes.now self.new }
+    {
+        if self.at < self.out.len() {
+            let fit = bytes.len().min(self.out.len() - self.at);
+            self.out[self.at..self.at + fit].copy_from_slice(&bytes[..fit]);
+        }
+        self.at += bytes.len();
     }
-    let fit = bytes.len().min(out.len() - at);
-    out[at..at + fit].copy_from_slice(&bytes[..fit]);
-    at + bytes.len()
-}
 
-// Stores a number in decimal.
-pub fn put_decimal(out: &mut [u8], at: usize, number: usize) -> usize
-    requires { at + number + 2 < 2 ^ 64 }
-    ensures { Wrote out.old at (decimal number) out.new result × (result ≤ at + number / 10 + 1) }
-{
-    if number < 10 {
-        return put(out, at, 48 + number as u8);
+    // Stores a number in decimal.
+    pub fn put_decimal(&mut self, number: usize)
+        requires { self.old.at + number + 2 < 2 ^ 64 }
+        ensures { Puts self.old (decimal number) self.new × (self.new.at ≤ self.old.at + number / 10 + 1) }
+    {
+        if 10 <= number {
+            self.put_decimal(number / 10);
+        }
+        self.put(48 + (number % 10) as u8);
     }
-    let n = put_decimal(out, at, number / 10);
-    put(out, n, 48 + (number % 10) as u8)
-}
 
-// Stores bytes and the byte that ends them.
-pub fn put_field(out: &mut [u8], at: usize, bytes: &[u8], end: u8) -> usize
-    requires { at + length bytes.now + 1 < 2 ^ 64 }
-    ensures { Wrote out.old at (bytes.now ++ (end ∷ [])) out.new result }
-{
-    let n = put_bytes(out, at, bytes);
-    put(out, n, end)
-}
-
-// Stores a number in decimal and the byte that ends it.
-pub fn put_number(out: &mut [u8], at: usize, number: usize, end: u8) -> usize
-    requires { at + number + 3 < 2 ^ 64 }
-    ensures { Wrote out.old at (decimal number ++ (end ∷ [])) out.new result × (result ≤ at + number / 10 + 2) }
-{
-    let behind = put_decimal(out, at, number);
-    put(out, behind, end)
-}
-
-// Stores a decision's text and the byte that ends it.
-pub fn put_decision(out: &mut [u8], at: usize, decision: Decision, end: u8) -> usize
-    requires { at + 15 < 2 ^ 64 }
-    ensures { Wrote out.old at (decision_text decision ++ (end ∷ [])) out.new result × (result ≤ at + 15) }
-{
-    match decision {
-        Decision::Permit => put_field(out, at, b"permit", end),
-        Decision::Deny => put_field(out, at, b"deny", end),
-        Decision::NotApplicable => put_field(out, at, b"not-applicable", end),
-        Decision::Indeterminate => put_field(out, at, b"indeterminate", end),
+    // Stores bytes and the byte that ends them.
+    pub fn put_field(&mut self, bytes: &[u8], end: u8)
+        requires { self.old.at + length bytes.now + 1 < 2 ^ 64 }
+        ensures { Puts self.old (bytes.now ++ (end ∷ [])) self.new }
+    {
+        self.put_bytes(bytes);
+        self.put(end);
     }
-}
 
-// How many bytes of a buffer to lend for a text: all, or none where the text does not fit. What is laid into that part is the whole text, or nothing.
-pub fn lend(needed: usize, room: usize) -> usize
-    ensures value { result ≡ lendable needed room }
-    ensures within { result ≤ room }
-{
-    if room < needed {
-        return 0;
+    // Stores a number in decimal and the byte that ends it.
+    pub fn put_number(&mut self, number: usize, end: u8)
+        requires { self.old.at + number + 3 < 2 ^ 64 }
+        ensures { Puts self.old (decimal number ++ (end ∷ [])) self.new × (self.new.at ≤ self.old.at + number / 10 + 2) }
+    {
+        self.put_decimal(number);
+        self.put(end);
     }
-    room
+
+    // Stores a decision's text and the byte that ends it.
+    pub fn put_decision(&mut self, decision: Decision, end: u8)
+        requires { self.old.at + 15 < 2 ^ 64 }
+        ensures { Puts self.old (decision_text decision ++ (end ∷ [])) self.new × (self.new.at ≤ self.old.at + 15) }
+    {
+        let text: &[u8] = match decision {
+            Decision::Permit => b"permit",
+            Decision::Deny => b"deny",
+            Decision::NotApplicable => b"not-applicable",
+            Decision::Indeterminate => b"indeterminate",
+        };
+        self.put_field(text, end);
+    }
 }
 
 // The answer for a text of so many bytes, and a buffer that has so many.
@@ -99,8 +96,9 @@ pub fn text_answer(needed: usize, room: usize) -> Answer
             second: needed as u32,
         };
     }
-    Answer {
-        number: 11,
+    let refused = Refused {
+        why: Refusal::ShortBuffer,
         second: needed as u32,
-    }
+    };
+    Answer::from(refused)
 }

@@ -4,6 +4,8 @@
 ghost use Rattle.std.specs.Prelude.{◌≡◌, ◌++◌, ◌≤◌, length, drop};
 ghost use Rattle.meaning.specs.Report.{program};
 
+use printing::Sink;
+
 // The text, in a buffer of 65,536 bytes; what is behind it stays. How long it is, is the result.
 pub fn print(file: &[u8], out: &mut [u8; 65536]) -> usize
     ensures { (result ≡ length (program file.now)) × (out.new ≡ program file.now ++ drop result out.old) × (result ≤ length out.new) }
@@ -14,7 +16,9 @@ pub fn print(file: &[u8], out: &mut [u8; 65536]) -> usize
     if number == 0 {
         return second;
     }
-    let first = printing::put_field(out, 0, b"E", 9);
-    let next = printing::put_number(out, first, number as usize, 9);
-    printing::put_number(out, next, second, 10)
+    let mut sink = Sink { out, at: 0 };
+    sink.put_field(b"E", 9);
+    sink.put_number(number as usize, 9);
+    sink.put_number(second, 10);
+    sink.at
 }

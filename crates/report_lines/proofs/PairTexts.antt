@@ -6,7 +6,8 @@ use mathlib.Core.List.{List, []}
 use lib.ListN.{get_or}
 use borrow.Author.Tests.{eq-eqb, ne_eqb, lt-ltb, le-ltb}
 use Rattle.meaning.specs.Text.{Bytes, gathered, counting}
-use Rattle.printing.specs.Wrote.{Wrote}
+use Rattle.printing.specs.declared.Sink.{Sink}
+use Rattle.printing.specs.Puts.{Puts}
 use Rattle.report_lines.specs.Lines.{pair_at, conflict_row, conflict_line, later_line, later_lines}
 use Rattle.layout.specs.declared.ElementPlaces.{ElementPlaces}
 
@@ -21,7 +22,7 @@ module _ (f : Bytes) (places : List ElementPlaces) (n : ℕ) (parents pairs : Li
     unfolding later_line conflict_line
     no_conflict l = rw (eq-eqb (get_or parents k 0) i child, ← is, le-ltb m space l)
 
-    pub is_conflict : {x y : List ℕ} {at r : ℕ} → m < space → Wrote x at (conflict_row f places (record { parent = i; earlier = j; later = k; request = m })) y r × (r ≤ at + 500) → Wrote x at (later_line f places n parents pairs space i j k) y r × (r ≤ at + 500)
+    pub is_conflict : {a b : Sink} → m < space → Puts a (conflict_row f places (record { parent = i; earlier = j; later = k; request = m })) b × (b.at ≤ a.at + 500) → Puts a (later_line f places n parents pairs space i j k) b × (b.at ≤ a.at + 500)
     unfolding later_line conflict_line
     is_conflict l w = rw (eq-eqb (get_or parents k 0) i child, ← is, lt-ltb m space l) w
 
@@ -30,9 +31,9 @@ module _ (f : Bytes) (places : List ElementPlaces) (n : ℕ) (parents pairs : Li
   unfolding later_lines
   no_pairs e = rw (ne_eqb (get_or parents j 0) i e)
 
-  pub all_pairs : {x y : List ℕ} {at m : ℕ} → get_or parents j 0 ≡ i → Wrote x at (gathered (later_line f places n parents pairs space i j) (counting (j + 1) (n - (j + 1)))) y m → Wrote x at (later_lines f places n parents pairs space i j) y m
+  pub all_pairs : {a b : Sink} → get_or parents j 0 ≡ i → Puts a (gathered (later_line f places n parents pairs space i j) (counting (j + 1) (n - (j + 1)))) b → Puts a (later_lines f places n parents pairs space i j) b
   unfolding later_lines
   all_pairs e w = rw (eq-eqb (get_or parents j 0) i e) w
 
-  pub of_child : {x y : List ℕ} {at r : ℕ} → get_or parents j 0 ≡ i → Wrote x at (later_lines f places n parents pairs space (get_or parents j 0) j) y r × (r ≤ at + 32000) → Wrote x at (later_lines f places n parents pairs space i j) y r × (r ≤ at + 32000)
-  of_child {x} {y} {at} {r} e w = subst (λ p. Wrote x at (later_lines f places n parents pairs space p j) y r × (r ≤ at + 32000)) e w
+  pub of_child : {a b : Sink} → get_or parents j 0 ≡ i → Puts a (later_lines f places n parents pairs space (get_or parents j 0) j) b × (b.at ≤ a.at + 32000) → Puts a (later_lines f places n parents pairs space i j) b × (b.at ≤ a.at + 32000)
+  of_child {a} {b} e p = subst (λ i. Puts a (later_lines f places n parents pairs space i j) b × (b.at ≤ a.at + 32000)) e p

@@ -1,11 +1,12 @@
 // The lines of conflicts, `C`.
 ghost use Rattle.std.specs.Prelude.{◌+◌, ◌≤◌, ◌<◌, get_or};
 ghost use Rattle.layout.specs.Places.{NameAt, Naming};
-ghost use Rattle.printing.specs.Wrote.{Wrote};
+ghost use Rattle.printing.specs.Puts.{Puts};
 ghost use Rattle.report_lines.specs.Lines.{conflict_row, later_lines, pair_lines};
 
 use crate::fields;
 use layout::PolicyFile;
+use printing::Sink;
 
 // A conflict of two children of a parent, and the request that shows it.
 #[derive(Clone, Copy)]
@@ -16,15 +17,15 @@ struct Conflict {
     request: usize,
 }
 
-fn put_conflict(policy: &PolicyFile, c: Conflict, out: &mut [u8], at: usize) -> usize
-    requires { NameAt policy.now.file.now policy.now.places.now c.parent × NameAt policy.now.file.now policy.now.places.now c.earlier × NameAt policy.now.file.now policy.now.places.now c.later × (c.request < 4096) × (at ≤ 2000000000) }
-    ensures { Wrote out.old at (conflict_row policy.now.file.now policy.now.places.now c) out.new result × (result ≤ at + 500) }
+fn put_conflict(policy: &PolicyFile, c: Conflict, sink: &mut Sink)
+    requires { NameAt policy.now.file.now policy.now.places.now c.parent × NameAt policy.now.file.now policy.now.places.now c.earlier × NameAt policy.now.file.now policy.now.places.now c.later × (c.request < 4096) × (sink.old.at ≤ 2000000000) }
+    ensures { Puts sink.old (conflict_row policy.now.file.now policy.now.places.now c) sink.new × (sink.new.at ≤ sink.old.at + 500) }
 {
-    let parent = printing::put_field(out, at, b"C", 9);
-    let earlier = fields::put_named(policy, c.parent, 9, out, parent);
-    let later = fields::put_named(policy, c.earlier, 9, out, earlier);
-    let request = fields::put_named(policy, c.later, 9, out, later);
-    printing::put_number(out, request, c.request, 10)
+    sink.put_field(b"C", 9);
+    fields::put_named(policy, c.parent, 9, sink);
+    fields::put_named(policy, c.earlier, 9, sink);
+    fields::put_named(policy, c.later, 9, sink);
+    sink.put_number(c.request, 10);
 }
 
 // The lines of the conflicts of j with the later children of its parent.
@@ -33,16 +34,14 @@ fn put_later(
     parents: &[usize; 64],
     pairs: &[u16; 4096],
     j: usize,
-    out: &mut [u8],
-    at: usize,
-) -> usize
-    requires { Naming policy.now.file.now policy.now.places.now policy.now.shape.n × (policy.now.shape.space ≤ 4096) × (j < policy.now.shape.n) × (get_or parents.now j 0 < policy.now.shape.n) × (at ≤ 1500000000) }
-    ensures { Wrote out.old at (later_lines policy.now.file.now policy.now.places.now policy.now.shape.n parents.now pairs.now policy.now.shape.space (get_or parents.now j 0) j) out.new result × (result ≤ at + 32000) }
+    sink: &mut Sink,
+)
+    requires { Naming policy.now.file.now policy.now.places.now policy.now.shape.n × (policy.now.shape.space ≤ 4096) × (j < policy.now.shape.n) × (get_or parents.now j 0 < policy.now.shape.n) × (sink.old.at ≤ 1500000000) }
+    ensures { Puts sink.old (later_lines policy.now.file.now policy.now.places.now policy.now.shape.n parents.now pairs.now policy.now.shape.space (get_or parents.now j 0) j) sink.new × (sink.new.at ≤ sink.old.at + 32000) }
 {
     let shape = policy.shape;
     let n = shape.n;
     let parent = parents[j];
-    let mut end = at;
     for k in j + 1..n {
         if parents[k] != parent {
             continue;
@@ -57,9 +56,8 @@ fn put_later(
             later: k,
             request,
         };
-        end = put_conflict(policy, conflict, out, end);
+        put_conflict(policy, conflict, sink);
     }
-    end
 }
 
 // The lines of the conflicts of the children of i.
@@ -68,19 +66,16 @@ pub(crate) fn put_pairs(
     parents: &[usize; 64],
     pairs: &[u16; 4096],
     i: usize,
-    out: &mut [u8],
-    at: usize,
-) -> usize
-    requires { Naming policy.now.file.now policy.now.places.now policy.now.shape.n × (policy.now.shape.space ≤ 4096) × (i < policy.now.shape.n) × (at ≤ 1400000000) }
-    ensures { Wrote out.old at (pair_lines policy.now.file.now policy.now.places.now policy.now.shape.n parents.now pairs.now policy.now.shape.space i) out.new result × (result ≤ at + 2048000) }
+    sink: &mut Sink,
+)
+    requires { Naming policy.now.file.now policy.now.places.now policy.now.shape.n × (policy.now.shape.space ≤ 4096) × (i < policy.now.shape.n) × (sink.old.at ≤ 1400000000) }
+    ensures { Puts sink.old (pair_lines policy.now.file.now policy.now.places.now policy.now.shape.n parents.now pairs.now policy.now.shape.space i) sink.new × (sink.new.at ≤ sink.old.at + 2048000) }
 {
     let n = policy.shape.n;
-    let mut end = at;
     for j in 0..n {
         if parents[j] != i {
             continue;
         }
-        end = put_later(policy, parents, pairs, j, out, end);
+        put_later(policy, parents, pairs, j, sink);
     }
-    end
 }

@@ -3,58 +3,57 @@ ghost use Rattle.std.specs.Prelude.{[], ◌∷◌, ◌++◌, ◌+◌, ◌*◌, �
 ghost use Rattle.meaning.specs.Text.{newline};
 ghost use Rattle.meaning.specs.Report.{or_dash};
 ghost use Rattle.layout.specs.Places.{name_in, NameAt, Naming};
-ghost use Rattle.printing.specs.Wrote.{Wrote};
+ghost use Rattle.printing.specs.Puts.{Puts};
 ghost use Rattle.report_lines.specs.Lines.{names_of, later_names};
 
 use layout::PolicyFile;
-
+use printing::Sink;
 
 // The name of element i.
-fn put_name(policy: &PolicyFile, i: usize, out: &mut [u8], at: usize) -> usize
-    requires { NameAt policy.now.file.now policy.now.places.now i × (at ≤ 4294967296) }
-    ensures { Wrote out.old at (name_in policy.now.file.now policy.now.places.now i) out.new result × (result ≤ at + 16) }
+fn put_name(policy: &PolicyFile, i: usize, sink: &mut Sink)
+    requires { NameAt policy.now.file.now policy.now.places.now i × (sink.old.at ≤ 4294967296) }
+    ensures { Puts sink.old (name_in policy.now.file.now policy.now.places.now i) sink.new × (sink.new.at ≤ sink.old.at + 16) }
 {
-    printing::put_bytes(out, at, layout::element_name(policy.file, policy.places, i))
+    sink.put_bytes(layout::element_name(policy.file, policy.places, i));
 }
 
 // The name of element i and the byte that ends it.
-pub(crate) fn put_named(policy: &PolicyFile, i: usize, end: u8, out: &mut [u8], at: usize) -> usize
-    requires { NameAt policy.now.file.now policy.now.places.now i × (at ≤ 4294967296) }
-    ensures { Wrote out.old at (name_in policy.now.file.now policy.now.places.now i ++ (end ∷ [])) out.new result × (result ≤ at + 17) }
+pub(crate) fn put_named(policy: &PolicyFile, i: usize, end: u8, sink: &mut Sink)
+    requires { NameAt policy.now.file.now policy.now.places.now i × (sink.old.at ≤ 4294967296) }
+    ensures { Puts sink.old (name_in policy.now.file.now policy.now.places.now i ++ (end ∷ [])) sink.new × (sink.new.at ≤ sink.old.at + 17) }
 {
-    let n = put_name(policy, i, out, at);
-    printing::put(out, n, end)
+    put_name(policy, i, sink);
+    sink.put(end);
 }
 
 // The names of the elements from `from` on whose bits are set, a comma before each.
-fn put_later_names(policy: &PolicyFile, word: u64, from: usize, out: &mut [u8], at: usize) -> usize
-    requires { Naming policy.now.file.now policy.now.places.now policy.now.shape.n × (from ≤ policy.now.shape.n) × (at ≤ 4000000000) }
-    ensures { Wrote out.old at (later_names policy.now.file.now policy.now.places.now policy.now.shape.n word from) out.new result × (result ≤ at + 17 * (policy.now.shape.n - from)) }
+fn put_later_names(policy: &PolicyFile, word: u64, from: usize, sink: &mut Sink)
+    requires { Naming policy.now.file.now policy.now.places.now policy.now.shape.n × (from ≤ policy.now.shape.n) × (sink.old.at ≤ 4000000000) }
+    ensures { Puts sink.old (later_names policy.now.file.now policy.now.places.now policy.now.shape.n word from) sink.new × (sink.new.at ≤ sink.old.at + 17 * (policy.now.shape.n - from)) }
 {
     let n = policy.shape.n;
-    let mut end = at;
     for i in from..n {
         if !rows::has(word, i) {
             continue;
         }
-        let name = printing::put(out, end, b',');
-        end = put_name(policy, i, out, name);
+        sink.put(b',');
+        put_name(policy, i, sink);
     }
-    end
 }
 
 // The names of the elements whose bits are set, parted by commas, or `-`; and a newline.
-pub(crate) fn put_names(policy: &PolicyFile, word: u64, out: &mut [u8], at: usize) -> usize
-    requires { Naming policy.now.file.now policy.now.places.now policy.now.shape.n × (at ≤ 3000000000) }
-    ensures { Wrote out.old at (or_dash (names_of policy.now.file.now policy.now.places.now policy.now.shape.n word) ++ (newline ∷ [])) out.new result × (result ≤ at + 1200) }
+pub(crate) fn put_names(policy: &PolicyFile, word: u64, sink: &mut Sink)
+    requires { Naming policy.now.file.now policy.now.places.now policy.now.shape.n × (sink.old.at ≤ 3000000000) }
+    ensures { Puts sink.old (or_dash (names_of policy.now.file.now policy.now.places.now policy.now.shape.n word) ++ (newline ∷ [])) sink.new × (sink.new.at ≤ sink.old.at + 1200) }
 {
     let n = policy.shape.n;
     for i in 0..n {
         if rows::has(word, i) {
-            let first = put_name(policy, i, out, at);
-            let end = put_later_names(policy, word, i + 1, out, first);
-            return printing::put(out, end, 10);
+            put_name(policy, i, sink);
+            put_later_names(policy, word, i + 1, sink);
+            sink.put(10);
+            return;
         }
     }
-    printing::put_field(out, at, b"-", 10)
+    sink.put_field(b"-", 10);
 }

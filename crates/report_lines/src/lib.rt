@@ -1,4 +1,4 @@
-// The report's lines, from what was found of a policy. Each function stores from `at` on and gives the place behind; with an empty buffer it counts.
+// The report's lines, from what was found of a policy. Each function puts a text into a sink; over an empty buffer it counts.
 #![tactic(auto)]
 
 mod conflict_lines;
@@ -8,12 +8,13 @@ mod segment_lines;
 
 ghost use Rattle.std.specs.Prelude.{◌+◌, ◌≤◌};
 ghost use Rattle.layout.specs.Places.{Naming};
-ghost use Rattle.printing.specs.Wrote.{Wrote};
+ghost use Rattle.printing.specs.Puts.{Puts};
 ghost use Rattle.report_lines.specs.Lines.{segment_text, conflict_text, struck_text, kept_text};
 ghost use Rattle.report_lines.specs.Ready.{Ordered};
 
 use layout::PolicyFile;
 use meaning::Decision;
+use printing::Sink;
 use segment_lines::Segment;
 
 // The lines of all segments, `G`: a request with a size is the first of its segment.
@@ -22,14 +23,12 @@ pub fn put_segments(
     words: &[u64; 4096],
     sizes: &[u16; 4096],
     decided: &[Decision; 4096],
-    out: &mut [u8],
-    at: usize,
-) -> usize
-    requires { Naming policy.now.file.now policy.now.places.now policy.now.shape.n × (policy.now.shape.space ≤ 4096) × (at ≤ 1000000000) }
-    ensures { Wrote out.old at (segment_text policy.now.file.now policy.now.places.now policy.now.shape.n words.now sizes.now decided.now policy.now.shape.space) out.new result × (result ≤ at + 40960000) }
+    sink: &mut Sink,
+)
+    requires { Naming policy.now.file.now policy.now.places.now policy.now.shape.n × (policy.now.shape.space ≤ 4096) × (sink.old.at ≤ 1000000000) }
+    ensures { Puts sink.old (segment_text policy.now.file.now policy.now.places.now policy.now.shape.n words.now sizes.now decided.now policy.now.shape.space) sink.new × (sink.new.at ≤ sink.old.at + 40960000) }
 {
     let space = policy.shape.space;
-    let mut end = at;
     for m in 0..space {
         let size = sizes[m];
         if size == 0 {
@@ -41,9 +40,8 @@ pub fn put_segments(
             decision: decided[m],
             word: words[m],
         };
-        end = segment_lines::put_segment(policy, segment, out, end);
+        segment_lines::put_segment(policy, segment, sink);
     }
-    end
 }
 
 // The lines of all conflicts, `C`.
@@ -51,47 +49,34 @@ pub fn put_conflicts(
     policy: &PolicyFile,
     parents: &[usize; 64],
     pairs: &[u16; 4096],
-    out: &mut [u8],
-    at: usize,
-) -> usize
-    requires { Naming policy.now.file.now policy.now.places.now policy.now.shape.n × (policy.now.shape.space ≤ 4096) × (at ≤ 1200000000) }
-    ensures { Wrote out.old at (conflict_text policy.now.file.now policy.now.places.now policy.now.shape.n parents.now pairs.now policy.now.shape.space) out.new result × (result ≤ at + 131072000) }
+    sink: &mut Sink,
+)
+    requires { Naming policy.now.file.now policy.now.places.now policy.now.shape.n × (policy.now.shape.space ≤ 4096) × (sink.old.at ≤ 1200000000) }
+    ensures { Puts sink.old (conflict_text policy.now.file.now policy.now.places.now policy.now.shape.n parents.now pairs.now policy.now.shape.space) sink.new × (sink.new.at ≤ sink.old.at + 131072000) }
 {
     let n = policy.shape.n;
-    let mut end = at;
     for i in 0..n {
-        end = conflict_lines::put_pairs(policy, parents, pairs, i, out, end);
+        conflict_lines::put_pairs(policy, parents, pairs, i, sink);
     }
-    end
 }
 
 // The lines of the rules struck, `X`, in the order of their places.
-pub fn put_struck(
-    policy: &PolicyFile,
-    order: &[u8; 64],
-    count: usize,
-    out: &mut [u8],
-    at: usize,
-) -> usize
-    requires { Ordered policy.now.file.now policy.now.places.now order.now count × (at ≤ 2000000000) }
-    ensures { Wrote out.old at (struck_text policy.now.file.now policy.now.places.now order.now count) out.new result × (result ≤ at + 32000) }
+pub fn put_struck(policy: &PolicyFile, order: &[u8; 64], count: usize, sink: &mut Sink)
+    requires { Ordered policy.now.file.now policy.now.places.now order.now count × (sink.old.at ≤ 2000000000) }
+    ensures { Puts sink.old (struck_text policy.now.file.now policy.now.places.now order.now count) sink.new × (sink.new.at ≤ sink.old.at + 32000) }
 {
-    let mut end = at;
     for k in 0..count {
-        end = rule_lines::put_struck_rule(policy, order[k], out, end);
+        rule_lines::put_struck_rule(policy, order[k], sink);
     }
-    end
 }
 
 // The lines of the rules kept, `K`.
-pub fn put_kept(policy: &PolicyFile, shown: &[usize; 64], out: &mut [u8], at: usize) -> usize
-    requires { Naming policy.now.file.now policy.now.places.now policy.now.shape.n × (policy.now.shape.space ≤ 4096) × (at ≤ 2100000000) }
-    ensures { Wrote out.old at (kept_text policy.now.file.now policy.now.places.now policy.now.shape.n shown.now policy.now.shape.space) out.new result × (result ≤ at + 32000) }
+pub fn put_kept(policy: &PolicyFile, shown: &[usize; 64], sink: &mut Sink)
+    requires { Naming policy.now.file.now policy.now.places.now policy.now.shape.n × (policy.now.shape.space ≤ 4096) × (sink.old.at ≤ 2100000000) }
+    ensures { Puts sink.old (kept_text policy.now.file.now policy.now.places.now policy.now.shape.n shown.now policy.now.shape.space) sink.new × (sink.new.at ≤ sink.old.at + 32000) }
 {
     let n = policy.shape.n;
-    let mut end = at;
     for i in 0..n {
-        end = rule_lines::put_kept_rule(policy, shown, i, out, end);
+        rule_lines::put_kept_rule(policy, shown, i, sink);
     }
-    end
 }

@@ -1,14 +1,14 @@
 // The report of a policy that was read: everything is found once, then the same code counts the text and writes it.
 #![tactic(auto)]
 
-ghost use Rattle.std.specs.Prelude.{◌++◌, ◌≡◌, ◌≤◌, ◌<◌, length};
+ghost use Rattle.std.specs.Prelude.{◌++◌, ◌≡◌, ◌+◌, ◌≤◌, ◌<◌, length};
 ghost use Rattle.meaning.specs.Operations.{report_answer, report_lent};
 ghost use Rattle.table.specs.Shape.{hit_of};
 ghost use Rattle.layout.specs.Places.{Naming};
 ghost use Rattle.matching.specs.Hits.{HitsLaid};
 ghost use Rattle.outcomes.specs.PolicyTable.{PolicyTable, OutcomesLaid};
 ghost use Rattle.outcomes.specs.Decided.{none_struck};
-ghost use Rattle.printing.specs.Wrote.{Wrote};
+ghost use Rattle.printing.specs.Puts.{Puts};
 ghost use Rattle.trials.specs.Trial.{Laid};
 ghost use Rattle.trimmed_text.specs.Held.{PolicyHeld};
 ghost use Rattle.report_lines.specs.Lines.{segment_text, conflict_text, struck_text, kept_text};
@@ -19,6 +19,7 @@ use blocks::Effects;
 use differences::PolicyOutcomes;
 use layout::{ElementPlaces, PolicyFile};
 use meaning::{Answer, Decision};
+use printing::Sink;
 use report_lines::{put_conflicts, put_kept, put_segments, put_struck};
 use table::{Row, Shape};
 
@@ -109,34 +110,27 @@ impl Rules {
     }
 }
 
-// The lines of all that was found, one kind behind the other: where they end is the result. With an empty buffer it counts.
+// The lines of all that was found, one kind behind the other.
 fn put_lines(
     policy: &PolicyFile,
     segments: &Segments,
     conflicts: &Conflicts,
     rules: &Rules,
-    out: &mut [u8],
-) -> usize
-    requires { Naming policy.now.file.now policy.now.places.now policy.now.shape.n × (policy.now.shape.space ≤ 4096) × Ordered policy.now.file.now policy.now.places.now rules.now.order rules.now.count }
-    ensures { let f = policy.now.file.now in let places = policy.now.places.now in let n = policy.now.shape.n in let space = policy.now.shape.space in Wrote out.old 0 (segment_text f places n segments.now.words segments.now.sizes segments.now.decided space ++ (conflict_text f places n conflicts.now.parents conflicts.now.pairs space ++ (struck_text f places rules.now.order rules.now.count ++ kept_text f places n rules.now.shown space))) out.new result × (result < 4294967296) }
+    sink: &mut Sink,
+)
+    requires { Naming policy.now.file.now policy.now.places.now policy.now.shape.n × (policy.now.shape.space ≤ 4096) × Ordered policy.now.file.now policy.now.places.now rules.now.order rules.now.count × (sink.old.at ≤ 1000000000) }
+    ensures { let f = policy.now.file.now in let places = policy.now.places.now in let n = policy.now.shape.n in let space = policy.now.shape.space in Puts sink.old (segment_text f places n segments.now.words segments.now.sizes segments.now.decided space ++ (conflict_text f places n conflicts.now.parents conflicts.now.pairs space ++ (struck_text f places rules.now.order rules.now.count ++ kept_text f places n rules.now.shown space))) sink.new × (sink.new.at ≤ sink.old.at + 200000000) }
 {
-    let conflicts_from = put_segments(
+    put_segments(
         policy,
         &segments.words,
         &segments.sizes,
         &segments.decided,
-        out,
-        0,
+        sink,
     );
-    let struck_from = put_conflicts(
-        policy,
-        &conflicts.parents,
-        &conflicts.pairs,
-        out,
-        conflicts_from,
-    );
-    let kept_from = put_struck(policy, &rules.order, rules.count, out, struck_from);
-    put_kept(policy, &rules.shown, out, kept_from)
+    put_conflicts(policy, &conflicts.parents, &conflicts.pairs, sink);
+    put_struck(policy, &rules.order, rules.count, sink);
+    put_kept(policy, &rules.shown, sink);
 }
 
 // Finds what there is to report besides decisions and conflicts. The lines are counted first, and then the same code writes them.
@@ -158,10 +152,17 @@ fn write_lines(o: &PolicyOutcomes, conflicts: &Conflicts, out: &mut [u8]) -> Ans
     };
     rules.find(o);
     let mut none = [0u8; 0];
-    let needed = put_lines(&o.policy, &segments, conflicts, &rules, &mut none);
+    let mut count = Sink {
+        out: &mut none,
+        at: 0,
+    };
+    put_lines(&o.policy, &segments, conflicts, &rules, &mut count);
+    let needed = count.at;
     let room = out.len();
-    let lent = &mut out[..printing::lend(needed, room)];
-    put_lines(&o.policy, &segments, conflicts, &rules, lent);
+    if needed <= room {
+        let mut sink = Sink { out, at: 0 };
+        put_lines(&o.policy, &segments, conflicts, &rules, &mut sink);
+    }
     printing::text_answer(needed, room)
 }
 

@@ -1,26 +1,26 @@
 // Trimming rule by rule, for the policy that was read from a file: the next rule shown, and a rule struck by its name.
 #![tactic(auto)]
 
-ghost use Rattle.std.specs.Prelude.{◌≡◌, ◌≤◌};
+ghost use Rattle.std.specs.Prelude.{◌≡◌, ◌+◌, ◌≤◌};
 ghost use Rattle.std.specs.Option.{ForSome};
 ghost use Rattle.meaning.specs.Operations.{next_rule_answer, next_rule_lent, strike_answer, strike_lent};
 ghost use Rattle.layout.specs.Places.{NameAt};
-ghost use Rattle.printing.specs.Wrote.{Wrote};
+ghost use Rattle.printing.specs.Puts.{Puts};
 ghost use Rattle.trimmed_text.specs.Held.{PolicyHeld};
 ghost use Rattle.rule_by_rule.specs.Shown.{name_or_none};
 
 use layout::{ElementPlaces, PolicyFile};
 use meaning::Answer;
+use printing::Sink;
 use table::{Row, Shape};
 
-// Lays down the name of the next element, or nothing if there is none.
-fn put_name(file: &[u8], places: &[ElementPlaces], next: Option<usize>, out: &mut [u8]) -> usize
-    requires { ForSome next (λ i. NameAt file.now places.now i) }
-    ensures { Wrote out.old 0 (name_or_none file.now places.now next) out.new result × (result ≤ 16) }
+// Puts the name of the next element, or nothing if there is none.
+fn put_name(file: &[u8], places: &[ElementPlaces], next: Option<usize>, sink: &mut Sink)
+    requires { ForSome next (λ i. NameAt file.now places.now i) × (sink.old.at ≤ 1000) }
+    ensures { Puts sink.old (name_or_none file.now places.now next) sink.new × (sink.new.at ≤ sink.old.at + 16) }
 {
-    match next {
-        Some(i) => printing::put_bytes(out, 0, layout::element_name(file, places, i)),
-        None => 0,
+    if let Some(i) = next {
+        sink.put_bytes(layout::element_name(file, places, i));
     }
 }
 
@@ -45,10 +45,16 @@ pub fn show(
     };
     let next = trimming::next_struck(policy, &mut struck);
     let mut none = [0u8; 0];
-    let needed = put_name(file, places, next, &mut none);
+    let mut count = Sink {
+        out: &mut none,
+        at: 0,
+    };
+    put_name(file, places, next, &mut count);
+    let needed = count.at;
     let room = out.len();
-    let part = printing::lend(needed, room);
-    put_name(file, places, next, &mut out[..part]);
+    if needed <= room {
+        put_name(file, places, next, &mut Sink { out, at: 0 });
+    }
     printing::text_answer(needed, room)
 }
 
@@ -87,9 +93,15 @@ pub fn strike(
     }
     struck[i] = 1;
     let mut none = [0u8; 0];
-    let needed = trimmed_text::put_text(file, places, &struck, n, &mut none);
+    let mut count = Sink {
+        out: &mut none,
+        at: 0,
+    };
+    trimmed_text::put_text(file, places, &struck, n, &mut count);
+    let needed = count.at;
     let room = out.len();
-    let part = printing::lend(needed, room);
-    trimmed_text::put_text(file, places, &struck, n, &mut out[..part]);
+    if needed <= room {
+        trimmed_text::put_text(file, places, &struck, n, &mut Sink { out, at: 0 });
+    }
     printing::text_answer(needed, room)
 }

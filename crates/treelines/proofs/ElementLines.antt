@@ -1,5 +1,5 @@
 -- The line of an element, field by field; and the lines of a file.
-use mathlib.Core.Path.{◌≡◌, ap, ◌∙◌, subst}
+use mathlib.Core.Path.{◌≡◌, ap, ◌∙◌}
 use Prim.Native.Nat.{ℕ, ◌+◌, ◌/◌, ◌≤◌, ◌<◌}
 use native.Mathlib.Omega.{arith}
 use mathlib.Core.List.{List, [], ◌∷◌, ◌++◌}
@@ -12,8 +12,9 @@ use Rattle.layout.specs.Places.{attributes_of}
 use Rattle.elements.specs.Listed.{blank}
 use Rattle.elements.proofs.Listing.{any_default}
 use Rattle.laws.proofs.Types.{set, Word, Obligation, Element}
-use Rattle.printing.specs.Wrote.{Wrote}
-use Rattle.printing.proofs.Laws.{then, line_next, line_behind}
+use Rattle.printing.specs.declared.Sink.{Sink}
+use Rattle.printing.specs.Puts.{Puts}
+use Rattle.printing.proofs.Laws.{then, line_next, line_behind, same_text}
 use Rattle.printing.proofs.Walks.{taken}
 use Rattle.treelines.specs.Writable.{Small, Writable}
 
@@ -30,18 +31,18 @@ fields a b c d ts =
     ∙ ap (λ t. field a ++ t) (line_next b c (d ∷ ts))
     ∙ line_next a b (c ∷ d ∷ ts)
 
--- kind, depth, name, word and targets, each stored behind the one before
-pub tree_line_lem : {x u v w z s y : List ℕ} {at a b c d f r : ℕ} (kind name word : Bytes) (depth : ℕ) (ts : List Bytes) → depth ≤ 7
-    → Wrote x at (field kind) u a × (a ≤ at + 2)
-    → Wrote u a (field (decimal depth)) v b × (b ≤ a + depth / 10 + 2)
-    → Wrote v b (field name) w c × (c ≤ b + 17)
-    → Wrote w c word z d × (d ≤ c + 19)
-    → Wrote z d (others ts) s f × (f ≤ d + 98316)
-    → Wrote s f (newline ∷ []) y r
-    → Wrote x at (line (kind ∷ decimal depth ∷ name ∷ word ∷ ts)) y r × (r ≤ at + 100000)
-tree_line_lem {x = x} {y = y} {at = at} {r = r} kind name word depth ts small (one, g) (two, h) (three, i) (four, j) (five, k) six = (
-  subst (λ t. Wrote x at t y r) (fields kind (decimal depth) name word ts) (then one (then two (then three (then four (then five six))))),
-  omega (arith, g, h, i, j, k, six.moved),
+-- kind, depth, name, word and targets, each put behind the one before
+pub tree_line_lem : {a b c d e f g : Sink} (kind name word : Bytes) (depth : ℕ) (ts : List Bytes) → depth ≤ 7
+    → Puts a (field kind) b × (b.at ≤ a.at + 2)
+    → Puts b (field (decimal depth)) c × (c.at ≤ b.at + depth / 10 + 2)
+    → Puts c (field name) d × (d.at ≤ c.at + 17)
+    → Puts d word e × (e.at ≤ d.at + 19)
+    → Puts e (others ts) f × (f.at ≤ e.at + 98316)
+    → Puts f (newline ∷ []) g
+    → Puts a (line (kind ∷ decimal depth ∷ name ∷ word ∷ ts)) g × (g.at ≤ a.at + 100000)
+tree_line_lem {a = a} {g = g} kind name word depth ts small (one, h) (two, i) (three, j) (four, k) (five, l) six = (
+  same_text (fields kind (decimal depth) name word ts) (then one (then two (then three (then four (then five six))))),
+  omega (arith, h, i, j, k, l, six.wrote.moved),
 )
 
 -- the lines of the element at a place; behind the end of an array code reads this element
@@ -58,9 +59,9 @@ pub small_at : (header : Bytes) (a : Attributes) (list : List Element) (i : ℕ)
 small_at header a list i w l = rw (any_default list unread blank i l) (w.each i l)
 
 -- the attribute lines, and the lines of all elements
-pub file_text : {x u y : List ℕ} {m r : ℕ} (header : Bytes) (a : Attributes) (list : List Element)
-    → Wrote x 0 header u m
-    → Wrote u m (gathered (lines_at header a list) (counting 0 (length list))) y r
-    → Wrote x 0 (header ++ gathered (element_lines (attributes_of header a)) list) y r
-file_text {u = u} {y = y} {m = m} {r = r} header a list head lines =
-    then head (subst (λ t. Wrote u m t y r) (taken unread (element_lines (attributes_of header a)) list (length list) (omega arith) ∙ ap (gathered (element_lines (attributes_of header a))) (take_all (length list) list (omega arith))) lines)
+pub file_text : {x y z : Sink} (header : Bytes) (a : Attributes) (list : List Element)
+    → Puts x header y
+    → Puts y (gathered (lines_at header a list) (counting 0 (length list))) z
+    → Puts x (header ++ gathered (element_lines (attributes_of header a)) list) z
+file_text {y = y} {z = z} header a list head lines =
+    then head (same_text (taken unread (element_lines (attributes_of header a)) list (length list) (omega arith) ∙ ap (gathered (element_lines (attributes_of header a))) (take_all (length list) list (omega arith))) lines)

@@ -12,16 +12,17 @@ use Rattle.meaning.specs.Writing.{value_names, target_text, target_texts}
 use Rattle.text.proofs.Pieces.{drop_next}
 use Rattle.layout.specs.declared.Attributes.{Attributes}
 use Rattle.layout.specs.Places.{place_at, values_in, attributes_from, attributes_of, Standing}
-use Rattle.printing.specs.Wrote.{Wrote}
-use Rattle.printing.proofs.Laws.{then}
+use Rattle.printing.specs.declared.Sink.{Sink}
+use Rattle.printing.specs.Puts.{Puts}
+use Rattle.printing.proofs.Laws.{then, same_text}
 
 -- a mask that is full, and one that is not
-module _ {x y : List ℕ} {at r : ℕ} (vs : List Bytes) (count mask whole : ℕ) (counted : count ≡ length vs) (full : whole ≡ (2 ^ count) - 1) where
-  pub star : mask ≡ whole → Wrote x at (bytes "*") y r → Wrote x at (target_text vs mask) y r × (r ≤ at + 16385)
-  star e w = (rw (eq-eqb mask ((2 ^ length vs) - 1) (e ∙ full ∙ ap (λ n. (2 ^ n) - 1) counted)) w, omega (arith, w.moved))
+module _ {a b : Sink} (vs : List Bytes) (count mask whole : ℕ) (counted : count ≡ length vs) (full : whole ≡ (2 ^ count) - 1) where
+  pub star : mask ≡ whole → Puts a (bytes "*") b → Puts a (target_text vs mask) b × (b.at ≤ a.at + 16385)
+  star e p = (rw (eq-eqb mask ((2 ^ length vs) - 1) (e ∙ full ∙ ap (λ n. (2 ^ n) - 1) counted)) p, omega (arith, p.wrote.moved))
 
-  pub not_star : mask ≢ whole → Wrote x at (join comma (value_names vs mask)) y r × (r ≤ at + 16385) → Wrote x at (target_text vs mask) y r × (r ≤ at + 16385)
-  not_star e (w, l) = (rw (ne_eqb mask ((2 ^ length vs) - 1) (λ i. e (i ∙ sym (full ∙ ap (λ n. (2 ^ n) - 1) counted)))) w, l)
+  pub not_star : mask ≢ whole → Puts a (join comma (value_names vs mask)) b × (b.at ≤ a.at + 16385) → Puts a (target_text vs mask) b × (b.at ≤ a.at + 16385)
+  not_star e (p, l) = (rw (ne_eqb mask ((2 ^ length vs) - 1) (λ i. e (i ∙ sym (full ∙ ap (λ n. (2 ^ n) - 1) counted)))) p, l)
 
 -- the values of an attribute are part of the attribute lines
 pub values_short : {f : Bytes} {a : Attributes} {i : ℕ} → Standing f a i → length f ≤ 16384 → length (values_in f a i) ≤ 16384
@@ -34,9 +35,9 @@ values_short {f} {a} {i} here short =
 abbrev pub tab_target : Bytes → Attributes → (masks : List ℕ) → ℕ → Bytes
 tab_target f a masks i = tab ∷ target_text (cut tab (values_in f a i)) (get_or masks i 0)
 
-pub tab_put : (f : Bytes) (a : Attributes) (masks : List ℕ) (i : ℕ) {values x y z : List ℕ} {at m r : ℕ} → values ≡ values_in f a i → Wrote x at (tab ∷ []) y m → Wrote y m (target_text (cut tab values) (get_or masks i 0)) z r × (r ≤ m + 16385)
-    → Wrote x at (tab_target f a masks i) z r × (r ≤ at + 16386)
-tab_put f a masks i {y = y} {z} {m = m} {r} same w (v, l) = (then w (subst (λ vs. Wrote y m (target_text (cut tab vs) (get_or masks i 0)) z r) same v), omega (arith, w.moved, l))
+pub tab_put : (f : Bytes) (a : Attributes) (masks : List ℕ) (i : ℕ) {values : List ℕ} {b c d : Sink} → values ≡ values_in f a i → Puts b (tab ∷ []) c → Puts c (target_text (cut tab values) (get_or masks i 0)) d × (d.at ≤ c.at + 16385)
+    → Puts b (tab_target f a masks i) d × (d.at ≤ b.at + 16386)
+tab_put f a masks i {c = c} {d} same p (q, l) = (then p (subst (λ vs. Puts c (target_text (cut tab vs) (get_or masks i 0)) d) same q), omega (arith, p.wrote.moved, l))
 
 -- all targets
 module _ (f : Bytes) (a : Attributes) (masks : List ℕ) where
@@ -47,5 +48,5 @@ module _ (f : Bytes) (a : Attributes) (masks : List ℕ) where
       let next : suc i ≡ i + 1 = omega arith in
       rw (drop_next masks i (omega arith), next, targets_from (i + 1) n (omega arith))
 
-  pub all_targets : {x y : List ℕ} {at r : ℕ} → a.len ≤ length masks → Wrote x at (gathered (tab_target f a masks) (counting 0 a.len)) y r → Wrote x at (gathered (λ t. tab ∷ t) (target_texts (attributes_of f a) masks)) y r
-  all_targets {x} {y} {at} {r} enough w = subst (λ t. Wrote x at t y r) (targets_from 0 a.len (omega arith)) w
+  pub all_targets : {b c : Sink} → a.len ≤ length masks → Puts b (gathered (tab_target f a masks) (counting 0 a.len)) c → Puts b (gathered (λ t. tab ∷ t) (target_texts (attributes_of f a) masks)) c
+  all_targets {b} {c} enough p = same_text (targets_from 0 a.len (omega arith)) p

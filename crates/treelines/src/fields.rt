@@ -2,9 +2,10 @@
 ghost use Rattle.std.specs.Prelude.{◌≡◌, [], ◌∷◌, ◌++◌, ◌+◌, ◌≤◌, take};
 ghost use Rattle.meaning.specs.Text.{tab};
 ghost use Rattle.meaning.specs.Model.{kind_text, word_text};
-ghost use Rattle.printing.specs.Wrote.{Wrote};
+ghost use Rattle.printing.specs.Puts.{Puts};
 
 use meaning::{Kind, Word};
+use printing::Sink;
 
 // The letter of a kind. Letters and words are byte strings, the form that docs/DECISIONS.md names.
 fn letter(kind: Kind) -> &'static [u8]
@@ -18,20 +19,20 @@ fn letter(kind: Kind) -> &'static [u8]
 }
 
 // The letter of a kind, and a tab.
-pub(crate) fn put_kind(kind: Kind, out: &mut [u8], at: usize) -> usize
-    requires { at ≤ 4000000000 }
-    ensures { Wrote out.old at (kind_text kind ++ (tab ∷ [])) out.new result × (result ≤ at + 2) }
+pub(crate) fn put_kind(kind: Kind, sink: &mut Sink)
+    requires { sink.old.at ≤ 4000000000 }
+    ensures { Puts sink.old (kind_text kind ++ (tab ∷ [])) sink.new × (sink.new.at ≤ sink.old.at + 2) }
 {
-    printing::put_field(out, at, letter(kind), b'\t')
+    sink.put_field(letter(kind), b'\t');
 }
 
 // A stored name, and a tab.
-pub(crate) fn put_name(name: [u8; 16], len: u8, out: &mut [u8], at: usize) -> usize
-    requires { (len ≤ 16) × (at ≤ 4000000000) }
-    ensures { Wrote out.old at (take len name ++ (tab ∷ [])) out.new result × (result ≤ at + 17) }
+pub(crate) fn put_name(name: [u8; 16], len: u8, sink: &mut Sink)
+    requires { (len ≤ 16) × (sink.old.at ≤ 4000000000) }
+    ensures { Puts sink.old (take len name ++ (tab ∷ [])) sink.new × (sink.new.at ≤ sink.old.at + 17) }
 {
     let end = len as usize;
-    printing::put_field(out, at, &name[..end], b'\t')
+    sink.put_field(&name[..end], b'\t');
 }
 
 // A word as it is spelled.
@@ -49,9 +50,9 @@ fn spelling(word: Word) -> &'static [u8]
 }
 
 // A word.
-pub(crate) fn put_word(word: Word, out: &mut [u8], at: usize) -> usize
-    requires { at ≤ 4000000000 }
-    ensures { Wrote out.old at (word_text word) out.new result × (result ≤ at + 19) }
+pub(crate) fn put_word(word: Word, sink: &mut Sink)
+    requires { sink.old.at ≤ 4000000000 }
+    ensures { Puts sink.old (word_text word) sink.new × (sink.new.at ≤ sink.old.at + 19) }
 {
-    printing::put_bytes(out, at, spelling(word))
+    sink.put_bytes(spelling(word));
 }

@@ -1,5 +1,5 @@
 -- The text of the lines left, element by element: where an element's lines lie, and what they add to the text.
-use mathlib.Core.Path.{◌≡◌, subst}
+use mathlib.Core.Path.{◌≡◌}
 use Prim.Native.Nat.{ℕ, ◌+◌, ◌-◌, ◌≤◌, ◌<◌}
 use native.Mathlib.Omega.{arith}
 use mathlib.Core.Bool.{cond}
@@ -12,7 +12,9 @@ use Rattle.meaning.specs.Text.{Bytes}
 use Rattle.laws.proofs.Bools.{Test, passed, failed, test}
 use Rattle.layout.specs.declared.ElementPlaces.{ElementPlaces}
 use Rattle.layout.specs.Places.{part, start_of}
-use Rattle.printing.specs.Wrote.{Wrote}
+use Rattle.printing.specs.declared.Sink.{Sink}
+use Rattle.printing.specs.Puts.{Puts}
+use Rattle.printing.proofs.Laws.{same_text}
 use Rattle.trimmed_text.specs.Copied.{lines_end, piece_at, Copies, Piece}
 
 length_part : (f : Bytes) (a b : ℕ) → b ≤ length f → length (part f a b) ≡ b - a
@@ -55,5 +57,5 @@ module _ (f : Bytes) (places : List ElementPlaces) (struck : List ℕ) (n : ℕ)
     pub length_piece : length (part f (start_of places i) e) ≡ e - start_of places i
     length_piece = length_part f (start_of places i) e p.inside
 
-    pub piece_stored : {y z : List ℕ} {m k : ℕ} → Wrote y m (part f (start_of places i) e) z k → Wrote y m (piece_at f places struck n i) z k × (k ≤ m + length f)
-    piece_stored {y} {z} {m} {k} w = (subst (λ t. Wrote y m t z k) p.is w, omega (arith, w.moved, length_piece, p.inside))
+    pub piece_stored : {a b : Sink} → Puts a (part f (start_of places i) e) b → Puts a (piece_at f places struck n i) b × (b.at ≤ a.at + length f)
+    piece_stored {a} {b} put = (same_text p.is put, omega (arith, put.wrote.moved, length_piece, p.inside))

@@ -1,11 +1,12 @@
 // The text of the lines left, by the places of the elements and their flags; specs/ and proofs/ say what trimming on flags is.
 #![tactic(auto)]
 
-ghost use Rattle.std.specs.Prelude.{◌≡◌, ◌*◌, ◌≤◌, ◌<◌, length};
-ghost use Rattle.printing.specs.Wrote.{Wrote};
+ghost use Rattle.std.specs.Prelude.{◌≡◌, ◌*◌, ◌≤◌, ◌<◌, ◌+◌, ◌^◌, length};
+ghost use Rattle.printing.specs.Puts.{Puts};
 ghost use Rattle.trimmed_text.specs.Copied.{lines_end, copied, Copies, Piece};
 
 use layout::ElementPlaces;
+use printing::Sink;
 
 // Where element i's lines end: where the next element starts, or the file ends.
 pub fn lines_end(file: &[u8], places: &[ElementPlaces], n: usize, i: usize) -> usize
@@ -29,23 +30,16 @@ fn piece_end(file: &[u8], places: &[ElementPlaces], struck: &[u8], n: usize, i: 
     lines_end(file, places, n, i)
 }
 
-// Lays down the bytes before the first element's line, and the lines left. How long they are, is the result.
-pub fn put_text(
-    file: &[u8],
-    places: &[ElementPlaces],
-    struck: &[u8],
-    n: usize,
-    out: &mut [u8],
-) -> usize
-    requires { Copies file.now places.now struck.now n }
-    ensures { Wrote out.old 0 (copied file.now places.now struck.now n) out.new result × (result ≤ length file.now) }
+// Puts the bytes before the first element's line, and the lines left.
+pub fn put_text(file: &[u8], places: &[ElementPlaces], struck: &[u8], n: usize, sink: &mut Sink)
+    requires { Copies file.now places.now struck.now n × (sink.old.at + length file.now < 2 ^ 64) }
+    ensures { Puts sink.old (copied file.now places.now struck.now n) sink.new × (sink.new.at ≤ sink.old.at + length file.now) }
 {
     let first = places[0].start;
-    let mut at = printing::put_bytes(out, 0, &file[0..first]);
+    sink.put_bytes(&file[0..first]);
     for i in 0..n {
         let start = places[i].start;
         let end = piece_end(file, places, struck, n, i);
-        at = printing::put_bytes(out, at, &file[start..end]);
+        sink.put_bytes(&file[start..end]);
     }
-    at
 }

@@ -1,5 +1,5 @@
 -- The lines of pairs, field by field and run by run; and the room that they take.
-use mathlib.Core.Path.{◌≡◌, subst}
+use mathlib.Core.Path.{◌≡◌}
 use Prim.Native.Nat.{ℕ, ◌+◌, ◌-◌, ◌*◌, ◌/◌, ◌%◌, ◌≤◌, ◌<◌}
 use native.Mathlib.Nat.{le_trans, suc-mul, mul_assoc, mul_comm, mul-le-mul_right, mod-le, mod-lt}
 use native.Mathlib.Omega.{arith}
@@ -11,8 +11,9 @@ use Rattle.meaning.specs.declared.Decision.{Decision}
 use Rattle.meaning.specs.Text.{bytes, decimal}
 use Rattle.meaning.specs.Model.{decision_text}
 use Rattle.meaning.specs.Deciding.{is, members}
-use Rattle.printing.specs.Wrote.{Wrote}
-use Rattle.printing.proofs.Laws.{then, nothing}
+use Rattle.printing.specs.declared.Sink.{Sink}
+use Rattle.printing.specs.Puts.{Puts}
+use Rattle.printing.proofs.Laws.{then, nothing, same_text}
 use Rattle.printing.proofs.LineFields.{field, last, five}
 use Rattle.value_pairs.specs.Lines.{later_bit, pair_line, value_lines, run_lines}
 use Rattle.value_pairs.proofs.SetBits.{this_set, bits_below}
@@ -28,21 +29,21 @@ module _ (decided : List Decision) (low high n : ℕ) where
   abbrev later : Decision
   later = get_or decided (n - low) Decision.Permit
 
-  pub no_line : {x : List ℕ} {at : ℕ} → (is both earlier && is both later) ≡ true → Wrote x at (pair_line decided low high n) x at × (at ≤ at + 500)
+  pub no_line : (a : Sink) → (is both earlier && is both later) ≡ true → Puts a (pair_line decided low high n) a × (a.at ≤ a.at + 500)
   unfolding pair_line
-  no_line {x} {at} e = (rw e (nothing x at), omega arith)
+  no_line a e = (rw e (nothing a), omega arith)
 
-  pub a_line : {x u v w z y : List ℕ} {at a b c d r : ℕ} → (is both earlier && is both later) ≡ false → n < 4096
-      → Wrote x at (field (bytes "D")) u a
-      → Wrote u a (field (decimal n)) v b × (b ≤ a + n / 10 + 2)
-      → Wrote v b (field (decision_text both)) w c × (c ≤ b + 15)
-      → Wrote w c (field (decision_text earlier)) z d × (d ≤ c + 15)
-      → Wrote z d (last (decision_text later)) y r × (r ≤ d + 15)
-      → Wrote x at (pair_line decided low high n) y r × (r ≤ at + 500)
+  pub a_line : {a b c d e f : Sink} → (is both earlier && is both later) ≡ false → n < 4096
+      → Puts a (field (bytes "D")) b
+      → Puts b (field (decimal n)) c × (c.at ≤ b.at + n / 10 + 2)
+      → Puts c (field (decision_text both)) d × (d.at ≤ c.at + 15)
+      → Puts d (field (decision_text earlier)) e × (e.at ≤ d.at + 15)
+      → Puts e (last (decision_text later)) f × (f.at ≤ e.at + 15)
+      → Puts a (pair_line decided low high n) f × (f.at ≤ a.at + 500)
   unfolding pair_line
-  a_line {x = x} {y = y} {at = at} {r = r} e few one (two, i) (three, j) (four, k) (fifth, l) = (
-    rw e (subst (λ t. Wrote x at t y r) (five (bytes "D") (decimal n) (decision_text both) (decision_text earlier) (decision_text later)) (then one (then two (then three (then four fifth))))),
-    omega (arith, one.moved, i, j, k, l),
+  a_line differ few one (two, i) (three, j) (four, k) (fifth, l) = (
+    rw differ (same_text (five (bytes "D") (decimal n) (decision_text both) (decision_text earlier) (decision_text later)) (then one (then two (then three (then four fifth))))),
+    omega (arith, one.wrote.moved, i, j, k, l),
   )
 
 -- a run of requests with one set
@@ -51,11 +52,11 @@ module _ (decided : List Decision) (size behind run : ℕ) where
   unfolding run_lines
   no_pair e = rw (← e)
 
-  pub a_pair : {x y : List ℕ} {at r : ℕ} (high : ℕ) → Some high ≡ later_bit (members (run % size))
-      → Wrote x at (value_lines decided (run * behind) ((run % size + 1 - high) * behind) (high * behind) behind) y r × (r ≤ at + 500 * behind)
-      → Wrote x at (run_lines decided size behind run) y r × (r ≤ at + 500 * behind)
+  pub a_pair : {a b : Sink} (high : ℕ) → Some high ≡ later_bit (members (run % size))
+      → Puts a (value_lines decided (run * behind) ((run % size + 1 - high) * behind) (high * behind) behind) b × (b.at ≤ a.at + 500 * behind)
+      → Puts a (run_lines decided size behind run) b × (b.at ≤ a.at + 500 * behind)
   unfolding run_lines
-  a_pair high e w = rw (← e) w
+  a_pair high e p = rw (← e) p
 
 -- Room: the text of the runs so far, of those that make the space
 pub text_room : (behind runs run : ℕ) → runs * behind ≤ 4096 → run ≤ runs → 500 * behind * (run - 0) ≤ 2048000

@@ -8,12 +8,13 @@ ghost use Rattle.meaning.specs.ValuePairs.{several_at};
 ghost use Rattle.meaning.specs.Operations.{value_pairs_answer, value_pairs_lent};
 ghost use Rattle.laws.proofs.Requests.{Positive};
 ghost use Rattle.layout.specs.Places.{attributes_of, AllStanding};
-ghost use Rattle.printing.specs.Wrote.{Wrote};
+ghost use Rattle.printing.specs.Puts.{Puts};
 ghost use Rattle.value_pairs.specs.Lines.{later_bit, pair_line, value_lines, pair_lines};
 ghost use Rattle.value_pairs.specs.Held.{place_or13, PolicyDecided};
 
 use layout::Attributes;
 use meaning::{Answer, Decision};
+use printing::Sink;
 use table::{Row, Shape};
 
 // The place of the attribute of an `M` line that has this name.
@@ -72,28 +73,21 @@ fn differs(both: Decision, earlier: Decision, later: Decision) -> bool
 
 // The line of request n, if its decision is another than with one of its two values alone: the request with the earlier
 // alone is `high` numbers before it, the one with the later alone `low`.
-fn put_pair(
-    decided: &[Decision; 4096],
-    n: usize,
-    low: usize,
-    high: usize,
-    out: &mut [u8],
-    at: usize,
-) -> usize
-    requires { (n < 4096) × (low ≤ n) × (high ≤ n) × (at ≤ 2000000000) }
-    ensures { Wrote out.old at (pair_line decided.now low high n) out.new result × (result ≤ at + 500) }
+fn put_pair(decided: &[Decision; 4096], n: usize, low: usize, high: usize, sink: &mut Sink)
+    requires { (n < 4096) × (low ≤ n) × (high ≤ n) × (sink.old.at ≤ 2000000000) }
+    ensures { Puts sink.old (pair_line decided.now low high n) sink.new × (sink.new.at ≤ sink.old.at + 500) }
 {
     let both = decided[n];
     let earlier = decided[n - high];
     let later = decided[n - low];
     if !differs(both, earlier, later) {
-        return at;
+        return;
     }
-    let request = printing::put_field(out, at, b"D", 9);
-    let first = printing::put_number(out, request, n, 9);
-    let second = printing::put_decision(out, first, both, 9);
-    let third = printing::put_decision(out, second, earlier, 9);
-    printing::put_decision(out, third, later, 10)
+    sink.put_field(b"D", 9);
+    sink.put_number(n, 9);
+    sink.put_decision(both, 9);
+    sink.put_decision(earlier, 9);
+    sink.put_decision(later, 10);
 }
 
 // The lines of two values and a choice of the attributes before: one for each choice of those behind, from request `first` on.
@@ -103,50 +97,37 @@ fn put_values(
     low: usize,
     high: usize,
     behind: usize,
-    out: &mut [u8],
-    at: usize,
-) -> usize
-    requires { (first + behind ≤ 4096) × (low ≤ first) × (high ≤ first) × (at ≤ 1000000000) }
-    ensures { Wrote out.old at (value_lines decided.now first low high behind) out.new result × (result ≤ at + 500 * behind) }
+    sink: &mut Sink,
+)
+    requires { (first + behind ≤ 4096) × (low ≤ first) × (high ≤ first) × (sink.old.at ≤ 1000000000) }
+    ensures { Puts sink.old (value_lines decided.now first low high behind) sink.new × (sink.new.at ≤ sink.old.at + 500 * behind) }
 {
-    let mut end = at;
     for k in 0..behind {
-        end = put_pair(decided, first + k, low, high, out, end);
+        put_pair(decided, first + k, low, high, sink);
     }
-    end
 }
 
 // The lines of an attribute of so many sets, with so many choices behind it. A run of requests has one choice of the
 // attributes before and one set: set `run % size`, whose mask is one more.
-fn put_pairs(
-    decided: &[Decision; 4096],
-    size: usize,
-    behind: usize,
-    runs: usize,
-    out: &mut [u8],
-    at: usize,
-) -> usize
-    requires { (1 ≤ size) × (size ≤ 4095) × (runs * behind ≤ 4096) × (at ≤ 100000000) }
-    ensures { Wrote out.old at (pair_lines decided.now size behind runs) out.new result × (result ≤ at + 2048000) }
+fn put_pairs(decided: &[Decision; 4096], size: usize, behind: usize, runs: usize, sink: &mut Sink)
+    requires { (1 ≤ size) × (size ≤ 4095) × (runs * behind ≤ 4096) × (sink.old.at ≤ 100000000) }
+    ensures { Puts sink.old (pair_lines decided.now size behind runs) sink.new × (sink.new.at ≤ sink.old.at + 2048000) }
 {
-    let mut end = at;
     for run in 0..runs {
         let set = run % size + 1;
         let Some(high) = later_bit(set) else {
             continue;
         };
         let low = set - high;
-        end = put_values(
+        put_values(
             decided,
             run * behind,
             low * behind,
             high * behind,
             behind,
-            out,
-            end,
+            sink,
         );
     }
-    end
 }
 
 // The lines of the attribute that has the name, in a lent buffer, for the policy that was read from a file.
@@ -175,9 +156,15 @@ pub fn tell(
     let behind = choices_from(counts, place + 1, shape.len);
     let runs = shape.space / behind;
     let mut none = [0u8; 0];
-    let needed = put_pairs(&decided, size, behind, runs, &mut none, 0);
+    let mut count = Sink {
+        out: &mut none,
+        at: 0,
+    };
+    put_pairs(&decided, size, behind, runs, &mut count);
+    let needed = count.at;
     let room = out.len();
-    let part = printing::lend(needed, room);
-    put_pairs(&decided, size, behind, runs, &mut out[..part], 0);
+    if needed <= room {
+        put_pairs(&decided, size, behind, runs, &mut Sink { out, at: 0 });
+    }
     printing::text_answer(needed, room)
 }

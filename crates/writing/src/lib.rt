@@ -15,6 +15,7 @@ ghost use Rattle.treelines.specs.Writable.{Writable};
 
 use layout::Attributes;
 use meaning::{Answer, Element};
+use printing::Sink;
 use refusals::{Refusal, Refused};
 
 // The text of good lines and elements: counted first, and written if it is no longer than a file and fits.
@@ -24,7 +25,12 @@ fn write_text(header: &[u8], a: Attributes, list: &[Element], out: &mut [u8]) ->
     ensures out_after { out.new ≡ lent out.old (short (header.now ++ gathered (element_lines (attributes_of header.now a)) list.now) then fitted (length out.old)) }
 {
     let mut none = [0u8; 0];
-    let needed = treelines::put_file(header, a, list, &mut none);
+    let mut count = Sink {
+        out: &mut none,
+        at: 0,
+    };
+    treelines::put_file(header, a, list, &mut count);
+    let needed = count.at;
     if 16384 < needed {
         return Refused {
             why: Refusal::LongFile,
@@ -33,8 +39,9 @@ fn write_text(header: &[u8], a: Attributes, list: &[Element], out: &mut [u8]) ->
         .into();
     }
     let room = out.len();
-    let part = printing::lend(needed, room);
-    treelines::put_file(header, a, list, &mut out[..part]);
+    if needed <= room {
+        treelines::put_file(header, a, list, &mut Sink { out, at: 0 });
+    }
     printing::text_answer(needed, room)
 }
 

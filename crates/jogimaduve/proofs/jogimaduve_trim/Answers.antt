@@ -1,14 +1,16 @@
 -- `jogimaduve_trim` meets its contract: the file's refusal, or the trimmed text fitted to the buffer.
-use mathlib.Core.Path.{refl, sym, ◌∙◌}
+use mathlib.Core.Path.{refl, ◌∙◌}
 use native.Mathlib.Omega.{arith}
-use lib.Seq.{length-take-le}
-use Rattle.printing.proofs.Fitting.{written}
+use borrow.Author.Rules.{rules}
+use Rattle.printing.proofs.Laws.{filled}
+use Rattle.printing.proofs.Fitting.{written, untouched}
 use Rattle.meaning.specs.Report.{trim_file}
 use Rattle.reader.proofs.FileRead.{file_refused, file_read, sizable}
 use Rattle.jogimaduve.proofs.Refusing.{refusal}
 use Rattle.jogimaduve.proofs.Shaping.{ready, steady_read, copies}
 use Rattle.jogimaduve.proofs.Trimming.{small_text, trim_fitted}
 use Rattle.jogimaduve.proofs.jogimaduve_trim.Goals as goal
+use Rattle.jogimaduve.proofs.jogimaduve_trim.Goals.{then-needed-room, else-needed-room}
 
 pub returns-in-Err : goal.returns-in-Err
 unfolding trim_file
@@ -24,26 +26,31 @@ strike-requires c =
     let (p, h, holds) = file_read c.in-Ok.ensures in
     (steady_read _ _ _ _ p h holds _ c.shape-shape.ensures, ready _ _ _ _ p h holds _ c.shape-shape.ensures _ (omega arith) refl)
 
-pub put_text-needed-requires : goal.put_text-needed-requires
-put_text-needed-requires c =
-    let (p, h, holds) = file_read c.in-Ok.ensures in
-    copies _ _ _ _ p h holds _ (omega arith)
-
-pub slice_bounds-put_text-end-7 : goal.slice_bounds-put_text-end-7
-slice_bounds-put_text-end-7 c = sym (length-take-le _ _ c.lend-part.ensures.within)
-
 pub put_text-requires : goal.put_text-requires
 put_text-requires c =
     let (p, h, holds) = file_read c.in-Ok.ensures in
-    copies _ _ _ _ p h holds _ (omega arith)
+    (copies _ _ _ _ p h holds _ (omega arith), omega arith)
+
+pub put_text-requires-then-needed-room : goal.put_text-requires-then-needed-room
+put_text-requires-then-needed-room c =
+    let (p, h, holds) = file_read c.in-Ok.ensures in
+    (copies _ _ _ _ p h holds _ (omega arith), omega arith)
 
 pub text_answer-requires : goal.text_answer-requires
 text_answer-requires c =
     let (p, h, holds) = file_read c.in-Ok.ensures in
-    small_text _ p h _ c.put_text-needed.ensures.1
+    small_text _ p h c.put_text.new.sink.at (omega (arith, c.put_text.ensures.1))
 
 pub returns : goal.returns
 returns c =
     let (p, h, holds) = file_read c.in-Ok.ensures in
-    let both = trim_fitted _ _ _ _ p h holds _ c.shape-shape.ensures _ c.strike.ensures (written c.put_text-needed.ensures.0 c.args.out.now _ c.lend-part.ensures.value c.put_text.ensures.0 c.text_answer.ensures) in
+    let out = c.args.out.now in
+    let count = c.put_text.ensures.0.wrote in
+    let told = c.text_answer.ensures in
+    let both =
+        trim_fitted _ _ _ _ p h holds _ c.shape-shape.ensures _ c.strike.ensures (elim c.if-needed-room.branch [
+          then-needed-room w ↦ rw w.out-is (written count out told w.if-needed-room.true (filled w.put_text-then-needed-room.ensures.0 (search rules)))
+        | else-needed-room w ↦ rw w.out-is (untouched count out told w.if-needed-room.false)
+        ])
+    in
     record { value = both.0; out_after = both.1 }

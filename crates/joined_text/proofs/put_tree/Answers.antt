@@ -1,21 +1,19 @@
 -- `put_tree`: each turn stores one line. Assumes nothing.
 use native.Mathlib.Omega.{arith}
 use borrow.Author.Rules.{rules}
-use Rattle.joined_text.specs.Lines.{places_of, deeper_placed}
 use Rattle.joined_text.proofs.Walk.{begun, all_stored, next_fits, next_length, next_inside, one_more}
 use Rattle.joined_text.proofs.put_tree.Goals as goal
 
 pub loop-start-init : goal.loop-start-init
 loop-start-init c =
-    begun (deeper_placed (places_of c.args.p) c.args.n) c.args.file.now c.args.from c.args.out.now c.args.at c.requires.0
+    begun c.requires.0
 
-pub put_line-end-requires : goal.put_line-end-requires
-put_line-end-requires c =
+pub put_line-requires : goal.put_line-requires
+put_line-requires c =
     let l = c.loop-start in
     let e = c.end_of-to in
-    let G = deeper_placed (places_of c.args.p) c.args.n in
-    let size = next_length G c.args.file.now c.args.from c.args.out.now c.args.at l.invariant e.ensures.value e.ensures.within.1 (search rules) in (
-      next_fits G c.args.file.now c.args.from c.args.out.now c.args.at l.invariant e.ensures.value e.ensures.within.1 (search rules),
+    let size = next_length l.invariant e.ensures.value e.ensures.within.1 (search rules) in (
+      next_fits l.invariant e.ensures.value e.ensures.within.1 (search rules),
       omega (arith, size, c.requires.0.short, e.ensures.within.1),
       c.requires.1,
       omega (arith, c.requires.2, l.invariant.within, l.invariant.inside, c.requires.0.short),
@@ -28,18 +26,18 @@ pub loop-start-smaller : goal.loop-start-smaller
 loop-start-smaller c =
     let l = c.loop-start in
     let e = c.end_of-to in
-    omega (arith, e.ensures.within.0, next_inside (deeper_placed (places_of c.args.p) c.args.n) c.args.file.now c.args.from c.args.out.now c.args.at l.invariant e.ensures.value e.ensures.within.1 (search rules))
+    omega (arith, e.ensures.within.0, next_inside l.invariant e.ensures.value e.ensures.within.1 (search rules))
 
 pub loop-start-preserved : goal.loop-start-preserved
 loop-start-preserved c =
     let l = c.loop-start in
     let e = c.end_of-to in
-    one_more (deeper_placed (places_of c.args.p) c.args.n) c.args.file.now c.args.from c.args.out.now c.args.at l.invariant e.ensures.value e.ensures.within.1 (search rules) c.put_line-end.ensures
+    one_more l.invariant e.ensures.value e.ensures.within.1 (search rules) c.put_line.ensures
 
 pub returns : goal.returns
 returns c =
     let l = c.loop-start in
-    (all_stored (deeper_placed (places_of c.args.p) c.args.n) c.args.file.now c.args.from c.args.out.now c.args.at l.invariant (omega arith), omega (arith, l.invariant.within, l.invariant.inside, c.requires.0.short))
+    (all_stored l.invariant (omega arith), omega (arith, l.invariant.within, l.invariant.inside, c.requires.0.short))
 
 pub end_of-to-requires : goal.end_of-to-requires
 end_of-to-requires c = omega (arith, c.loop-start.invariant.inside)

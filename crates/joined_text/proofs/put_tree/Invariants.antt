@@ -6,7 +6,7 @@ use Rattle.joined_text.proofs.Walk.{Walked}
 use Rattle.joined_text.proofs.put_tree.Given as goal
 
 abbrev pub invariant-loop-start : goal.invariant-loop-start
-invariant-loop-start l = Walked (deeper_placed (places_of l.p) l.n) l.file l.from l.initial.out l.at l.start l.out l.end
+invariant-loop-start l = Walked (deeper_placed (places_of l.p) l.n) l.file l.from l.initial.sink l.start l.sink
 
 abbrev pub decreases-loop-start : goal.decreases-loop-start
 decreases-loop-start l = length l.file - l.start

@@ -8,7 +8,7 @@ use Rattle.obligations.proofs.put_obligation.Goals as goal
 pub returns-then-is_none : goal.returns-then-is_none
 returns-then-is_none c =
     let a = c.args in
-    no_slot a.file.now a.places.now a.i a.k a.permit (no_name_there _ c.obligation-name.ensures c.is_none.ensures c.if-is_none.true)
+    no_slot a.file.now a.places.now a.i a.k a.permit a.sink.now (no_name_there _ c.obligation-name.ensures c.is_none.ensures c.if-is_none.true)
 
 pub overflow_add-name : goal.overflow_add-name
 overflow_add-name c =
@@ -24,7 +24,7 @@ pub returns-then-not-spells : goal.returns-then-not-spells
 returns-then-not-spells c =
     let a = c.args in
     let some = name_there _ c.obligation-name.ensures c.is_none.ensures c.if-is_none.false in
-    other_slot a.file.now a.places.now a.i a.k a.permit some (sym (rw c.obligation-name.ensures at c.spells.ensures) ∙ c.if-not-spells.true)
+    other_slot a.file.now a.places.now a.i a.k a.permit some a.sink.now (sym (rw c.obligation-name.ensures at c.spells.ensures) ∙ c.if-not-spells.true)
 
 pub slice_bounds-put_field-count : goal.slice_bounds-put_field-count
 slice_bounds-put_field-count c = rw c.obligation-name.ensures (c.requires.0.starts c.args.k c.requires.1)

@@ -8,6 +8,6 @@ use Rattle.obligations.proofs.put_own.Goals as goal
 pub returns : goal.returns
 returns c =
     let a = c.args in
-    let (first, few) = c.put_obligation-first.ensures in
-    let (second, more) = c.put_obligation.ensures in
+    let (first, few) = c.put_obligation.ensures in
+    let (second, more) = c.put_obligation-2.ensures in
     (rw (own_slots (effect a.permit) a.file.now a.places.now a.i c.requires.0) (then first second), omega (arith, few, more))

@@ -6,4 +6,4 @@ pub returns-then-needed-room : goal.returns-then-needed-room
 returns-then-needed-room c = rw (le-ltb _ _ c.if-needed-room.true)
 
 pub returns : goal.returns
-returns c = rw (lt-ltb _ _ c.if-needed-room.false)
+returns c = rw (lt-ltb _ _ c.if-needed-room.false) c.from.ensures

@@ -4,4 +4,4 @@ use Rattle.report_lines.specs.Lines.{struck_line}
 use Rattle.report_lines.proofs.put_struck.Given as goal
 
 abbrev pub invariant-loop-k : goal.invariant-loop-k
-invariant-loop-k l = Sofar (λ k. struck_line l.policy.file.now l.policy.places.now (get_or l.order k 0)) 500 0 l.initial.out l.at l.k l.out l.end
+invariant-loop-k l = Sofar (λ k. struck_line l.policy.file.now l.policy.places.now (get_or l.order k 0)) 500 0 l.initial.sink l.k l.sink

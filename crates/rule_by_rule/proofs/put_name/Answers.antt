@@ -3,5 +3,8 @@ use native.Mathlib.Omega.{arith}
 use Rattle.printing.proofs.Laws.{nothing}
 use Rattle.rule_by_rule.proofs.put_name.Goals as goal
 
-pub returns-in-None : goal.returns-in-None
-returns-in-None c = rw c.in-None.is (nothing c.args.out.now 0, omega arith)
+pub element_name-requires : goal.element_name-requires
+element_name-requires c = c.requires.0 _ c.in-Some.is
+
+pub returns-in_default : goal.returns-in_default
+returns-in_default c = rw c.in_default.is (nothing c.args.sink.now, omega arith)

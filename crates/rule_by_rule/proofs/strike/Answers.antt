@@ -1,12 +1,14 @@
 -- `strike`: 15 where no needless rule has the name, else the text without its line, counted and then written. Assumes nothing.
 use mathlib.Core.Path.{sym, ◌∙◌}
 use native.Mathlib.Omega.{arith}
-use lib.Seq.{length-take-le}
+use borrow.Author.Rules.{rules}
 use Rattle.laws.proofs.Found.{found_some, found_none}
-use Rattle.printing.proofs.Fitting.{written}
+use Rattle.printing.proofs.Laws.{filled}
+use Rattle.printing.proofs.Fitting.{written, untouched}
 use Rattle.trimmed_text.proofs.Held.{steady_held, named_held, copies_held, small_part}
 use Rattle.rule_by_rule.proofs.Struck.{no_element, here, needed, strike_fitted}
 use Rattle.rule_by_rule.proofs.strike.Goals as goal
+use Rattle.rule_by_rule.proofs.strike.Goals.{then-needed-room, else-needed-room}
 
 pub element_named-requires : goal.element_named-requires
 element_named-requires c = named_held _ _ _ _ c.requires
@@ -29,20 +31,24 @@ pub bounds-struck-i : goal.bounds-struck-i
 bounds-struck-i c =
     omega (arith, (here _ _ _ _ c.requires c.args.rule.now _ (found_some _ (sym c.element_named.ensures ∙ c.in-Some.is))).0, c.requires.ready.few)
 
-pub put_text-needed-requires : goal.put_text-needed-requires
-put_text-needed-requires c = copies_held _ _ _ _ c.requires _ c.is_needless.ensures.1 _ _
-
-pub slice_bounds-put_text-end-5 : goal.slice_bounds-put_text-end-5
-slice_bounds-put_text-end-5 c = sym (length-take-le _ _ c.lend-part.ensures.within)
-
 pub put_text-requires : goal.put_text-requires
-put_text-requires c = copies_held _ _ _ _ c.requires _ c.is_needless.ensures.1 _ _
+put_text-requires c = (copies_held _ _ _ _ c.requires _ c.is_needless.ensures.1 _ _, omega arith)
+
+pub put_text-requires-then-needed-room : goal.put_text-requires-then-needed-room
+put_text-requires-then-needed-room c = (copies_held _ _ _ _ c.requires _ c.is_needless.ensures.1 _ _, omega arith)
 
 pub text_answer-requires : goal.text_answer-requires
-text_answer-requires c = small_part _ _ _ _ c.requires _ c.put_text-needed.ensures.1
+text_answer-requires c = small_part _ _ _ _ c.requires c.put_text.new.sink.at (omega (arith, c.put_text.ensures.1))
 
 pub returns : goal.returns
 returns c =
-    let both = strike_fitted _ _ _ _ c.requires c.args.rule.now _ (found_some _ (sym c.element_named.ensures ∙ c.in-Some.is)) (sym c.is_needless.ensures.0 ∙ c.if-not-is_needless.false) _ c.is_needless.ensures.1
-    (written c.put_text-needed.ensures.0 c.args.out.now _ c.lend-part.ensures.value c.put_text.ensures.0 c.text_answer.ensures) in
+    let out = c.args.out.now in
+    let count = c.put_text.ensures.0.wrote in
+    let told = c.text_answer.ensures in
+    let both =
+    strike_fitted _ _ _ _ c.requires c.args.rule.now _ (found_some _ (sym c.element_named.ensures ∙ c.in-Some.is)) (sym c.is_needless.ensures.0 ∙ c.if-not-is_needless.false) _ c.is_needless.ensures.1 (elim c.if-needed-room.branch [
+      | then-needed-room w ↦ rw w.out-is (written count out told w.if-needed-room.true (filled w.put_text-then-needed-room.ensures.0 (search rules)))
+      | else-needed-room w ↦ rw w.out-is (untouched count out told w.if-needed-room.false)
+    ])
+    in
     record { value = both.0; out_after = both.1 }

@@ -10,9 +10,9 @@ returns c =
     let e = c.args.e in
     let attributes = attributes_of c.args.header.now c.args.a in
     tree_line_lem (kind_text e.kind) (name_of e) (word_text e.word) e.depth (target_texts attributes e.masks) c.requires.1.depth
-    c.put_kind-depth.ensures
-    c.put_number-start.ensures
-    c.put_name-algorithm.ensures
-    c.put_word-first.ensures
-    c.put_targets-end.ensures
+    c.put_kind.ensures
+    c.put_number.ensures
+    c.put_name.ensures
+    c.put_word.ensures
+    c.put_targets.ensures
     c.put.ensures

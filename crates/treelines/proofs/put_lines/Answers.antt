@@ -5,6 +5,6 @@ use Rattle.treelines.proofs.put_lines.Goals as goal
 
 pub returns : goal.returns
 returns c =
-    let own = c.put_element-behind.ensures in
+    let own = c.put_element.ensures in
     let others = c.put_obligations.ensures in
     (then own.0 others.0, omega (arith, own.1, others.1))

@@ -1,5 +1,5 @@
 -- `put_text` meets its contract. The loop stores the lines left of one element behind the other's, and stays before the element looked at.
-use Prim.Native.Nat.{◌≤◌}
+use Prim.Native.Nat.{◌+◌, ◌≤◌}
 use lib.ListN.{length}
 use Rattle.printing.proofs.Walks.{Sofar}
 use Rattle.trimmed_text.specs.Copied.{piece_at}
@@ -7,4 +7,4 @@ use Rattle.trimmed_text.proofs.Copying.{reached}
 use Rattle.trimmed_text.proofs.put_text.Given as goal
 
 abbrev pub invariant-loop-i : goal.invariant-loop-i
-invariant-loop-i l = (l.at ≤ reached l.file l.places l.n l.i) × Sofar (piece_at l.file l.places l.struck l.n) (length l.file) 0 l.initial.out l.initial.at l.i l.out l.at
+invariant-loop-i l = (l.sink.at ≤ l.fn.sink.at + reached l.file l.places l.n l.i) × Sofar (piece_at l.file l.places l.struck l.n) (length l.file) 0 l.initial.sink l.i l.sink

@@ -1,18 +1,16 @@
 -- `put_pairs`: the lines of the runs so far. Assumes nothing.
-use Prim.Native.Nat.{◌*◌, ◌%◌}
+use Prim.Native.Nat.{◌%◌}
 use mathlib.Core.Path.{sym, ◌∙◌}
 use native.Mathlib.Nat.{mod-lt}
 use native.Mathlib.Omega.{arith}
 use Rattle.printing.proofs.Walks.{begun, stored, passed_over, ended_all}
-use Rattle.value_pairs.specs.Lines.{run_lines, pair_lines}
+use Rattle.value_pairs.specs.Lines.{pair_lines}
 use Rattle.value_pairs.proofs.SetBits.{this_set}
 use Rattle.value_pairs.proofs.PairTexts.{no_pair, a_pair, text_room, pair_room}
 use Rattle.value_pairs.proofs.put_pairs.Goals as goal
 
 pub loop-run-init : goal.loop-run-init
-loop-run-init c =
-    let args = c.args in
-    begun (run_lines args.decided.now args.size args.behind) (500 * args.behind) 0 args.out.now args.at
+loop-run-init c = begun
 
 pub overflow_add-set : goal.overflow_add-set
 overflow_add-set c = omega (arith, mod-lt c.loop-run.run c.requires.0, c.requires.1)
@@ -27,7 +25,7 @@ loop-run-preserved-in_default c =
     let args = c.args in
     let l = c.loop-run in
     let none = no_pair args.decided.now args.size args.behind l.run (sym c.in_default.is ∙ this_set (l.run % args.size) c.later_bit.ensures) in
-    passed_over (run_lines args.decided.now args.size args.behind) (500 * args.behind) 0 args.out.now args.at l.run l.invariant none
+    passed_over l.invariant none
 
 pub overflow_sub-low : goal.overflow_sub-low
 overflow_sub-low c =
@@ -49,8 +47,8 @@ overflow_mul-high c =
     let room = pair_room c.args.size c.args.behind c.args.runs c.loop-run.run c.in-Some.high c.requires.0 c.requires.1 c.requires.2 (omega arith) (sym c.in-Some.is ∙ c.later_bit.ensures) in
     omega (arith, room.high_back, room.inside)
 
-pub put_values-end-requires : goal.put_values-end-requires
-put_values-end-requires c =
+pub put_values-requires : goal.put_values-requires
+put_values-requires c =
     let l = c.loop-run in
     let room = pair_room c.args.size c.args.behind c.args.runs l.run c.in-Some.high c.requires.0 c.requires.1 c.requires.2 (omega arith) (sym c.in-Some.is ∙ c.later_bit.ensures) in
     (room.inside, room.low_back, room.high_back, omega (arith, l.invariant.within, text_room c.args.behind c.args.runs l.run c.requires.2 (omega arith), c.requires.3))
@@ -59,12 +57,12 @@ pub loop-run-preserved : goal.loop-run-preserved
 loop-run-preserved c =
     let args = c.args in
     let l = c.loop-run in
-    let line = a_pair args.decided.now args.size args.behind l.run c.in-Some.high (this_set (l.run % args.size) (sym c.in-Some.is ∙ c.later_bit.ensures)) c.put_values-end.ensures in
-    stored (run_lines args.decided.now args.size args.behind) (500 * args.behind) 0 args.out.now args.at l.run l.invariant line
+    let line = a_pair args.decided.now args.size args.behind l.run c.in-Some.high (this_set (l.run % args.size) (sym c.in-Some.is ∙ c.later_bit.ensures)) c.put_values.ensures in
+    stored l.invariant line
 
 pub returns : goal.returns
 unfolding pair_lines
 returns c =
     let args = c.args in
     let l = c.loop-run in
-    (ended_all (run_lines args.decided.now args.size args.behind) (500 * args.behind) args.out.now args.at l.run l.invariant args.runs (omega arith), omega (arith, l.invariant.within, text_room args.behind args.runs l.run c.requires.2 (omega arith)))
+    (ended_all l.invariant args.runs (omega arith), omega (arith, l.invariant.within, text_room args.behind args.runs l.run c.requires.2 (omega arith)))

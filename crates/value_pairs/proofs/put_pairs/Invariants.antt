@@ -5,4 +5,4 @@ use Rattle.value_pairs.specs.Lines.{run_lines}
 use Rattle.value_pairs.proofs.put_pairs.Given as goal
 
 abbrev pub invariant-loop-run : goal.invariant-loop-run
-invariant-loop-run l = Sofar (run_lines l.decided l.size l.behind) (500 * l.behind) 0 l.initial.out l.at l.run l.out l.end
+invariant-loop-run l = Sofar (run_lines l.decided l.size l.behind) (500 * l.behind) 0 l.initial.sink l.run l.sink

@@ -5,4 +5,4 @@ use Rattle.value_pairs.specs.Lines.{pair_line}
 use Rattle.value_pairs.proofs.put_values.Given as goal
 
 abbrev pub invariant-loop-k : goal.invariant-loop-k
-invariant-loop-k l = Sofar (λ k. pair_line l.decided l.low l.high (l.first + k)) 500 0 l.initial.out l.at l.k l.out l.end
+invariant-loop-k l = Sofar (λ k. pair_line l.decided l.low l.high (l.first + k)) 500 0 l.initial.sink l.k l.sink

@@ -1,11 +1,13 @@
 -- `tell`: 13, or the lines counted and then written. Assumes nothing.
-use mathlib.Core.Path.{sym, ap, ◌∙◌}
+use mathlib.Core.Path.{ap, ◌∙◌}
 use native.Mathlib.Omega.{arith}
-use lib.Seq.{length-take-le}
-use Rattle.printing.proofs.Fitting.{written}
+use borrow.Author.Rules.{rules}
+use Rattle.printing.proofs.Laws.{filled}
+use Rattle.printing.proofs.Fitting.{written, untouched}
 use Rattle.value_pairs.specs.Held.{place_or13}
 use Rattle.value_pairs.proofs.Told.{sizes_positive, few_requests, no_attribute, inside, some_set, few_sets, some_behind, runs_small, pairs_fitted}
 use Rattle.value_pairs.proofs.tell.Goals as goal
+use Rattle.value_pairs.proofs.tell.Goals.{then-needed-room, else-needed-room}
 
 pub returns-in_default : goal.returns-in_default
 returns-in_default c =
@@ -38,21 +40,25 @@ choices_from-behind-requires c =
 pub nonzero_div-runs : goal.nonzero_div-runs
 nonzero_div-runs c = omega (arith, some_behind c.args.file.now c.args.attributes c.args.table.now c.args.shape c.requires c.args.name.now _ (c.several_at.ensures ∙ ap place_or13 c.in-Some.is) _ c.choices_from-behind.ensures)
 
-pub put_pairs-needed-requires : goal.put_pairs-needed-requires
-put_pairs-needed-requires c =
-    let found = c.several_at.ensures ∙ ap place_or13 c.in-Some.is in
-    (some_set c.args.file.now c.args.attributes c.args.table.now c.args.shape c.requires c.args.name.now _ found, few_sets c.args.file.now c.args.attributes c.args.table.now c.args.shape c.requires c.args.name.now _ found, runs_small c.args.file.now c.args.attributes c.args.table.now c.args.shape c.requires c.args.name.now _ found _ c.choices_from-behind.ensures, omega arith)
-
-pub slice_bounds-put_pairs-end-3 : goal.slice_bounds-put_pairs-end-3
-slice_bounds-put_pairs-end-3 c = sym (length-take-le _ _ c.lend-part.ensures.within)
-
 pub put_pairs-requires : goal.put_pairs-requires
 put_pairs-requires c =
     let found = c.several_at.ensures ∙ ap place_or13 c.in-Some.is in
-    (some_set c.args.file.now c.args.attributes c.args.table.now c.args.shape c.requires c.args.name.now _ found, few_sets c.args.file.now c.args.attributes c.args.table.now c.args.shape c.requires c.args.name.now _ found, runs_small c.args.file.now c.args.attributes c.args.table.now c.args.shape c.requires c.args.name.now _ found _ c.choices_from-behind.ensures, omega arith)
+    (some_set _ c.args.attributes c.args.table.now c.args.shape c.requires c.args.name.now _ found, few_sets _ c.args.attributes c.args.table.now c.args.shape c.requires c.args.name.now _ found, runs_small _ c.args.attributes c.args.table.now c.args.shape c.requires c.args.name.now _ found _ c.choices_from-behind.ensures, omega arith)
+
+pub put_pairs-requires-then-needed-room : goal.put_pairs-requires-then-needed-room
+put_pairs-requires-then-needed-room c =
+    let found = c.several_at.ensures ∙ ap place_or13 c.in-Some.is in
+    (some_set _ c.args.attributes c.args.table.now c.args.shape c.requires c.args.name.now _ found, few_sets _ c.args.attributes c.args.table.now c.args.shape c.requires c.args.name.now _ found, runs_small _ c.args.attributes c.args.table.now c.args.shape c.requires c.args.name.now _ found _ c.choices_from-behind.ensures, omega arith)
 
 pub returns : goal.returns
 returns c =
-    let told = pairs_fitted c.args.file.now c.args.attributes c.args.table.now c.args.shape c.requires c.args.name.now _ (c.several_at.ensures ∙ ap place_or13 c.in-Some.is) _ c.choices_from-behind.ensures _ c.decide_requests.ensures
-    (written c.put_pairs-needed.ensures.0 c.args.out.now _ c.lend-part.ensures.value c.put_pairs.ensures.0 c.text_answer.ensures) in
+    let out = c.args.out.now in
+    let count = c.put_pairs.ensures.0.wrote in
+    let answer = c.text_answer.ensures in
+    let told =
+    pairs_fitted c.args.file.now c.args.attributes c.args.table.now c.args.shape c.requires c.args.name.now _ (c.several_at.ensures ∙ ap place_or13 c.in-Some.is) _ c.choices_from-behind.ensures _ c.decide_requests.ensures (elim c.if-needed-room.branch [
+      | then-needed-room w ↦ rw w.out-is (written count out answer w.if-needed-room.true (filled w.put_pairs-then-needed-room.ensures.0 (search rules)))
+      | else-needed-room w ↦ rw w.out-is (untouched count out answer w.if-needed-room.false)
+    ])
+    in
     record { value = told.0; out_after = told.1 }

@@ -4,12 +4,12 @@ use native.Mathlib.Omega.{arith}
 use Rattle.meaning.specs.Joining.{declared}
 use Rattle.layout.specs.Places.{attributes_of}
 use Rattle.printing.proofs.Walks.{begun, stored, passed_over, ended_all}
-use Rattle.joined_text.proofs.Header.{same_text, alone_at, alone_known, alone_new, alone_lines}
+use Rattle.printing.proofs.Laws.{same_text}
+use Rattle.joined_text.proofs.Header.{alone_known, alone_new, alone_lines}
 use Rattle.joined_text.proofs.attributes.put_alone.Goals as goal
 
 pub loop-j-init : goal.loop-j-init
-loop-j-init c =
-    begun (alone_at c.args.second.now c.args.b (attributes_of c.args.first.now c.args.a)) 16388 0 c.args.out.now c.args.at
+loop-j-init c = begun
 
 pub name-requires : goal.name-requires
 name-requires c =
@@ -24,10 +24,10 @@ loop-j-preserved-then-known_attribute c =
     let l = c.loop-j in
     let first = attributes_of c.args.first.now c.args.a in
     let known = sym (c.known_attribute.ensures ∙ ap (declared first) c.name.ensures) ∙ c.if-known_attribute.true in
-    passed_over (alone_at c.args.second.now c.args.b first) 16388 0 c.args.out.now c.args.at l.j l.invariant (alone_known c.args.second.now c.args.b first l.j known)
+    passed_over l.invariant (alone_known c.args.second.now c.args.b first l.j known)
 
-pub put_attribute-end-requires : goal.put_attribute-end-requires
-put_attribute-end-requires c =
+pub put_attribute-requires : goal.put_attribute-requires
+put_attribute-requires c =
     let pre = c.requires in
     let l = c.loop-j in
     (omega (arith, pre.1.standing.few), pre.1.standing.each l.j (omega arith), pre.1.short, omega (arith, pre.2, pre.1.standing.few, l.invariant.within))
@@ -37,13 +37,13 @@ loop-j-preserved c =
     let l = c.loop-j in
     let first = attributes_of c.args.first.now c.args.a in
     let alone = sym (c.known_attribute.ensures ∙ ap (declared first) c.name.ensures) ∙ c.if-known_attribute.false in
-    let put = c.put_attribute-end.ensures in
+    let put = c.put_attribute.ensures in
     let line = same_text (alone_new c.args.second.now c.args.b first l.j alone) put.0 in
-    stored (alone_at c.args.second.now c.args.b first) 16388 0 c.args.out.now c.args.at l.j l.invariant (line, put.1)
+    stored l.invariant (line, put.1)
 
 pub returns : goal.returns
 returns c =
     let l = c.loop-j in
     let first = attributes_of c.args.first.now c.args.a in
-    let lines = ended_all (alone_at c.args.second.now c.args.b first) 16388 c.args.out.now c.args.at l.j l.invariant c.args.b.len (omega (arith)) in
+    let lines = ended_all l.invariant c.args.b.len (omega (arith)) in
     (same_text (alone_lines c.args.second.now c.args.b first) lines, omega (arith, l.invariant.within, c.requires.1.standing.few))

@@ -5,4 +5,4 @@ use Rattle.joined_text.proofs.Header.{alone_at}
 use Rattle.joined_text.proofs.attributes.put_alone.Given as goal
 
 abbrev pub invariant-loop-j : goal.invariant-loop-j
-invariant-loop-j l = Sofar (alone_at l.second l.b (attributes_of l.first l.a)) 16388 0 l.initial.out l.at l.j l.out l.end
+invariant-loop-j l = Sofar (alone_at l.second l.b (attributes_of l.first l.a)) 16388 0 l.initial.sink l.j l.sink

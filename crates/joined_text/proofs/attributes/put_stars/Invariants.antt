@@ -5,4 +5,4 @@ use Rattle.printing.proofs.Walks.{Sofar}
 use Rattle.joined_text.proofs.attributes.put_stars.Given as goal
 
 abbrev pub invariant-loop-i : goal.invariant-loop-i
-invariant-loop-i l = Sofar (λ k. tab ∷ bytes "*") 2 0 l.initial.out l.at l._i l.out l.end
+invariant-loop-i l = Sofar (λ k. tab ∷ bytes "*") 2 0 l.initial.sink l._i l.sink

@@ -20,6 +20,6 @@ returns c =
     let targets = take (length row - (e.result.word + 1)) (drop (e.result.word + 1) row) in
     let rest = rest_of row (e.result.word + 1) in
     deeper_row row (places_of c.args.p) c.args.n targets (ap (cut tab) rest ∙ (e.ensures.headed.targets c.requires.0).1) (omega (arith, ap length rest, length-drop (e.result.word + 1) row))
-    c.put_head-first.ensures
-    c.put_targets-end.ensures
+    c.put_head.ensures
+    c.put_targets.ensures
     c.put.ensures

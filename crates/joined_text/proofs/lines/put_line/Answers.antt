@@ -18,8 +18,8 @@ put_deeper-requires c =
     let letter = c.same.ensures ∙ ap (λ t. same t (bytes "O")) (first_field row c.end_of-to.result (omega (arith, c.end_of-to.ensures.value))) in
     (has_targets row c.requires.0 (sym letter ∙ c.if-same.false), c.requires.1, c.requires.2, c.requires.3)
 
-pub returns : goal.returns
-returns c =
+pub returns-else-same : goal.returns-else-same
+returns-else-same c =
     let row = c.args.row.now in
     let letter = c.same.ensures ∙ ap (λ t. same t (bytes "O")) (first_field row c.end_of-to.result (omega (arith, c.end_of-to.ensures.value))) in
     other_row row (places_of c.args.p) c.args.n (sym letter ∙ c.if-same.false) c.put_deeper.ensures

@@ -6,9 +6,9 @@ use Rattle.joined_text.proofs.lines.put_target.Goals as goal
 pub returns-then-k-n : goal.returns-then-k-n
 returns-then-k-n c =
     let args = c.args in
-    own_target args.targets.now args.n args.k c.put-behind.ensures c.if-k-n.true c.field.ensures c.put_bytes.ensures
+    own_target args.targets.now args.n args.k c.put.ensures c.if-k-n.true c.field.ensures c.put_bytes.ensures
 
-pub returns : goal.returns
-returns c =
+pub returns-else-k-n : goal.returns-else-k-n
+returns-else-k-n c =
     let args = c.args in
-    star_target args.targets.now args.n args.k c.put-behind.ensures (omega (arith, c.if-k-n.false)) c.put.ensures
+    star_target args.targets.now args.n args.k c.put.ensures (omega (arith, c.if-k-n.false)) c.put-else-k-n.ensures

@@ -13,6 +13,6 @@ returns c =
     kept args.policy.now.file.now args.policy.now.places.now args.shown.now args.policy.now.shape.space args.i _ refl
     c.if-space-m.false
     c.requires.2
-    c.put_field-name.ensures
-    c.put_named-request.ensures
+    c.put_field.ensures
+    c.put_named.ensures
     c.put_number.ensures

@@ -6,4 +6,4 @@ use Rattle.treelines.proofs.obligations.put_obligation.Goals as goal
 pub returns : goal.returns
 returns c =
     let o = c.args.o in
-    obligation_line_lem (obligation_name o) (word_text o.word) c.put_field-start.ensures c.put_name-effect.ensures c.put_word-end.ensures c.put.ensures
+    obligation_line_lem (obligation_name o) (word_text o.word) c.put_field.ensures c.put_name.ensures c.put_word.ensures c.put.ensures

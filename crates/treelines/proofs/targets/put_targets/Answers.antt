@@ -1,38 +1,35 @@
 -- `put_targets` meets its contract. The loop keeps the targets of the attributes before `i`, each with its tab.
 use mathlib.Core.Path.{◌≡◌, sym, ap, ◌∙◌}
-use Prim.Native.Nat.{◌<◌}
 use native.Mathlib.Omega.{arith}
 use borrow.Author.Rules.{rules}
 use lib.ListN.{length}
 use Rattle.meaning.specs.Text.{cut, tab}
 use Rattle.layout.specs.Places.{Standing}
 use Rattle.printing.proofs.Walks.{begun, stored, ended_all}
-use Rattle.treelines.proofs.TargetTexts.{values_short, tab_target, tab_put, all_targets}
+use Rattle.treelines.proofs.TargetTexts.{values_short, tab_put, all_targets}
 use Rattle.treelines.proofs.targets.put_targets.Goals as goal
 
 pub loop-i-init : goal.loop-i-init
-loop-i-init c =
-    let args = c.args in
-    begun (tab_target args.header.now args.a args.e.masks) 16386 0 args.out.now args.at
+loop-i-init c = begun
 
-pub put-target-requires : goal.put-target-requires
-put-target-requires c = omega (arith, c.loop-i.invariant.within, c.requires.0.standing.few)
+pub put-requires : goal.put-requires
+put-requires c = omega (arith, c.loop-i.invariant.within, c.requires.0.standing.few)
 
 pub values-requires : goal.values-requires
 values-requires c = (omega (arith, c.requires.0.standing.few), c.requires.0.standing.each c.loop-i.i (omega arith))
 
-pub put_target-end-requires : goal.put_target-end-requires
-put_target-end-requires c =
+pub put_target-requires : goal.put_target-requires
+put_target-requires c =
     let pre = c.requires in
     let l = c.loop-i in
     let here : Standing c.args.header.now c.args.a l.i = pre.0.standing.each l.i (omega arith) in
-    (here.count ∙ ap (λ vs. length (cut tab vs)) (sym c.values.ensures), pre.0.few_values l.i (omega arith), omega (arith, ap length c.values.ensures, values_short here pre.0.short), omega (arith, l.invariant.within, pre.0.standing.few, c.put-target.ensures.moved))
+    (here.count ∙ ap (λ vs. length (cut tab vs)) (sym c.values.ensures), pre.0.few_values l.i (omega arith), omega (arith, ap length c.values.ensures, values_short here pre.0.short), omega (arith, l.invariant.within, pre.0.standing.few, c.put.ensures.wrote.moved))
 
 pub loop-i-preserved : goal.loop-i-preserved
 loop-i-preserved c =
     let args = c.args in
     let l = c.loop-i in
-    stored (tab_target args.header.now args.a args.e.masks) 16386 0 args.out.now args.at l.i l.invariant (tab_put args.header.now args.a args.e.masks l.i c.values.ensures c.put-target.ensures c.put_target-end.ensures)
+    stored l.invariant (tab_put args.header.now args.a args.e.masks l.i c.values.ensures c.put.ensures c.put_target.ensures)
 
 pub returns : goal.returns
 returns c =
@@ -40,4 +37,4 @@ returns c =
     let l = c.loop-i in
     let few = c.requires.0.standing.few in
     let six : length args.e.masks ≡ 6 = search rules in
-    (all_targets args.header.now args.a args.e.masks (omega arith) (ended_all (tab_target args.header.now args.a args.e.masks) 16386 args.out.now args.at l.i l.invariant args.a.len (omega arith)), omega (arith, l.invariant.within, few))
+    (all_targets args.header.now args.a args.e.masks (omega arith) (ended_all l.invariant args.a.len (omega arith)), omega (arith, l.invariant.within, few))

@@ -5,7 +5,7 @@ use Rattle.treelines.proofs.Values.{Walked}
 use Rattle.treelines.proofs.targets.put_values.Given as goal
 
 abbrev pub invariant-loop-left : goal.invariant-loop-left
-invariant-loop-left l = Walked l.values l.mask l.initial.out l.at l.start l.left l.later l.out l.end
+invariant-loop-left l = Walked l.values l.mask l.initial.sink l.start l.left l.later l.sink
 
 abbrev pub decreases-loop-left : goal.decreases-loop-left
 decreases-loop-left l = length l.values + 1 - l.start
