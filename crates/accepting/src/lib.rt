@@ -1,7 +1,7 @@
 // Whether a proposal is accepted beside a file that was read.
 #![tactic(auto, using(reader::proofs::FileRead::unread))]
 
-ghost use Rattle.std.specs.Prelude.{◌≡◌, suc, ◌+◌, ◌*◌, ◌≤◌, ◌<◌, length};
+ghost use Rattle.std.specs.Prelude.{◌≡◌, suc, ◌+◌, ◌≤◌, ◌<◌, length};
 ghost use Rattle.meaning.specs.Text.{first_from};
 ghost use Rattle.meaning.specs.Operations.{accept_answer};
 ghost use Rattle.laws.specs.Found.{found};

@@ -1,7 +1,7 @@
 // What one request gets: its decision, and the obligations that come with it in a lent buffer.
 #![tactic(auto)]
 
-ghost use Rattle.std.specs.Prelude.{◌≡◌, ℕ, ◌*◌, ◌≤◌, ◌<◌, length, get_or, replicate};
+ghost use Rattle.std.specs.Prelude.{◌≡◌, ℕ, ◌≤◌, ◌<◌, length, get_or, replicate};
 ghost use Rattle.meaning.specs.Deciding.{matches, bit};
 ghost use Rattle.requests.specs.Values.{values_of, severals_of};
 ghost use Rattle.table.specs.Rows.{Rows};

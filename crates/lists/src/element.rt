@@ -1,5 +1,5 @@
 // One element by value, from where it and its obligations stand in a file and in the table.
-ghost use Rattle.std.specs.Prelude.{◌≡◌, ◌+◌, ◌*◌, ◌≤◌, ◌<◌, length};
+ghost use Rattle.std.specs.Prelude.{◌≡◌, ◌+◌, ◌≤◌, ◌<◌, length};
 ghost use Rattle.meaning.specs.Model.{padded};
 ghost use Rattle.table.specs.Rows.{depth_of, Rows};
 ghost use Rattle.layout.specs.Places.{kind_at, effect_at, element_in, NameAt, Obliged};

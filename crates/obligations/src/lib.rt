@@ -1,7 +1,7 @@
 // The obligations that come with a decision, as text: names with a newline after each, by the marks that `chains` lays down.
 #![tactic(auto)]
 
-ghost use Rattle.std.specs.Prelude.{◌≡◌, ◌+◌, ◌*◌, ◌≤◌, ◌<◌, ◌^◌, length};
+ghost use Rattle.std.specs.Prelude.{◌≡◌, ◌+◌, ◌≤◌, ◌<◌, ◌^◌, length};
 ghost use Rattle.meaning.specs.Text.{same};
 ghost use Rattle.meaning.specs.Model.{word_text, decision_text};
 ghost use Rattle.layout.specs.Places.{effect_at, obligations_in, Obliged};
