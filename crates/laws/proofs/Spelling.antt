@@ -11,7 +11,7 @@ use borrow.Author.Tests.{ltb-true, ltb-false, eqb-false, not-true}
 use Rattle.meaning.specs.Text.{Bytes, bytes, all, between, same, cut, name_byte, is_field, is_name, digits}
 use Rattle.meaning.specs.Claims.Texts.{All, In, Field, NameByte, Name, decimal_value, Decimal, Parted, Texts}
 use Rattle.laws.proofs.Bools.{Test, passed, failed, test, contradiction, and_true}
-use Rattle.laws.proofs.Text.{Free, Frees, Some, one_or_more, cut_some, some_piece, join_cut, cut_frees, same_true}
+use Rattle.laws.proofs.Text.{Free, Frees, cut_some, some_piece, join_cut, cut_frees, same_true}
 use Rattle.laws.proofs.Names.{equal_names, among, distinct_names, names_distinct}
 use Rattle.laws.proofs.Reflects.{Reflects, either_of_four, each_one, within, equal}
 
