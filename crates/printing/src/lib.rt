@@ -1,11 +1,11 @@
 // Text laid into a lent buffer. What does not fit is not stored, and the place moves on all the same: with an empty buffer the same code counts.
 #![tactic(auto)]
 
-ghost use Rattle.std.specs.Prelude.{◌≡◌, ◌+◌, ◌/◌, ◌≤◌, ◌<◌, ◌^◌, [], ◌∷◌, ◌++◌, length};
+ghost use Rattle.std.specs.Prelude.{◌≡◌, ℕ, List, ◌+◌, ◌/◌, ◌≤◌, ◌<◌, ◌^◌, [], ◌∷◌, ◌++◌, length};
 ghost use Rattle.meaning.specs.Text.{decimal};
 ghost use Rattle.meaning.specs.Model.{decision_text};
-ghost use Rattle.printing.specs.Puts.{Puts};
-ghost use Rattle.printing.specs.Fitted.{text_told};
+ghost use Rattle.printing.specs.Puts.{Puts, Lays};
+ghost use Rattle.printing.specs.Fitted.{text_told, Fitted};
 
 use meaning::{Answer, Decision};
 use refusals::{Refusal, Refused};
@@ -101,4 +101,20 @@ pub fn text_answer(needed: usize, room: usize) -> Answer
         second: needed as u32,
     };
     Answer::from(refused)
+}
+
+// The answer for the text that `put` lays into a buffer, telling its length: counted with no buffer first, and written where it fits.
+pub fn answer<F: Fn(&mut [u8]) -> usize>(out: &mut [u8], put: F) -> Answer
+    ghost text: { List ℕ }
+    requires short { length text < 4294967296 }
+    requires lays { Lays (F.pre put) (F.post put) text }
+    ensures { Fitted out.old text out.new result }
+{
+    let mut none = [0u8; 0];
+    let needed = put(&mut none);
+    let room = out.len();
+    if needed <= room {
+        put(out);
+    }
+    text_answer(needed, room)
 }
