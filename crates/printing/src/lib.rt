@@ -113,8 +113,9 @@ pub fn answer<F: Fn(&mut [u8]) -> usize>(out: &mut [u8], put: F) -> Answer
     let mut none = [0u8; 0];
     let needed = put(&mut none);
     let room = out.len();
-    if needed <= room {
+    let answer = text_answer(needed, room);
+    if answer.number == 0 {
         put(out);
     }
-    text_answer(needed, room)
+    answer
 }
