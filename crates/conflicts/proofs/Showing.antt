@@ -7,7 +7,6 @@ use mathlib.Core.Option.{Option, none, some}
 use native.Mathlib.Omega.{arith}
 use lib.Bits.{bit_and, bit_or}
 use lib.Dec.{leb}
-use lib.ListN.{get_or}
 use borrow.Author.Tests.{leb-true, leb-false}
 use Rattle.std.specs.Prelude.{Option as Found, unwrap_or}
 use Rattle.meaning.specs.declared.Decision.{Decision}
@@ -104,8 +103,8 @@ module _ (t : List Row) (struck : List ℕ) (n : ℕ) (hit : ℕ → Element →
   unfolding shown_by shows_at
   shown_alike i j k m a b c l = λ x. applying i m a l x && ((permitting j m b l x && denying k m c l x) || (denying j m b l x && permitting k m c l x))
 
-  pub pairs_by_table : (parents pairs : List ℕ) → Pairs parents (shown_by applied permits denies) n space pairs → Pairs parents (shows_at t struck n hit) n space pairs
+  pub pairs_by_table : (parents : List (Found ℕ)) (pairs : List ℕ) → Pairs parents (shown_by applied permits denies) n space pairs → Pairs parents (shows_at t struck n hit) n space pairs
   unfolding shown_for
-  pairs_by_table parents pairs paired j k child =
-      paired j k child
-      ∙ ap (place_or space) (first_alike _ _ 0 space (λ m l u. shown_alike (get_or parents j 0) j k m child.some (omega (arith, child.after, child.within)) child.within (omega arith)))
+  pairs_by_table parents pairs paired j k i child =
+      paired j k i child
+      ∙ ap (place_or space) (first_alike _ _ 0 space (λ m l u. shown_alike i j k m child.some (omega (arith, child.after, child.within)) child.within (omega arith)))

@@ -1,5 +1,5 @@
 -- Conflicts of pairs: by the elements' parents and rows, the request that shows each.
-use Rattle.std.specs.Prelude.{ℕ, ◌+◌, ◌*◌, ◌/◌, ◌%◌, ◌≤◌, ◌<◌, ◌≡◌, Bool, ◌&&◌, ◌||◌, List, length, get_or}
+use Rattle.std.specs.Prelude.{ℕ, ◌+◌, ◌*◌, ◌/◌, ◌%◌, ◌≤◌, ◌<◌, ◌≡◌, Bool, ◌&&◌, ◌||◌, Option, Some, None, List, length, get_or}
 use Rattle.meaning.specs.declared.Decision.{Decision}
 use Rattle.meaning.specs.Text.{first_from}
 use Rattle.meaning.specs.declared.Element.{Element}
@@ -18,26 +18,27 @@ shows_at t struck n hit i j k m =
 unfoldable pub shown_by : (applied permits denies : List (List ℕ)) → (i j k m : ℕ) → Bool
 shown_by applied permits denies i j k m = bit_of applied i m && ((bit_of permits j m && bit_of denies k m) || (bit_of denies j m && bit_of permits k m))
 
--- k is a later child of j's parent
-pub record Later (parents : List ℕ) (n j k : ℕ) : Type 0 where
+-- j and the later k are children of element i
+pub record Later (parents : List (Option ℕ)) (n i j k : ℕ) : Type 0 where
   pub after : j < k
   pub within : k < n
-  pub siblings : get_or parents j 0 ≡ get_or parents k 0
-  pub some : get_or parents j 0 < n
+  pub some : i < n
+  pub child : get_or parents j None ≡ Some i
+  pub sibling : get_or parents k None ≡ Some i
 
 -- the places that are of no such pair are as they were
-abbrev pub OthersStay : List ℕ → ℕ → List ℕ → List ℕ → Type 0
-OthersStay parents n old new = (i : ℕ) → (Later parents n (i / 64) (i % 64) → ⊥) → get_or new i 0 ≡ get_or old i 0
+abbrev pub OthersStay : List (Option ℕ) → ℕ → List ℕ → List ℕ → Type 0
+OthersStay parents n old new = (m : ℕ) → ((i : ℕ) → Later parents n i (m / 64) (m % 64) → ⊥) → get_or new m 0 ≡ get_or old m 0
 
--- A policy's parents (n where there is none), and whether i, j and k show a conflict on request m
-module _ (parents : List ℕ) (shows : ℕ → ℕ → ℕ → ℕ → Bool) (n space : ℕ) where
-  -- the first request that shows the conflict of j and k under j's parent, or the number of requests
-  unfoldable pub shown_for : ℕ → ℕ → ℕ
-  shown_for j k = place_or space (first_from (shows (get_or parents j 0) j k) 0 space)
+-- A policy's parents, and whether i, j and k show a conflict on request m
+module _ (parents : List (Option ℕ)) (shows : ℕ → ℕ → ℕ → ℕ → Bool) (n space : ℕ) where
+  -- the first request that shows the conflict of j and k under i, or the number of requests
+  unfoldable pub shown_for : ℕ → ℕ → ℕ → ℕ
+  shown_for i j k = place_or space (first_from (shows i j k) 0 space)
 
-  -- that request stands at 64 j + k if k is a later child of j's parent
+  -- that request stands at 64 j + k if k is a later child of j's parent i
   abbrev pub PairIs : List ℕ → ℕ → ℕ → Type 0
-  PairIs pairs j k = Later parents n j k → get_or pairs (64 * j + k) 0 ≡ shown_for j k
+  PairIs pairs j k = (i : ℕ) → Later parents n i j k → get_or pairs (64 * j + k) 0 ≡ shown_for i j k
 
   abbrev pub PairsOf : List ℕ → ℕ → Type 0
   PairsOf pairs j = (k : ℕ) → PairIs pairs j k
@@ -53,7 +54,7 @@ pub record Laid (applied permits denies : List (List ℕ)) (space : ℕ) : Type 
   pub denies_room : 64 ≤ length denies
 
 -- parents of at most 64 elements, their rows, and room for 64 times 64 pairs
-pub record Pairing (parents : List ℕ) (applied permits denies : List (List ℕ)) (n space : ℕ) (pairs : List ℕ) : Type 0 where
+pub record Pairing (parents : List (Option ℕ)) (applied permits denies : List (List ℕ)) (n space : ℕ) (pairs : List ℕ) : Type 0 where
   pub few : n ≤ 64
   pub parents_room : n ≤ length parents
   pub rows : Laid applied permits denies space

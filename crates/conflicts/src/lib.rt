@@ -38,7 +38,7 @@ fn first_shown(
 // Lays down at 64 j + k, for each later child k of j's parent, the first request that shows a conflict of j and k, or the number of requests. All other places stay.
 // (The number stands for none: 64 times 64 options would take twice the controller's memory.)
 fn pair_later(
-    parents: &[usize],
+    parents: &[Option<usize>],
     applied: &[[u64; 64]],
     permits: &[[u64; 64]],
     denies: &[[u64; 64]],
@@ -48,14 +48,14 @@ fn pair_later(
     pairs: &mut [u16],
 )
     requires { Pairing parents.now applied.now permits.now denies.now n space pairs.old × (j < n) }
-    ensures { PairsOf parents.now (shown_by applied.now permits.now denies.now) n space pairs.new j × ((i : ℕ) → (i / 64 ≡ j → Later parents.now n j (i % 64) → ⊥) → get_or pairs.new i 0 ≡ get_or pairs.old i 0) }
+    ensures { PairsOf parents.now (shown_by applied.now permits.now denies.now) n space pairs.new j × ((m : ℕ) → (m / 64 ≡ j → (i : ℕ) → Later parents.now n i j (m % 64) → ⊥) → get_or pairs.new m 0 ≡ get_or pairs.old m 0) }
 {
-    let parent = parents[j];
-    if n <= parent {
-        return;
-    }
+    let parent = match parents[j] {
+        Some(parent) if parent < n => parent,
+        _ => return,
+    };
     for k in j + 1..n {
-        if parents[k] != parent {
+        if parents[k] != Some(parent) {
             continue;
         }
         let shown = first_shown(applied, permits, denies, space, parent, j, k);
@@ -65,7 +65,7 @@ fn pair_later(
 
 // The same for each j. Only places of later children are set.
 pub fn pair_all(
-    parents: &[usize],
+    parents: &[Option<usize>],
     applied: &[[u64; 64]],
     permits: &[[u64; 64]],
     denies: &[[u64; 64]],

@@ -5,7 +5,8 @@ ghost use Rattle.std.specs.Prelude.{◌≡◌, ◌++◌, map, ℕ, ◌+◌, ◌*
 ghost use Rattle.std.specs.Int.Bits.{bit_and};
 ghost use Rattle.meaning.specs.Text.{counting};
 ghost use Rattle.meaning.specs.Deciding.{bit};
-ghost use Rattle.table.specs.Tree.{parent_of, place_or};
+ghost use Rattle.laws.specs.Found.{found};
+ghost use Rattle.table.specs.Tree.{parent_of};
 ghost use Rattle.table.specs.Rows.{Rows};
 ghost use Rattle.table.specs.Shape.{hit_of};
 ghost use Rattle.matching.specs.Hits.{Rest};
@@ -98,12 +99,12 @@ pub fn give_all(
     }
 }
 
-// Lays down the parent of each element, n where there is none. What lies behind them stays.
-pub fn parent_all(table: &[Row], n: usize, parents: &mut [usize])
+// Lays down the parent of each element. What lies behind them stays.
+pub fn parent_all(table: &[Row], n: usize, parents: &mut [Option<usize>])
     requires { Rows table.now n × (n ≤ length parents.old) }
-    ensures { parents.new ≡ map (λ i. place_or n (parent_of table.now i)) (counting 0 n) ++ drop n parents.old }
+    ensures { parents.new ≡ map (λ i. found (parent_of table.now i)) (counting 0 n) ++ drop n parents.old }
 {
     for child in 0..n {
-        parents[child] = table::parent(table, child).unwrap_or(n);
+        parents[child] = table::parent(table, child);
     }
 }

@@ -6,7 +6,7 @@ use Rattle.conflicts.proofs.PairSteps.{pairs_more, others_more}
 use Rattle.conflicts.proofs.pair_all.Goals as goal
 
 pub loop-j-init : goal.loop-j-init
-loop-j-init c = (λ i l. absurd (omega arith), refl, λ i h. refl)
+loop-j-init c = (λ i l. absurd (omega arith), refl, λ m h. refl)
 
 pub pair_later-requires : goal.pair_later-requires
 pair_later-requires c =
@@ -29,4 +29,4 @@ loop-j-preserved c =
 pub returns : goal.returns
 returns c =
     let l = c.loop-j in
-    (λ j k child. l.invariant.0 j (omega (arith, child.after, child.within)) k child, l.invariant.2)
+    (λ j k i child. l.invariant.0 j (omega (arith, child.after, child.within)) k i child, l.invariant.2)
