@@ -1,3 +1,3 @@
 -- Laws of the pairs and of the request that shows each.
-mod PairSteps
+pub mod PairSteps
 pub mod Showing

@@ -1,5 +1,6 @@
 -- The report's text, from what was found of a policy: its names stand in the file, at their places.
-use Rattle.std.specs.Prelude.{ℕ, ◌+◌, ◌-◌, ◌*◌, Bool, cond, List, [], ◌∷◌, map, eqb, ltb, get_or}
+use Rattle.std.specs.Prelude.{ℕ, ◌+◌, ◌-◌, ◌*◌, Bool, cond, Option, None, Some, List, [], ◌∷◌, map, eqb, ltb, get_or}
+use Rattle.std.specs.Option.{option_eq}
 use Rattle.meaning.specs.declared.Decision.{Decision}
 use Rattle.meaning.specs.Text.{Bytes, bytes, keep, gathered, counting, comma, line, decimal}
 use Rattle.meaning.specs.Model.{decision_text}
@@ -9,6 +10,10 @@ use Rattle.layout.specs.declared.ElementPlaces.{ElementPlaces}
 use Rattle.layout.specs.Places.{name_in}
 use Rattle.report_lines.specs.declared.segment_lines.Segment.{Segment}
 use Rattle.report_lines.specs.declared.conflict_lines.Conflict.{Conflict}
+
+-- element i is the parent of j
+abbrev pub is_parent : List (Option ℕ) → ℕ → ℕ → Bool
+is_parent parents j i = option_eq eqb (get_or parents j None) (Some i)
 
 -- A file, and the places of its elements' names
 module _ (f : Bytes) (places : List ElementPlaces) where
@@ -63,9 +68,9 @@ module _ (f : Bytes) (places : List ElementPlaces) where
     segment_text words sizes decided space = gathered (segment_line words sizes decided) (counting 0 space)
 
     -- by the elements' parents
-    module _ (parents pairs : List ℕ) (space : ℕ) where
+    module _ (parents : List (Option ℕ)) (pairs : List ℕ) (space : ℕ) where
       abbrev pub is_child : ℕ → ℕ → Bool
-      is_child i j = eqb (get_or parents j 0) i
+      is_child i j = is_parent parents j i
 
       -- j with each later child k of i
       unfoldable pub later_line : ℕ → ℕ → ℕ → Bytes

@@ -1,8 +1,8 @@
 // The lines of conflicts, `C`.
-ghost use Rattle.std.specs.Prelude.{◌+◌, ◌≤◌, ◌<◌, get_or};
+ghost use Rattle.std.specs.Prelude.{◌≡◌, true, ◌+◌, ◌≤◌, ◌<◌};
 ghost use Rattle.layout.specs.Places.{NameAt, Naming};
 ghost use Rattle.printing.specs.Puts.{Puts};
-ghost use Rattle.report_lines.specs.Lines.{conflict_row, later_lines, pair_lines};
+ghost use Rattle.report_lines.specs.Lines.{is_parent, conflict_row, later_lines, pair_lines};
 
 use crate::fields;
 use layout::PolicyFile;
@@ -28,22 +28,22 @@ fn put_conflict(policy: &PolicyFile, c: Conflict, sink: &mut Sink)
     sink.put_number(c.request, 10);
 }
 
-// The lines of the conflicts of j with the later children of its parent.
+// The lines of the conflicts of j with the later children of its parent, i.
 fn put_later(
     policy: &PolicyFile,
-    parents: &[usize; 64],
+    parents: &[Option<usize>; 64],
     pairs: &[u16; 4096],
+    i: usize,
     j: usize,
     sink: &mut Sink,
 )
-    requires { Naming policy.now.file.now policy.now.places.now policy.now.shape.n × (policy.now.shape.space ≤ 4096) × (j < policy.now.shape.n) × (get_or parents.now j 0 < policy.now.shape.n) × (sink.old.at ≤ 1500000000) }
-    ensures { Puts sink.old (later_lines policy.now.file.now policy.now.places.now policy.now.shape.n parents.now pairs.now policy.now.shape.space (get_or parents.now j 0) j) sink.new × (sink.new.at ≤ sink.old.at + 32000) }
+    requires { Naming policy.now.file.now policy.now.places.now policy.now.shape.n × (policy.now.shape.space ≤ 4096) × (j < policy.now.shape.n) × (i < policy.now.shape.n) × (is_parent parents.now j i ≡ true) × (sink.old.at ≤ 1500000000) }
+    ensures { Puts sink.old (later_lines policy.now.file.now policy.now.places.now policy.now.shape.n parents.now pairs.now policy.now.shape.space i j) sink.new × (sink.new.at ≤ sink.old.at + 32000) }
 {
     let shape = policy.shape;
     let n = shape.n;
-    let parent = parents[j];
     for k in j + 1..n {
-        if parents[k] != parent {
+        if parents[k] != Some(i) {
             continue;
         }
         let request = pairs[64 * j + k] as usize;
@@ -51,7 +51,7 @@ fn put_later(
             continue;
         }
         let conflict = Conflict {
-            parent,
+            parent: i,
             earlier: j,
             later: k,
             request,
@@ -63,7 +63,7 @@ fn put_later(
 // The lines of the conflicts of the children of i.
 pub(crate) fn put_pairs(
     policy: &PolicyFile,
-    parents: &[usize; 64],
+    parents: &[Option<usize>; 64],
     pairs: &[u16; 4096],
     i: usize,
     sink: &mut Sink,
@@ -73,9 +73,9 @@ pub(crate) fn put_pairs(
 {
     let n = policy.shape.n;
     for j in 0..n {
-        if parents[j] != i {
+        if parents[j] != Some(i) {
             continue;
         }
-        put_later(policy, parents, pairs, j, sink);
+        put_later(policy, parents, pairs, i, j, sink);
     }
 }

@@ -47,7 +47,7 @@ pub fn put_segments(
 // The lines of all conflicts, `C`.
 pub fn put_conflicts(
     policy: &PolicyFile,
-    parents: &[usize; 64],
+    parents: &[Option<usize>; 64],
     pairs: &[u16; 4096],
     sink: &mut Sink,
 )

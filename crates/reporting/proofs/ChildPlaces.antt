@@ -1,5 +1,5 @@
 -- The places whose parent an element is: by the parents found in the table, those of the policy that was read into it.
-use mathlib.Core.Path.{◌≡◌, sym, ap, ◌∙◌}
+use mathlib.Core.Path.{◌≡◌, refl, sym, ap, ◌∙◌}
 use Prim.Native.Nat.{ℕ, suc, ◌<◌}
 use native.Mathlib.Omega.{arith}
 use mathlib.Core.List.{List, reverse}
@@ -15,11 +15,15 @@ use Rattle.laws.proofs.Search.{counting_only}
 use Rattle.laws.proofs.Lists.{keep_alike}
 use Rattle.table.specs.declared.Row.{Row}
 use Rattle.table.specs.Rows.{depth_of, element_at}
-use Rattle.table.specs.Tree.{parent_of as parent_in, place_or}
+use Rattle.table.specs.Tree.{parent_of as parent_in}
+use Rattle.std.specs.Prelude.{Option as Found, Some, None}
+use Rattle.std.specs.Option.{option_eq}
+use Rattle.laws.specs.Found.{found}
 use Rattle.layout.specs.declared.ElementPlaces.{ElementPlaces}
 use Rattle.layout.specs.Places.{element_in, elements_to}
 use Rattle.trimmed_text.proofs.Table.{count_is, element_at_lem}
 use Rattle.trimmed_text.proofs.Tabled.{last_alike}
+use Rattle.report_lines.specs.Lines.{is_parent}
 
 -- a test of two numbers, either way round
 eqb_turned : (a b : ℕ) → eqb a b ≡ eqb b a
@@ -29,10 +33,10 @@ eqb_turned a b = go (test (eqb a b))
     go (passed e) = e ∙ sym (eq-eqb b a (sym (eqb-true a b e)))
     go (failed e) = e ∙ sym (ne_eqb b a (λ h. eqb-false a b e (sym h)))
 
--- a place, or n where there is none, against a place below n
-place_test : (n i : ℕ) (o : Option ℕ) → i < n → eqb (place_or n o) i ≡ is_place i o
-place_test n i none l = ne_eqb n i (λ e. omega arith)
-place_test n i (some j) l = eqb_turned j i
+-- a place, or none
+place_test : (i : ℕ) (o : Option ℕ) → option_eq eqb (found o) (Some i) ≡ is_place i o
+place_test i none = refl
+place_test i (some j) = eqb_turned j i
 
 module _ (f : Bytes) (table : List Row) (places : List ElementPlaces) (n : ℕ) (p : Policy) (is : p.elements ≡ reverse (elements_to f table places n)) where
   -- the elements' depths and their parents
@@ -47,12 +51,12 @@ module _ (f : Bytes) (table : List Row) (places : List ElementPlaces) (n : ℕ) 
       (λ i u. rw (depth_is i (omega arith), depth_is j l))
 
   -- the children of a place, by a list of parents
-  pub children_are : (parents : List ℕ) → ((j : ℕ) → j < n → get_or parents j 0 ≡ place_or n (parent_in table j))
-      → (i : ℕ) → i < n → keep (λ j. eqb (get_or parents j 0) i) (counting 0 n) ≡ children_of p.elements i
+  pub children_are : (parents : List (Found ℕ)) → ((j : ℕ) → j < n → get_or parents j None ≡ found (parent_in table j))
+      → (i : ℕ) → keep (λ j. is_parent parents j i) (counting 0 n) ≡ children_of p.elements i
   unfolding children_of
-  children_are parents found i l =
-      keep_alike (λ j. eqb (get_or parents j 0) i) (λ j. is_place i (parent_of p.elements j)) (counting 0 n) (λ j m. child_is j (omega (arith, counting_only 0 n j m)))
+  children_are parents parented i =
+      keep_alike (λ j. is_parent parents j i) (λ j. is_place i (parent_of p.elements j)) (counting 0 n) (λ j m. child_is j (omega (arith, counting_only 0 n j m)))
       ∙ ap (λ k. keep (λ j. is_place i (parent_of p.elements j)) (counting 0 k)) (sym (count_is f table places n p is))
     where
-      child_is : (j : ℕ) → j < n → eqb (get_or parents j 0) i ≡ is_place i (parent_of p.elements j)
-      child_is j u = ap (λ k. eqb k i) (found j u) ∙ place_test n i (parent_in table j) l ∙ ap (is_place i) (parent_is j u)
+      child_is : (j : ℕ) → j < n → is_parent parents j i ≡ is_place i (parent_of p.elements j)
+      child_is j u = ap (λ o. option_eq eqb o (Some i)) (parented j u) ∙ place_test i (parent_in table j) ∙ ap (is_place i) (parent_is j u)

@@ -3,11 +3,10 @@ use mathlib.Core.Path.{◌≡◌, refl, sym, ap, ap₂, ◌∙◌}
 use Prim.Native.Nat.{ℕ, zero, suc, ◌+◌, ◌-◌, ◌*◌, ◌<◌}
 use native.Mathlib.Numerals.{add-one}
 use native.Mathlib.Omega.{arith}
-use mathlib.Core.Bool.{Bool, cond, ◌&&◌, ◌||◌}
+use mathlib.Core.Bool.{Bool, true, cond, ◌&&◌, ◌||◌}
 use mathlib.Core.List.{List, [], ◌∷◌, ◌++◌, reverse, Memᴰ}
-use lib.Dec.{eqb, ltb}
+use lib.Dec.{ltb}
 use lib.ListN.{length, get_or}
-use borrow.Author.Tests.{eqb-true}
 use Rattle.meaning.specs.declared.Decision.{Decision}
 use Rattle.meaning.specs.Text.{Bytes, bytes, keep, gathered, if_some, counting, first_from, line, decimal}
 use Rattle.meaning.specs.Model.{Policy, space as space_of}
@@ -20,20 +19,23 @@ use Rattle.laws.proofs.Search.{counting_only, counting_rising, keep_only, keep_r
 use Rattle.laws.proofs.Lists.{gathered_alike, gathered_keep, gathered_twice, gathered_one, pairs_first, pairs_alike}
 use Rattle.table.specs.declared.Row.{Row}
 use Rattle.table.specs.Tree.{parent_of, place_or}
+use Rattle.std.specs.Prelude.{Option as Found, None}
+use Rattle.laws.specs.Found.{found}
 use Rattle.outcomes.proofs.Searching.{first_alike}
 use Rattle.layout.specs.declared.ElementPlaces.{ElementPlaces}
 use Rattle.layout.specs.Places.{name_in, elements_to}
 use Rattle.trimmed_text.proofs.Table.{count_is, name_at_lem}
 use Rattle.rows.specs.Words.{gives_at}
 use Rattle.conflicts.specs.Pairs.{shows_at, Later}
-use Rattle.report_lines.specs.Lines.{conflict_line, is_child, later_line, later_lines, pair_lines, conflict_text}
+use Rattle.conflicts.proofs.PairSteps.{some_eq}
+use Rattle.report_lines.specs.Lines.{is_parent, conflict_line, is_child, later_line, later_lines, pair_lines, conflict_text}
 use Rattle.reporting.proofs.Applying.{applies_at_lem}
 use Rattle.reporting.proofs.Searched.{first_or}
 use Rattle.reporting.proofs.ChildPlaces.{children_are}
 use Rattle.reporting.proofs.Giving.{gives_is}
 
 -- the line of a pair, the children among c places from j on, and the lines of their pairs
-module _ (f : Bytes) (places : List ElementPlaces) (n : ℕ) (parents pairs : List ℕ) (s i : ℕ) where
+module _ (f : Bytes) (places : List ElementPlaces) (n : ℕ) (parents : List (Found ℕ)) (pairs : List ℕ) (s i : ℕ) where
   abbrev line_of : ℕ × ℕ → Bytes
   line_of q = conflict_line f places pairs s i q.0 q.1
 
@@ -66,10 +68,10 @@ module _ (f : Bytes) (table : List Row) (places : List ElementPlaces) (n : ℕ) 
   abbrev of_parent : ℕ → List Conflict
   of_parent i = gathered (conflict_of p i) (pairs_of (children_of p.elements i))
 
-  module _ (parents struck : List ℕ) (clear : (k : ℕ) → get_or struck k 0 ≡ 0)
-      (found : (j : ℕ) → j < n → get_or parents j 0 ≡ place_or n (parent_of table j))
+  module _ (parents : List (Found ℕ)) (struck : List ℕ) (clear : (k : ℕ) → get_or struck k 0 ≡ 0)
+      (parented : (j : ℕ) → j < n → get_or parents j None ≡ found (parent_of table j))
       (pairs : List ℕ)
-      (paired : (j k : ℕ) → Later parents n j k → get_or pairs (64 * j + k) 0 ≡ place_or space (first_from (shows_at table struck n hit (get_or parents j 0) j k) 0 space)) where
+      (paired : (j k i : ℕ) → Later parents n i j k → get_or pairs (64 * j + k) 0 ≡ place_or space (first_from (shows_at table struck n hit i j k) 0 space)) where
     gives : (d : Decision) (m j : ℕ) → j < n → gives_at d table struck n (hit m) j ≡ is_of d (decision_at p m j)
     gives = gives_is f table places n p is hit hits_are struck clear
 
@@ -83,13 +85,13 @@ module _ (f : Bytes) (table : List Row) (places : List ElementPlaces) (n : ℕ) 
     first_is i j k a b c = first_alike (shows_at table struck n hit i j k) (shows p i j k) 0 space (λ m low high. shows_is i j k m a b c)
 
     -- the request of a pair of children
-    pair_is : (i j k : ℕ) → i < n → j < k → k < n → get_or parents j 0 ≡ i → get_or parents k 0 ≡ i → get_or pairs (64 * j + k) 0 ≡ place_or space (first_from (shows p i j k) 0 space)
+    pair_is : (i j k : ℕ) → i < n → j < k → k < n → is_parent parents j i ≡ true → is_parent parents k i ≡ true → get_or pairs (64 * j + k) 0 ≡ place_or space (first_from (shows p i j k) 0 space)
     pair_is i j k a b c x y =
-        paired j k record { after = b; within = c; siblings = x ∙ sym y; some = omega arith }
-        ∙ ap (place_or space) (ap (λ i. first_from (shows_at table struck n hit i j k) 0 space) x ∙ first_is i j k a (omega arith) c)
+        paired j k i record { after = b; within = c; some = a; child = some_eq _ _ x; sibling = some_eq _ _ y }
+        ∙ ap (place_or space) (first_is i j k a (omega arith) c)
 
     -- the line of a pair
-    line_is : (i j k : ℕ) → i < n → j < k → k < n → get_or parents j 0 ≡ i → get_or parents k 0 ≡ i → conflict_line f places pairs space i j k ≡ gathered written (conflict_of p i (j, k))
+    line_is : (i j k : ℕ) → i < n → j < k → k < n → is_parent parents j i ≡ true → is_parent parents k i ≡ true → conflict_line f places pairs space i j k ≡ gathered written (conflict_of p i (j, k))
     unfolding conflict_line
     line_is i j k a b c x y =
         (λ t. let m = pair_is i j k a b c x y t in cond (ltb m space) (line (bytes "C" ∷ name i a t ∷ name j (omega arith) t ∷ name k c t ∷ decimal m ∷ [])) [])
@@ -107,11 +109,11 @@ module _ (f : Bytes) (table : List Row) (places : List ElementPlaces) (n : ℕ) 
         pair_lines_lem f places n parents pairs space i 0 n (omega arith)
         ∙ pairs_alike (line_of f places n parents pairs space i) (λ q. gathered written (conflict_of p i q)) children (keep_rising its (counting 0 n) (counting_rising 0 n))
         (λ j k a b u. line_is i j k l u (below k b) (parent j a) (parent k b))
-        ∙ ap (λ js. gathered (λ q. gathered written (conflict_of p i q)) (pairs_of js)) (children_are f table places n p is parents found i l)
+        ∙ ap (λ js. gathered (λ q. gathered written (conflict_of p i q)) (pairs_of js)) (children_are f table places n p is parents parented i)
         ∙ sym (gathered_twice written (conflict_of p i) (pairs_of (children_of p.elements i)))
       where
         its : ℕ → Bool
-        its j = eqb (get_or parents j 0) i
+        its j = is_parent parents j i
 
         children : List ℕ
         children = keep its (counting 0 n)
@@ -119,8 +121,8 @@ module _ (f : Bytes) (table : List Row) (places : List ElementPlaces) (n : ℕ) 
         below : (j : ℕ) → Memᴰ j children → j < n
         below j m = omega (arith, counting_only 0 n j (keep_only its j (counting 0 n) m).0)
 
-        parent : (j : ℕ) → Memᴰ j children → get_or parents j 0 ≡ i
-        parent j m = eqb-true (get_or parents j 0) i (keep_only its j (counting 0 n) m).1
+        parent : (j : ℕ) → Memᴰ j children → is_parent parents j i ≡ true
+        parent j m = (keep_only its j (counting 0 n) m).1
 
     -- the `C` lines
     pub conflicts_are : conflict_text f places n parents pairs space ≡ gathered (λ c. line (conflict_fields p.elements c)) (conflicts p)

@@ -11,7 +11,9 @@ use Rattle.meaning.specs.declared.Decision.{Decision}
 use Rattle.meaning.specs.Text.{Bytes, counting}
 use Rattle.meaning.specs.declared.Element.{Element}
 use Rattle.table.specs.declared.Row.{Row}
-use Rattle.table.specs.Tree.{parent_of, place_or}
+use Rattle.std.specs.Prelude.{Option as Found, None}
+use Rattle.laws.specs.Found.{found}
+use Rattle.table.specs.Tree.{parent_of}
 use Rattle.table.specs.declared.Shape.{Shape}
 use Rattle.table.specs.Shape.{hit_of}
 use Rattle.matching.specs.Hits.{HitsLaid}
@@ -71,11 +73,11 @@ module _ (t : List Row) (s : Shape) where
       }
 
   -- conflicts, from the rows
-  pub conflicts_found : (rows permits denies : List (List ℕ)) (parents pairs x : List ℕ) → Applied t s.n (hit_of s) s.space rows → Given Decision.Permit t none_struck s.n (hit_of s) s.space permits → Given Decision.Deny t none_struck s.n (hit_of s) s.space denies
-      → parents ≡ map (λ i. place_or s.n (parent_of t i)) (counting 0 s.n) ++ x → Pairs parents (shown_by rows permits denies) s.n s.space pairs → ConflictsFound t s.n (hit_of s) s.space parents pairs
+  pub conflicts_found : (rows permits denies : List (List ℕ)) (parents : List (Found ℕ)) (pairs : List ℕ) (x : List (Found ℕ)) → Applied t s.n (hit_of s) s.space rows → Given Decision.Permit t none_struck s.n (hit_of s) s.space permits → Given Decision.Deny t none_struck s.n (hit_of s) s.space denies
+      → parents ≡ map (λ i. found (parent_of t i)) (counting 0 s.n) ++ x → Pairs parents (shown_by rows permits denies) s.n s.space pairs → ConflictsFound t s.n (hit_of s) s.space parents pairs
   conflicts_found rows permits denies parents pairs x applied permitted denied above paired =
       record {
-        parented = λ j l. laid_at_lem 0 (λ i. place_or s.n (parent_of t i)) s.n x above j l;
+        parented = λ j l. laid_at_lem None (λ i. found (parent_of t i)) s.n x above j l;
         paired = pairs_by_table t none_struck s.n (hit_of s) s.space rows permits denies applied permitted denied parents pairs paired;
       }
 

@@ -1,10 +1,11 @@
 -- What was found of a policy: a list for each thing that the report needs, by what stands at its places.
-use Rattle.std.specs.Prelude.{ℕ, ◌≤◌, ◌<◌, ◌≡◌, List, length, take, get_or, Bool}
+use Rattle.std.specs.Prelude.{ℕ, ◌≤◌, ◌<◌, ◌≡◌, Option, None, List, length, take, get_or, Bool}
 use Rattle.meaning.specs.Text.{Bytes}
 use Rattle.meaning.specs.declared.Decision.{Decision}
 use Rattle.meaning.specs.declared.Element.{Element}
 use Rattle.table.specs.declared.Row.{Row}
-use Rattle.table.specs.Tree.{parent_of, place_or}
+use Rattle.laws.specs.Found.{found}
+use Rattle.table.specs.Tree.{parent_of}
 use Rattle.outcomes.specs.Decided.{none_struck, decided_at}
 use Rattle.trimming.specs.Decided.{Struck, shown_at, trimming_at}
 use Rattle.rows.specs.Words.{applying_at}
@@ -26,9 +27,9 @@ pub record SegmentsFound (table : List Row) (n : ℕ) (hit : ℕ → Element →
   pub told : (m : ℕ) → m < space → get_or decided m Decision.Permit ≡ decided_at table n hit none_struck m
 
 -- and of each pair of children
-pub record ConflictsFound (table : List Row) (n : ℕ) (hit : ℕ → Element → Bool) (space : ℕ) (parents pairs : List ℕ) : Type 0 where
-  -- the place of an element's parent, or n
-  pub parented : (j : ℕ) → j < n → get_or parents j 0 ≡ place_or n (parent_of table j)
+pub record ConflictsFound (table : List Row) (n : ℕ) (hit : ℕ → Element → Bool) (space : ℕ) (parents : List (Option ℕ)) (pairs : List ℕ) : Type 0 where
+  -- an element's parent
+  pub parented : (j : ℕ) → j < n → get_or parents j None ≡ found (parent_of table j)
   -- the first request that shows the conflict of two children, at 64 j + k, or the number of requests
   pub paired : Pairs parents (shows_at table none_struck n hit) n space pairs
 

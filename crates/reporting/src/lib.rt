@@ -59,7 +59,7 @@ impl Segments {
 // Each element's parent, and for each pair of siblings the request that shows their conflict.
 #[derive(Drop)]
 struct Conflicts {
-    parents: [usize; 64],
+    parents: [Option<usize>; 64],
     pairs: [u16; 4096],
 }
 
@@ -195,7 +195,7 @@ pub fn report(
     };
     // Their rows are gone from the stack before the segments' words lie on it.
     let mut conflicts = Conflicts {
-        parents: [0; 64],
+        parents: [None; 64],
         pairs: [0; 4096],
     };
     conflicts.find(&o);
