@@ -4,7 +4,7 @@
 ghost use Rattle.std.specs.Prelude.{◌≡◌, ℕ, List, ◌+◌, ◌/◌, ◌≤◌, ◌<◌, ◌^◌, [], ◌∷◌, ◌++◌, length};
 ghost use Rattle.meaning.specs.Text.{decimal};
 ghost use Rattle.meaning.specs.Model.{decision_text};
-ghost use Rattle.printing.specs.Puts.{Puts, Lays};
+ghost use Rattle.printing.specs.Puts.{Puts};
 ghost use Rattle.printing.specs.Fitted.{text_told, Fitted};
 
 use meaning::{Answer, Decision};
@@ -103,19 +103,33 @@ pub fn text_answer(needed: usize, room: usize) -> Answer
     Answer::from(refused)
 }
 
-// The answer for the text that `put` lays into a buffer, telling its length: counted with no buffer first, and written where it fits.
-pub fn answer<F: Fn(&mut [u8]) -> usize>(out: &mut [u8], put: F) -> Answer
-    ghost text: { List ℕ }
-    requires short { length text < 4294967296 }
-    requires lays { Lays (F.pre put) (F.post put) text }
-    ensures { Fitted out.old text out.new result }
+// What can be told as text.
+pub trait Text {
+    // its bytes
+    ghost text: { Self → List ℕ };
+
+    // Puts it into a sink, from the start.
+    fn put(&self, sink: &mut Sink)
+        requires { sink.old.at ≡ 0 }
+        ensures puts { Puts sink.old (text self.now) sink.new }
+        ensures short { sink.new.at < 4294967296 };
+}
+
+// The answer for a text: it is counted with no buffer first, and written where it fits.
+pub fn answer<T: Text>(text: &T, out: &mut [u8]) -> Answer
+    ensures { Fitted out.old (T.text text.now) out.new result }
 {
     let mut none = [0u8; 0];
-    let needed = put(&mut none);
+    let mut count = Sink {
+        out: &mut none,
+        at: 0,
+    };
+    text.put(&mut count);
+    let needed = count.at;
     let room = out.len();
     let answer = text_answer(needed, room);
     if answer.number == 0 {
-        put(out);
+        text.put(&mut Sink { out, at: 0 });
     }
     answer
 }
