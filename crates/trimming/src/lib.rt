@@ -17,26 +17,37 @@ use differences::PolicyOutcomes;
 use layout::PolicyFile;
 use trials::Tried;
 
-// The last needless rule. A rule's hint is a request that got something else without it when it was tried last; known rules need no other try.
-fn next_rule(
-    o: &PolicyOutcomes,
-    struck: &mut [u8],
-    hints: &mut [u16],
-    known: &mut [u8],
-) -> Option<usize>
-    requires { let p = o.now.policy in Laid p.file.now p.places.now p.table.now struck.old o.now.hits.now o.now.outcomes.now p.shape × (p.shape.n ≤ length hints.old) × (p.shape.n ≤ length known.old) × Known p.file.now p.places.now p.table.now p.shape struck.old hints.old known.old }
-    ensures { let p = o.now.policy in (result ≡ found (next_at p.file.now p.places.now p.table.now p.shape.n (hit_of p.shape) p.shape.space struck.old)) × (struck.new ≡ struck.old) × Known p.file.now p.places.now p.table.now p.shape struck.old hints.new known.new }
+// What earlier tries tell of a rule: a request that got something else without it when it was tried last, and whether that still holds. A known rule needs no other try.
+#[derive(Clone, Copy)]
+struct Hint {
+    request: u16,
+    known: bool,
+}
+
+impl Hint {
+    const NONE: Hint = Hint {
+        request: 0,
+        known: false,
+    };
+}
+
+// The last needless rule.
+fn next_rule(o: &PolicyOutcomes, struck: &mut [u8], hints: &mut [Hint]) -> Option<usize>
+    requires { let p = o.now.policy in Laid p.file.now p.places.now p.table.now struck.old o.now.hits.now o.now.outcomes.now p.shape × (p.shape.n ≤ length hints.old) × Known p.file.now p.places.now p.table.now p.shape struck.old hints.old }
+    ensures { let p = o.now.policy in (result ≡ found (next_at p.file.now p.places.now p.table.now p.shape.n (hit_of p.shape) p.shape.space struck.old)) × (struck.new ≡ struck.old) × Known p.file.now p.places.now p.table.now p.shape struck.old hints.new }
 {
     for i in (0..o.policy.shape.n).rev() {
-        if known[i] != 0 {
+        let hint = hints[i];
+        if hint.known {
             continue;
         }
-        let hint = hints[i] as usize;
-        match trials::try_rule(o, struck, i, hint) {
+        match trials::try_rule(o, struck, i, hint.request as usize) {
             Tried::Needless => return Some(i),
             Tried::Needed(m) => {
-                hints[i] = m as u16;
-                known[i] = 1;
+                hints[i] = Hint {
+                    request: m as u16,
+                    known: true,
+                };
             }
             Tried::Other => continue,
         }
@@ -60,9 +71,8 @@ pub fn next_struck(policy: PolicyFile, struck: &mut [u8]) -> Option<usize>
         outcomes: &outcomes,
         obliged,
     };
-    let mut hints = [0u16; 64];
-    let mut known = [0u8; 64];
-    next_rule(&o, struck, &mut hints, &mut known)
+    let mut hints = [Hint::NONE; 64];
+    next_rule(&o, struck, &mut hints)
 }
 
 // Whether request m matches the rule.
@@ -74,18 +84,19 @@ fn matches_rule(hits: &[[u64; 64]], rule: usize, m: usize) -> bool
 }
 
 // Forgets the rules that are known by a request which matches the rule struck.
-fn forget(hits: &[[u64; 64]], n: usize, rule: usize, hints: &[u16], known: &mut [u8])
-    requires { (rule < length hits.now) × (n ≤ length hints.now) × (n ≤ length known.old) × HintsFit n hints.now known.old }
-    ensures { Forgets hits.now n rule hints.now known.old known.new }
+fn forget(hits: &[[u64; 64]], n: usize, rule: usize, hints: &mut [Hint])
+    requires { (rule < length hits.now) × (n ≤ length hints.old) × HintsFit n hints.old }
+    ensures { Forgets hits.now n rule hints.old hints.new }
 {
     for i in 0..n {
-        if known[i] == 0 {
+        let hint = hints[i];
+        if !hint.known {
             continue;
         }
-        if !matches_rule(hits, rule, hints[i] as usize) {
+        if !matches_rule(hits, rule, hint.request as usize) {
             continue;
         }
-        known[i] = 0;
+        hints[i].known = false;
     }
 }
 
@@ -93,21 +104,20 @@ fn forget(hits: &[[u64; 64]], n: usize, rule: usize, hints: &[u16], known: &mut 
 fn strike_rules(
     o: &PolicyOutcomes,
     struck: &mut [u8],
-    hints: &mut [u16],
-    known: &mut [u8],
+    hints: &mut [Hint],
     order: &mut [u8],
 ) -> usize
-    requires { let p = o.now.policy in Laid p.file.now p.places.now p.table.now struck.old o.now.hits.now o.now.outcomes.now p.shape × (p.shape.n ≤ length hints.old) × (p.shape.n ≤ length known.old) × Known p.file.now p.places.now p.table.now p.shape struck.old hints.old known.old × (p.shape.n ≤ length order.old) }
+    requires { let p = o.now.policy in Laid p.file.now p.places.now p.table.now struck.old o.now.hits.now o.now.outcomes.now p.shape × (p.shape.n ≤ length hints.old) × Known p.file.now p.places.now p.table.now p.shape struck.old hints.old × (p.shape.n ≤ length order.old) }
     ensures { let p = o.now.policy in Trims p.file.now p.places.now p.table.now o.now.outcomes.now p.shape struck.old struck.new order.old order.new result }
 {
     let n = o.policy.shape.n;
     for count in 0..n {
-        let Some(next) = next_rule(o, struck, hints, known) else {
+        let Some(next) = next_rule(o, struck, hints) else {
             return count;
         };
         struck[next] = 1;
         order[count] = next as u8;
-        forget(o.hits, n, next, hints, known);
+        forget(o.hits, n, next, hints);
     }
     n
 }
@@ -117,9 +127,8 @@ pub fn trim_flags(o: &PolicyOutcomes, struck: &mut [u8], order: &mut [u8]) -> us
     requires { let p = o.now.policy in Laid p.file.now p.places.now p.table.now struck.old o.now.hits.now o.now.outcomes.now p.shape × (p.shape.n ≤ length order.old) }
     ensures { let p = o.now.policy in Trims p.file.now p.places.now p.table.now o.now.outcomes.now p.shape struck.old struck.new order.old order.new result }
 {
-    let mut hints = [0u16; 64];
-    let mut known = [0u8; 64];
-    strike_rules(o, struck, &mut hints, &mut known, order)
+    let mut hints = [Hint::NONE; 64];
+    strike_rules(o, struck, &mut hints, order)
 }
 
 // Strikes every rule that trimming strikes.

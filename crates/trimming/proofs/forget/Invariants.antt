@@ -3,4 +3,4 @@ use Rattle.trimming.proofs.Knowing.{Forgetting}
 use Rattle.trimming.proofs.forget.Given as goal
 
 abbrev pub invariant-loop-i : goal.invariant-loop-i
-invariant-loop-i l = Forgetting l.hits l.rule l.hints l.initial.known l.known l.i
+invariant-loop-i l = Forgetting l.hits l.rule l.initial.hints l.hints l.i

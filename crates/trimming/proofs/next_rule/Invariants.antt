@@ -11,4 +11,4 @@ abbrev pub invariant-loop-i : goal.invariant-loop-i
 invariant-loop-i l =
     let p = l.o.policy in
     let test = needless_at p.file.now p.places.now p.table.now p.shape.n (hit_of p.shape) p.shape.space l.initial.struck in
-    (l.struck ≡ l.initial.struck) × (length l.hints ≡ length l.initial.hints) × (length l.known ≡ length l.initial.known) × (last_below test p.shape.n ≡ last_below test l.i) × Known p.file.now p.places.now p.table.now p.shape l.initial.struck l.hints l.known
+    (l.struck ≡ l.initial.struck) × (length l.hints ≡ length l.initial.hints) × (last_below test p.shape.n ≡ last_below test l.i) × Known p.file.now p.places.now p.table.now p.shape l.initial.struck l.hints

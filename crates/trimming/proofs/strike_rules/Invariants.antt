@@ -9,5 +9,5 @@ use Rattle.trimming.proofs.strike_rules.Given as goal
 abbrev pub invariant-loop-count : goal.invariant-loop-count
 invariant-loop-count l =
     let p = l.o.policy in
-    (length l.struck ≡ length l.initial.struck) × (length l.hints ≡ length l.initial.hints) × (length l.known ≡ length l.initial.known) × (length l.order ≡ length l.initial.order)
-    × Laid p.file.now p.places.now p.table.now l.struck l.o.hits.now l.o.outcomes.now p.shape × Strikes p.file.now p.places.now p.table.now p.shape l.initial.struck l.initial.order l.struck l.order l.count × Known p.file.now p.places.now p.table.now p.shape l.struck l.hints l.known
+    (length l.struck ≡ length l.initial.struck) × (length l.hints ≡ length l.initial.hints) × (length l.order ≡ length l.initial.order)
+    × Laid p.file.now p.places.now p.table.now l.struck l.o.hits.now l.o.outcomes.now p.shape × Strikes p.file.now p.places.now p.table.now p.shape l.initial.struck l.initial.order l.struck l.order l.count × Known p.file.now p.places.now p.table.now p.shape l.struck l.hints
