@@ -5,6 +5,7 @@ ghost use Rattle.std.specs.Prelude.{◌≡◌};
 ghost use Rattle.meaning.specs.Operations.{decide_answer, decide_lent, trim_answer, trim_lent, next_rule_answer, next_rule_lent, strike_answer, strike_lent, step_answer, step_lent, accept_answer, join_answer, join_lent, report_answer, report_lent, value_pairs_answer, value_pairs_lent};
 ghost use Rattle.refusals.specs.Numbers.{number_of};
 
+use joined_attributes::Part;
 use layout::{ElementPlaces, PolicyFile};
 use meaning::{Answer, Decided, Stepped};
 use printing::Sink;
@@ -145,7 +146,14 @@ pub fn jogimaduve_join(first: &[u8], second: &[u8], word: &[u8], out: &mut [u8])
     let mut table = [Row::NONE; 64];
     let mut places = [ElementPlaces::NONE; 64];
     match reader::read(first, &mut table, &mut places) {
-        Ok(policy) => joining::join(first, policy.attributes, places[0].start, second, word, out),
+        Ok(policy) => {
+            let part = Part {
+                file: first,
+                attributes: policy.attributes,
+                from: places[0].start,
+            };
+            joining::join(&part, second, word, out)
+        }
         Err(refused) => refused.into(),
     }
 }

@@ -10,6 +10,14 @@ ghost use Rattle.joined_attributes.specs.Placing.{listed, places_in};
 
 use layout::Attributes;
 
+// One of two files that are to be joined: where its attributes stand in it, and where the lines behind theirs start.
+#[derive(Clone, Copy)]
+pub struct Part<'a> {
+    pub file: &'a [u8],
+    pub attributes: Attributes,
+    pub from: usize,
+}
+
 // For each attribute of the joined file its place among those of one file, or their count where that file lacks it; zeros behind the last. An
 // array and a length, since it is handed on by copying, as an `ArrayVec` can't be.
 #[derive(Clone, Copy)]
@@ -19,28 +27,29 @@ pub struct Placing {
 }
 
 // Whether attribute j of the second file differs from attribute i of the first, which has an equal name.
-fn differ(first: &[u8], a: Attributes, i: usize, second: &[u8], b: Attributes, j: usize) -> bool
-    requires { (i < 6) × Standing first.now a i × (j < 6) × Standing second.now b j }
-    ensures { result ≡ differs (attribute_at second.now b j) (attribute_at first.now a i) }
+fn differ(first: &Part, i: usize, second: &Part, j: usize) -> bool
+    requires { (i < 6) × Standing first.now.file.now first.now.attributes i × (j < 6) × Standing second.now.file.now second.now.attributes j }
+    ensures { result ≡ differs (attribute_at second.now.file.now second.now.attributes j) (attribute_at first.now.file.now first.now.attributes i) }
 {
-    if !layout::has_name(first, a, i, b.name(second, j)) {
+    let a = first.attributes;
+    let b = second.attributes;
+    if !layout::has_name(first.file, a, i, b.name(second.file, j)) {
         return false;
     }
     let other = b.all[j];
     if a.all[i].several != other.several {
         return true;
     }
-    !comparing::same(b.values(second, j), a.values(first, i))
+    !comparing::same(b.values(second.file, j), a.values(first.file, i))
 }
 
 // Whether attribute j of the second file differs from one of the first.
-fn differ_any(first: &[u8], a: Attributes, second: &[u8], b: Attributes, j: usize) -> bool
-    requires { AllStanding first.now a × (j < 6) × Standing second.now b j }
-    ensures { result ≡ any (differs (attribute_at second.now b j)) (attributes_of first.now a) }
+fn differ_any(first: &Part, second: &Part, j: usize) -> bool
+    requires { AllStanding first.now.file.now first.now.attributes × (j < 6) × Standing second.now.file.now second.now.attributes j }
+    ensures { result ≡ any (differs (attribute_at second.now.file.now second.now.attributes j)) (attributes_of first.now.file.now first.now.attributes) }
 {
-    let len = a.len;
-    for i in 0..len {
-        if differ(first, a, i, second, b, j) {
+    for i in 0..first.attributes.len {
+        if differ(first, i, second, j) {
             return true;
         }
     }
@@ -48,14 +57,13 @@ fn differ_any(first: &[u8], a: Attributes, second: &[u8], b: Attributes, j: usiz
 }
 
 // The line, from 1, of the second file's first attribute that differs from one of the first.
-pub fn first_differing(first: &[u8], a: Attributes, second: &[u8], b: Attributes) -> Option<usize>
-    requires { AllStanding first.now a × AllStanding second.now b }
-    ensures value { result ≡ found (first_differing (attributes_of first.now a) 1 (attributes_of second.now b)) }
+pub fn first_differing(first: &Part, second: &Part) -> Option<usize>
+    requires { AllStanding first.now.file.now first.now.attributes × AllStanding second.now.file.now second.now.attributes }
+    ensures value { result ≡ found (first_differing (attributes_of first.now.file.now first.now.attributes) 1 (attributes_of second.now.file.now second.now.attributes)) }
     ensures within { IfSome result (λ line. line ≤ 6) }
 {
-    let len = b.len;
-    for j in 0..len {
-        if differ_any(first, a, second, b, j) {
+    for j in 0..second.attributes.len {
+        if differ_any(first, second, j) {
             return Some(j + 1);
         }
     }
@@ -77,50 +85,43 @@ fn with_place(p: Placing, place: usize) -> Placing
 }
 
 // The place of the attribute of this name among those of a file, or their count.
-fn place_in(own: &[u8], c: Attributes, name: &[u8]) -> usize
-    requires { AllStanding own.now c }
-    ensures { result ≡ place_in (attributes_of own.now c) name.now }
+fn place_in(own: &Part, name: &[u8]) -> usize
+    requires { AllStanding own.now.file.now own.now.attributes }
+    ensures { result ≡ place_in (attributes_of own.now.file.now own.now.attributes) name.now }
 {
-    layout::attribute_named(own, c, name).unwrap_or(c.len)
+    layout::attribute_named(own.file, own.attributes, name).unwrap_or(own.attributes.len)
 }
 
 // Where the attributes of the first file stand among those of a file.
-fn of_first(first: &[u8], a: Attributes, own: &[u8], c: Attributes) -> Placing
-    requires { AllStanding first.now a × AllStanding own.now c }
-    ensures { result ≡ listed (places_in (attributes_of own.now c) (attributes_of first.now a)) }
+fn of_first(first: &Part, own: &Part) -> Placing
+    requires { AllStanding first.now.file.now first.now.attributes × AllStanding own.now.file.now own.now.attributes }
+    ensures { result ≡ listed (places_in (attributes_of own.now.file.now own.now.attributes) (attributes_of first.now.file.now first.now.attributes)) }
 {
-    let len = a.len;
+    let a = first.attributes;
     let mut p = Placing {
         places: [0; 12],
         len: 0,
     };
-    for i in 0..len {
-        p = with_place(p, place_in(own, c, a.name(first, i)));
+    for i in 0..a.len {
+        p = with_place(p, place_in(own, a.name(first.file, i)));
     }
     p
 }
 
 // Where all attributes of the joined file stand among those of a file, which is one of the two.
-pub fn places_in(
-    first: &[u8],
-    a: Attributes,
-    second: &[u8],
-    b: Attributes,
-    own: &[u8],
-    c: Attributes,
-) -> Placing
-    requires { AllStanding first.now a × AllStanding second.now b × AllStanding own.now c }
-    ensures value { result ≡ listed (places_in (attributes_of own.now c) (both (attributes_of first.now a) (attributes_of second.now b))) }
+pub fn places_in<'a>(first: &Part<'a>, second: &Part<'a>, own: &Part<'a>) -> Placing
+    requires { AllStanding first.now.file.now first.now.attributes × AllStanding second.now.file.now second.now.attributes × AllStanding own.now.file.now own.now.attributes }
+    ensures value { result ≡ listed (places_in (attributes_of own.now.file.now own.now.attributes) (both (attributes_of first.now.file.now first.now.attributes) (attributes_of second.now.file.now second.now.attributes))) }
     ensures within { result.len ≤ 12 }
 {
-    let len = b.len;
-    let mut p = of_first(first, a, own, c);
-    for j in 0..len {
-        let name = b.name(second, j);
-        if layout::known_attribute(first, a, name) {
+    let b = second.attributes;
+    let mut p = of_first(first, own);
+    for j in 0..b.len {
+        let name = b.name(second.file, j);
+        if layout::known_attribute(first.file, first.attributes, name) {
             continue;
         }
-        p = with_place(p, place_in(own, c, name));
+        p = with_place(p, place_in(own, name));
     }
     p
 }

@@ -7,7 +7,7 @@ ghost use Rattle.layout.specs.Places.{attribute_at, attributes_of, Standing};
 ghost use Rattle.printing.specs.Puts.{Puts};
 ghost use Rattle.joined_text.specs.Lines.{Headed};
 
-use layout::Attributes;
+use joined_attributes::Part;
 use printing::Sink;
 
 // The letter of an attribute line, and its tab.
@@ -20,37 +20,37 @@ fn put_letter(several: bool, sink: &mut Sink)
 }
 
 // The line of attribute i.
-fn put_attribute(file: &[u8], a: Attributes, i: usize, sink: &mut Sink)
-    requires { (i < 6) × Standing file.now a i × (length file.now ≤ 16384) × (sink.old.at ≤ 900000) }
-    ensures { Puts sink.old (line (attribute_fields (attribute_at file.now a i))) sink.new × (sink.new.at ≤ sink.old.at + 16388) }
+fn put_attribute(part: &Part, i: usize, sink: &mut Sink)
+    requires { let p = part.now in (i < 6) × Standing p.file.now p.attributes i × (length p.file.now ≤ 16384) × (sink.old.at ≤ 900000) }
+    ensures { Puts sink.old (line (attribute_fields (attribute_at part.now.file.now part.now.attributes i))) sink.new × (sink.new.at ≤ sink.old.at + 16388) }
 {
+    let a = part.attributes;
     put_letter(a.all[i].several, sink);
-    sink.put_field(a.name(file, i), b'\t');
-    sink.put_field(a.values(file, i), b'\n');
+    sink.put_field(a.name(part.file, i), b'\t');
+    sink.put_field(a.values(part.file, i), b'\n');
 }
 
 // The attribute lines of the first file.
-pub(crate) fn put_attributes(file: &[u8], a: Attributes, sink: &mut Sink)
-    requires { Headed file.now a × (sink.old.at ≤ 1000) }
-    ensures { Puts sink.old (gathered (λ c. line (attribute_fields c)) (attributes_of file.now a)) sink.new × (sink.new.at ≤ sink.old.at + 98328) }
+pub(crate) fn put_attributes(part: &Part, sink: &mut Sink)
+    requires { Headed part.now.file.now part.now.attributes × (sink.old.at ≤ 1000) }
+    ensures { Puts sink.old (gathered (λ c. line (attribute_fields c)) (attributes_of part.now.file.now part.now.attributes)) sink.new × (sink.new.at ≤ sink.old.at + 98328) }
 {
-    let len = a.len;
-    for i in 0..len {
-        put_attribute(file, a, i, sink);
+    for i in 0..part.attributes.len {
+        put_attribute(part, i, sink);
     }
 }
 
 // Those of the second file's attributes whose names the first lacks.
-pub(crate) fn put_alone(first: &[u8], a: Attributes, second: &[u8], b: Attributes, sink: &mut Sink)
-    requires { Headed first.now a × Headed second.now b × (sink.old.at ≤ 100000) }
-    ensures { Puts sink.old (gathered (λ c. line (attribute_fields c)) (keep (λ c. not (declared (attributes_of first.now a) c.name)) (attributes_of second.now b))) sink.new × (sink.new.at ≤ sink.old.at + 98328) }
+pub(crate) fn put_alone(first: &Part, second: &Part, sink: &mut Sink)
+    requires { Headed first.now.file.now first.now.attributes × Headed second.now.file.now second.now.attributes × (sink.old.at ≤ 100000) }
+    ensures { Puts sink.old (gathered (λ c. line (attribute_fields c)) (keep (λ c. not (declared (attributes_of first.now.file.now first.now.attributes) c.name)) (attributes_of second.now.file.now second.now.attributes))) sink.new × (sink.new.at ≤ sink.old.at + 98328) }
 {
-    let len = b.len;
-    for j in 0..len {
-        if layout::known_attribute(first, a, b.name(second, j)) {
+    let b = second.attributes;
+    for j in 0..b.len {
+        if layout::known_attribute(first.file, first.attributes, b.name(second.file, j)) {
             continue;
         }
-        put_attribute(second, b, j, sink);
+        put_attribute(second, j, sink);
     }
 }
 

@@ -12,8 +12,7 @@ ghost use Rattle.layout.specs.Places.{attributes_of};
 ghost use Rattle.printing.specs.Puts.{Puts};
 ghost use Rattle.joined_text.specs.Lines.{places_of, deeper_placed, Behind, Joinable};
 
-use joined_attributes::Placing;
-use layout::Attributes;
+use joined_attributes::{Part, Placing};
 use printing::Sink;
 
 // The lines of a file from `from` on, each one deeper, by the places of the joined attributes among its own `n`.
@@ -29,25 +28,16 @@ fn put_tree(file: &[u8], from: usize, p: Placing, n: usize, sink: &mut Sink)
     }
 }
 
-// The joined text. The lines behind a file's attribute lines start at `from` and `other`.
-pub fn put_joined(
-    first: &[u8],
-    a: Attributes,
-    from: usize,
-    second: &[u8],
-    b: Attributes,
-    other: usize,
-    word: &[u8],
-    sink: &mut Sink,
-)
-    requires { Joinable first.now a from × Joinable second.now b other × (length word.now ≤ 32) × (sink.old.at ≤ 1000) }
-    ensures { Puts sink.old (joined_text word.now first.now (attributes_of first.now a) second.now (attributes_of second.now b)) sink.new }
+// The joined text.
+pub fn put_joined<'a>(first: &Part<'a>, second: &Part<'a>, word: &[u8], sink: &mut Sink)
+    requires { Joinable first.now.file.now first.now.attributes first.now.from × Joinable second.now.file.now second.now.attributes second.now.from × (length word.now ≤ 32) × (sink.old.at ≤ 1000) }
+    ensures { Puts sink.old (joined_text word.now first.now.file.now (attributes_of first.now.file.now first.now.attributes) second.now.file.now (attributes_of second.now.file.now second.now.attributes)) sink.new }
 {
-    let p = joined_attributes::places_in(first, a, second, b, first, a);
-    let q = joined_attributes::places_in(first, a, second, b, second, b);
-    attributes::put_attributes(first, a, sink);
-    attributes::put_alone(first, a, second, b, sink);
+    let p = joined_attributes::places_in(first, second, first);
+    let q = joined_attributes::places_in(first, second, second);
+    attributes::put_attributes(first, sink);
+    attributes::put_alone(first, second, sink);
     attributes::put_set(word, p.len, sink);
-    put_tree(first, from, p, a.len, sink);
-    put_tree(second, other, q, b.len, sink);
+    put_tree(first.file, first.from, p, first.attributes.len, sink);
+    put_tree(second.file, second.from, q, second.attributes.len, sink);
 }

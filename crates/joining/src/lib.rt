@@ -5,7 +5,8 @@ ghost use Rattle.std.specs.Prelude.{◌≡◌, ◌≤◌, length};
 ghost use Rattle.meaning.specs.Operations.{join_answer, join_lent};
 ghost use Rattle.joining.specs.Held.{FileHeld, Accepted};
 
-use layout::{Attributes, ElementPlaces};
+use joined_attributes::Part;
+use layout::ElementPlaces;
 use meaning::{Answer, Kind};
 use printing::Sink;
 use refusals::{Refusal, Refused};
@@ -32,23 +33,14 @@ fn accept(text: &[u8], out: &mut [u8]) -> Answer
     }
 }
 
-// Two files that were read. The lines behind a file's attribute lines start at `from` and `other`. The text is
-// laid down here and read as any file is: nothing but the reader says whether it is accepted.
-fn join_both(
-    first: &[u8],
-    a: Attributes,
-    from: usize,
-    second: &[u8],
-    b: Attributes,
-    other: usize,
-    word: &[u8],
-    out: &mut [u8],
-) -> Answer
-    requires { FileHeld first.now a from × FileHeld second.now b other }
-    ensures value { result ≡ join_answer first.now second.now word.now out.old }
-    ensures out_after { out.new ≡ join_lent first.now second.now word.now out.old }
+// Two files that were read. The text is laid down
+// here and read as any file is: nothing but the reader says whether it is accepted.
+fn join_both<'a>(first: &Part<'a>, second: &Part<'a>, word: &[u8], out: &mut [u8]) -> Answer
+    requires { FileHeld first.now.file.now first.now.attributes first.now.from × FileHeld second.now.file.now second.now.attributes second.now.from }
+    ensures value { result ≡ join_answer first.now.file.now second.now.file.now word.now out.old }
+    ensures out_after { out.new ≡ join_lent first.now.file.now second.now.file.now word.now out.old }
 {
-    if let Some(line) = joined_attributes::first_differing(first, a, second, b) {
+    if let Some(line) = joined_attributes::first_differing(first, second) {
         let refused = Refused {
             why: Refusal::OtherAttribute,
             second: line as u32,
@@ -56,7 +48,7 @@ fn join_both(
         return refused.into();
     }
     if syntax::word_of(Kind::Set, word).is_none() {
-        let joined = joined_attributes::places_in(first, a, second, b, first, a);
+        let joined = joined_attributes::places_in(first, second, first);
         let refused = Refused {
             why: Refusal::BadWord,
             second: (joined.len + 1) as u32,
@@ -68,7 +60,7 @@ fn join_both(
         out: &mut text,
         at: 0,
     };
-    joined_text::put_joined(first, a, from, second, b, other, word, &mut sink);
+    joined_text::put_joined(first, second, word, &mut sink);
     let needed = sink.at;
     if 16384 < needed {
         let refused = Refused {
@@ -80,25 +72,22 @@ fn join_both(
     accept(&text[..needed], out)
 }
 
-// A file that was read, whose lines behind its attribute lines start at `from`, and a second file, joined in a lent buffer.
-pub fn join(
-    first: &[u8],
-    a: Attributes,
-    from: usize,
-    second: &[u8],
-    word: &[u8],
-    out: &mut [u8],
-) -> Answer
-    requires { FileHeld first.now a from }
-    ensures value { result ≡ join_answer first.now second.now word.now out.old }
-    ensures out_after { out.new ≡ join_lent first.now second.now word.now out.old }
+// A file that was read, and a second one, joined in a lent buffer.
+pub fn join(first: &Part, second: &[u8], word: &[u8], out: &mut [u8]) -> Answer
+    requires { FileHeld first.now.file.now first.now.attributes first.now.from }
+    ensures value { result ≡ join_answer first.now.file.now second.now word.now out.old }
+    ensures out_after { out.new ≡ join_lent first.now.file.now second.now word.now out.old }
 {
     let mut table = [Row::NONE; 64];
     let mut places = [ElementPlaces::NONE; 64];
     match reader::read(second, &mut table, &mut places) {
         Ok(policy) => {
-            let b = policy.attributes;
-            join_both(first, a, from, second, b, places[0].start, word, out)
+            let other = Part {
+                file: second,
+                attributes: policy.attributes,
+                from: places[0].start,
+            };
+            join_both(first, &other, word, out)
         }
         Err(refused) => refused.into(),
     }

@@ -48,9 +48,9 @@ returns c =
     let count = c.put_text.ensures.0.wrote in
     let told = c.text_answer.ensures in
     let both =
-        trim_fitted _ _ _ _ p h holds _ c.shape-shape.ensures _ c.strike.ensures (elim c.if-needed-room.branch [
-          then-needed-room w ↦ rw w.out-is (written count out told w.if-needed-room.true (filled w.put_text-then-needed-room.ensures.0 (search rules)))
-        | else-needed-room w ↦ rw w.out-is (untouched count out told w.if-needed-room.false)
-        ])
+    trim_fitted _ _ _ _ p h holds _ c.shape-shape.ensures _ c.strike.ensures (elim c.if-needed-room.branch [
+      | then-needed-room w ↦ rw w.out-is (written count out told w.if-needed-room.true (filled w.put_text-then-needed-room.ensures.0 (search rules)))
+      | else-needed-room w ↦ rw w.out-is (untouched count out told w.if-needed-room.false)
+    ])
     in
     record { value = both.0; out_after = both.1 }

@@ -19,15 +19,15 @@ pub returns-then-differ : goal.returns-then-differ
 returns-then-differ c =
     let l = c.loop-i in
     let hit = sym c.differ.ensures ∙ c.if-differ.true in
-    sym (l.invariant ∙ ap (any (differs (attribute_at c.args.second.now c.args.b c.args.j))) (attributes_next c.args.first.now c.args.a l.i (omega arith)) ∙ rw hit)
+    sym (l.invariant ∙ ap (any (differs (attribute_at c.args.second.now.file.now c.args.second.now.attributes c.args.j))) (attributes_next c.args.first.now.file.now c.args.first.now.attributes l.i (omega arith)) ∙ rw hit)
 
 pub loop-i-preserved : goal.loop-i-preserved
 loop-i-preserved c =
     let l = c.loop-i in
     let miss = sym c.differ.ensures ∙ c.if-differ.false in
-    l.invariant ∙ ap (any (differs (attribute_at c.args.second.now c.args.b c.args.j))) (attributes_next c.args.first.now c.args.a l.i (omega arith)) ∙ rw miss
+    l.invariant ∙ ap (any (differs (attribute_at c.args.second.now.file.now c.args.second.now.attributes c.args.j))) (attributes_next c.args.first.now.file.now c.args.first.now.attributes l.i (omega arith)) ∙ rw miss
 
 pub returns : goal.returns
 returns c =
     let l = c.loop-i in
-    sym (l.invariant ∙ ap (any (differs (attribute_at c.args.second.now c.args.b c.args.j))) (attributes_end c.args.first.now c.args.a l.i (omega arith)))
+    sym (l.invariant ∙ ap (any (differs (attribute_at c.args.second.now.file.now c.args.second.now.attributes c.args.j))) (attributes_end c.args.first.now.file.now c.args.first.now.attributes l.i (omega arith)))

@@ -7,4 +7,4 @@ use Rattle.layout.specs.Places.{attribute_at, attributes_from, attributes_of}
 use Rattle.joined_attributes.proofs.differ_any.Given as goal
 
 abbrev pub invariant-loop-i : goal.invariant-loop-i
-invariant-loop-i l = any (differs (attribute_at l.second l.b l.j)) (attributes_of l.first l.a) ≡ any (differs (attribute_at l.second l.b l.j)) (attributes_from l.first l.a l.i (l.len - l.i))
+invariant-loop-i l = any (differs (attribute_at l.second.file.now l.second.attributes l.j)) (attributes_of l.first.file.now l.first.attributes) ≡ any (differs (attribute_at l.second.file.now l.second.attributes l.j)) (attributes_from l.first.file.now l.first.attributes l.i (l.first.attributes.len - l.i))

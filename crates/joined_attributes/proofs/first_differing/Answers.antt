@@ -22,9 +22,9 @@ differ_any-requires c =
 pub returns-then-differ_any : goal.returns-then-differ_any
 returns-then-differ_any c =
     let l = c.loop-j in
-    let own = attributes_of c.args.first.now c.args.a in
-    let next = attributes_next c.args.second.now c.args.b l.j (omega arith) in record {
-      value = ap found (sym (differing own (l.j + 1) (attribute_at c.args.second.now c.args.b l.j) (attributes_from c.args.second.now c.args.b (l.j + 1) (c.args.b.len - (l.j + 1))) (sym c.differ_any.ensures ∙ c.if-differ_any.true))
+    let own = attributes_of c.args.first.now.file.now c.args.first.now.attributes in
+    let next = attributes_next c.args.second.now.file.now c.args.second.now.attributes l.j (omega arith) in record {
+      value = ap found (sym (differing own (l.j + 1) (attribute_at c.args.second.now.file.now c.args.second.now.attributes l.j) (attributes_from c.args.second.now.file.now c.args.second.now.attributes (l.j + 1) (c.args.second.now.attributes.len - (l.j + 1))) (sym c.differ_any.ensures ∙ c.if-differ_any.true))
           ∙ sym (l.invariant ∙ ap (first_differing own (l.j + 1)) next));
       within = omega (arith, c.requires.1.few);
     }
@@ -32,15 +32,15 @@ returns-then-differ_any c =
 pub loop-j-preserved : goal.loop-j-preserved
 loop-j-preserved c =
     let l = c.loop-j in
-    let own = attributes_of c.args.first.now c.args.a in
-    let next = attributes_next c.args.second.now c.args.b l.j (omega arith) in
-    let rest = attributes_from c.args.second.now c.args.b (l.j + 1) (c.args.b.len - (l.j + 1)) in
+    let own = attributes_of c.args.first.now.file.now c.args.first.now.attributes in
+    let next = attributes_next c.args.second.now.file.now c.args.second.now.attributes l.j (omega arith) in
+    let rest = attributes_from c.args.second.now.file.now c.args.second.now.attributes (l.j + 1) (c.args.second.now.attributes.len - (l.j + 1)) in
     l.invariant ∙ ap (first_differing own (l.j + 1)) next
-    ∙ passed_over own (l.j + 1) (attribute_at c.args.second.now c.args.b l.j) rest (sym c.differ_any.ensures ∙ c.if-differ_any.false)
+    ∙ passed_over own (l.j + 1) (attribute_at c.args.second.now.file.now c.args.second.now.attributes l.j) rest (sym c.differ_any.ensures ∙ c.if-differ_any.false)
     ∙ ap (λ n. first_differing own n rest) (sym (add-one (l.j + 1)))
 
 pub returns : goal.returns
 returns c =
     let l = c.loop-j in
-    let own = attributes_of c.args.first.now c.args.a in
-    record { value = sym (ap found (l.invariant ∙ ap (first_differing own (l.j + 1)) (attributes_end c.args.second.now c.args.b l.j (omega arith)))); within = search rules }
+    let own = attributes_of c.args.first.now.file.now c.args.first.now.attributes in
+    record { value = sym (ap found (l.invariant ∙ ap (first_differing own (l.j + 1)) (attributes_end c.args.second.now.file.now c.args.second.now.attributes l.j (omega arith)))); within = search rules }

@@ -6,4 +6,4 @@ use Rattle.layout.specs.Places.{attributes_from, attributes_of}
 use Rattle.joined_attributes.proofs.first_differing.Given as goal
 
 abbrev pub invariant-loop-j : goal.invariant-loop-j
-invariant-loop-j l = first_differing (attributes_of l.first l.a) 1 (attributes_of l.second l.b) ≡ first_differing (attributes_of l.first l.a) (l.j + 1) (attributes_from l.second l.b l.j (l.len - l.j))
+invariant-loop-j l = first_differing (attributes_of l.first.file.now l.first.attributes) 1 (attributes_of l.second.file.now l.second.attributes) ≡ first_differing (attributes_of l.first.file.now l.first.attributes) (l.j + 1) (attributes_from l.second.file.now l.second.attributes l.j (l.second.attributes.len - l.j))

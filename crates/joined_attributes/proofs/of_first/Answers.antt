@@ -8,7 +8,7 @@ use Rattle.joined_attributes.proofs.Listing.{none_listed, attribute_listed, plac
 use Rattle.joined_attributes.proofs.of_first.Goals as goal
 
 pub loop-i-init : goal.loop-i-init
-loop-i-init c = none_listed c.args.first.now c.args.a (attributes_of c.args.own.now c.args.c)
+loop-i-init c = none_listed c.args.first.now.file.now c.args.first.now.attributes (attributes_of c.args.own.now.file.now c.args.own.now.attributes)
 
 pub name-requires : goal.name-requires
 name-requires c =
@@ -20,17 +20,17 @@ place_in-requires c = c.requires.1
 pub with_place-p-requires : goal.with_place-p-requires
 with_place-p-requires c =
     let l = c.loop-i in
-    omega (arith, c.requires.0.few, ap (λ p. p.len) l.invariant, places_count c.args.first.now c.args.a (attributes_of c.args.own.now c.args.c) l.i)
+    omega (arith, c.requires.0.few, ap (λ p. p.len) l.invariant, places_count c.args.first.now.file.now c.args.first.now.attributes (attributes_of c.args.own.now.file.now c.args.own.now.attributes) l.i)
 
 pub loop-i-preserved : goal.loop-i-preserved
 loop-i-preserved c =
     let l = c.loop-i in
-    let own = attributes_of c.args.own.now c.args.c in
+    let own = attributes_of c.args.own.now.file.now c.args.own.now.attributes in
     let place = c.place_in.ensures ∙ ap (place_in own) c.name.ensures in
-    c.with_place-p.ensures ∙ attribute_listed c.args.first.now c.args.a own (omega (arith, c.requires.0.few)) place l.invariant
+    c.with_place-p.ensures ∙ attribute_listed c.args.first.now.file.now c.args.first.now.attributes own (omega (arith, c.requires.0.few)) place l.invariant
 
 pub returns : goal.returns
 returns c =
     let l = c.loop-i in
-    let all : l.i ≡ c.args.a.len = omega arith in
-    l.invariant ∙ ap (λ n. listed (places_in (attributes_of c.args.own.now c.args.c) (attributes_from c.args.first.now c.args.a 0 n))) all
+    let all : l.i ≡ c.args.first.now.attributes.len = omega arith in
+    l.invariant ∙ ap (λ n. listed (places_in (attributes_of c.args.own.now.file.now c.args.own.now.attributes) (attributes_from c.args.first.now.file.now c.args.first.now.attributes 0 n))) all

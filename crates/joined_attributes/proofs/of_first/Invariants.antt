@@ -5,4 +5,4 @@ use Rattle.joined_attributes.specs.Placing.{listed, places_in}
 use Rattle.joined_attributes.proofs.of_first.Given as goal
 
 abbrev pub invariant-loop-i : goal.invariant-loop-i
-invariant-loop-i l = l.p ≡ listed (places_in (attributes_of l.own l.c) (attributes_from l.first l.a 0 l.i))
+invariant-loop-i l = l.p ≡ listed (places_in (attributes_of l.own.file.now l.own.attributes) (attributes_from l.first.file.now l.first.attributes 0 l.i))

@@ -8,5 +8,5 @@ use Rattle.joined_attributes.proofs.place_in.Goals as goal
 
 pub returns : goal.returns
 returns c =
-    let attrs = attributes_of c.args.own.now c.args.c in
-    c.unwrap_or.ensures ∙ ap₂ unwrap_or c.attribute_named.ensures.value (sym (attributes_length c.args.own.now c.args.c)) ∙ place_or_count attrs c.args.name.now
+    let attrs = attributes_of c.args.own.now.file.now c.args.own.now.attributes in
+    c.unwrap_or.ensures ∙ ap₂ unwrap_or c.attribute_named.ensures.value (sym (attributes_length c.args.own.now.file.now c.args.own.now.attributes)) ∙ place_or_count attrs c.args.name.now

@@ -11,7 +11,7 @@ use Rattle.joined_attributes.proofs.places_in.Goals as goal
 
 pub loop-j-init : goal.loop-j-init
 loop-j-init c =
-    first_listed c.args.second.now c.args.b (attributes_of c.args.own.now c.args.c) (attributes_of c.args.first.now c.args.a) c.of_first-p.ensures
+    first_listed c.args.second.now.file.now c.args.second.now.attributes (attributes_of c.args.own.now.file.now c.args.own.now.attributes) (attributes_of c.args.first.now.file.now c.args.first.now.attributes) c.of_first-p.ensures
 
 pub name-name-requires : goal.name-name-requires
 name-name-requires c =
@@ -20,9 +20,9 @@ name-name-requires c =
 pub loop-j-preserved-then-known_attribute : goal.loop-j-preserved-then-known_attribute
 loop-j-preserved-then-known_attribute c =
     let l = c.loop-j in
-    let first = attributes_of c.args.first.now c.args.a in
+    let first = attributes_of c.args.first.now.file.now c.args.first.now.attributes in
     let known = sym (c.known_attribute.ensures ∙ ap (declared first) c.name-name.ensures) ∙ c.if-known_attribute.true in
-    known_passed c.args.second.now c.args.b (attributes_of c.args.own.now c.args.c) first l.j known l.invariant
+    known_passed c.args.second.now.file.now c.args.second.now.attributes (attributes_of c.args.own.now.file.now c.args.own.now.attributes) first l.j known l.invariant
 
 pub with_place-p-requires : goal.with_place-p-requires
 with_place-p-requires c =
@@ -32,26 +32,26 @@ with_place-p-requires c =
       c.requires.0.few,
       c.requires.1.few,
       ap (λ p. p.len) l.invariant,
-      attributes_length c.args.first.now c.args.a,
-      both_count c.args.second.now c.args.b (attributes_of c.args.own.now c.args.c) (attributes_of c.args.first.now c.args.a) l.j,
+      attributes_length c.args.first.now.file.now c.args.first.now.attributes,
+      both_count c.args.second.now.file.now c.args.second.now.attributes (attributes_of c.args.own.now.file.now c.args.own.now.attributes) (attributes_of c.args.first.now.file.now c.args.first.now.attributes) l.j,
     )
 
 pub loop-j-preserved : goal.loop-j-preserved
 loop-j-preserved c =
     let l = c.loop-j in
     let name = c.name-name.ensures in
-    let first = attributes_of c.args.first.now c.args.a in
-    let own = attributes_of c.args.own.now c.args.c in
+    let first = attributes_of c.args.first.now.file.now c.args.first.now.attributes in
+    let own = attributes_of c.args.own.now.file.now c.args.own.now.attributes in
     let alone = sym (c.known_attribute.ensures ∙ ap (declared first) name) ∙ c.if-known_attribute.false in
     let place = c.place_in.ensures ∙ ap (place_in own) name in
-    c.with_place-p.ensures ∙ alone_listed c.args.second.now c.args.b own first l.j (omega (arith, c.requires.0.few, c.requires.1.few, attributes_length c.args.first.now c.args.a)) alone place l.invariant
+    c.with_place-p.ensures ∙ alone_listed c.args.second.now.file.now c.args.second.now.attributes own first l.j (omega (arith, c.requires.0.few, c.requires.1.few, attributes_length c.args.first.now.file.now c.args.first.now.attributes)) alone place l.invariant
 
 pub returns : goal.returns
 returns c =
     let l = c.loop-j in
-    let first = attributes_of c.args.first.now c.args.a in
-    let own = attributes_of c.args.own.now c.args.c in
-    let all : l.j ≡ c.args.b.len = omega arith in record { value = l.invariant ∙ ap (λ n. listed (places_in own (both first (attributes_from c.args.second.now c.args.b 0 n)))) all; within = omega (arith, c.requires.0.few, c.requires.1.few, ap (λ p. p.len) l.invariant, attributes_length c.args.first.now c.args.a, both_count c.args.second.now c.args.b own first l.j) }
+    let first = attributes_of c.args.first.now.file.now c.args.first.now.attributes in
+    let own = attributes_of c.args.own.now.file.now c.args.own.now.attributes in
+    let all : l.j ≡ c.args.second.now.attributes.len = omega arith in record { value = l.invariant ∙ ap (λ n. listed (places_in own (both first (attributes_from c.args.second.now.file.now c.args.second.now.attributes 0 n)))) all; within = omega (arith, c.requires.0.few, c.requires.1.few, ap (λ p. p.len) l.invariant, attributes_length c.args.first.now.file.now c.args.first.now.attributes, both_count c.args.second.now.file.now c.args.second.now.attributes own first l.j) }
 
 pub of_first-p-requires : goal.of_first-p-requires
 of_first-p-requires c = (c.requires.0, c.requires.2)

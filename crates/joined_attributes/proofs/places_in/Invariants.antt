@@ -7,4 +7,4 @@ use Rattle.joined_attributes.specs.Placing.{listed, places_in}
 use Rattle.joined_attributes.proofs.places_in.Given as goal
 
 abbrev pub invariant-loop-j : goal.invariant-loop-j
-invariant-loop-j l = l.p ≡ listed (places_in (attributes_of l.own l.c) (both (attributes_of l.first l.a) (attributes_from l.second l.b 0 l.j)))
+invariant-loop-j l = l.p ≡ listed (places_in (attributes_of l.own.file.now l.own.attributes) (both (attributes_of l.first.file.now l.first.attributes) (attributes_from l.second.file.now l.second.attributes 0 l.j)))

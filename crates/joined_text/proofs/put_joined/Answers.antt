@@ -17,7 +17,7 @@ put_tree-requires-2 c =
 
 pub returns : goal.returns
 returns c =
-    whole_text c.args.word.now c.args.first.now c.args.second.now c.args.a c.args.b c.args.from c.args.other c.requires.0 c.requires.1
+    whole_text c.args.word.now c.args.first.now.file.now c.args.second.now.file.now c.args.first.now.attributes c.args.second.now.attributes c.args.first.now.from c.args.second.now.from c.requires.0 c.requires.1
     c.places_in-p.ensures.value
     c.places_in-q.ensures.value
     c.put_attributes.ensures.0

@@ -7,7 +7,7 @@ use Rattle.joining.proofs.join.Goals as goal
 pub returns-in-Err : goal.returns-in-Err
 returns-in-Err c =
     let args = c.args in
-    let both = second_refused args.first.now args.second.now args.word.now args.out.now args.a args.from c.requires _ _ (file_refused c.in-Err.ensures) c.into.ensures in
+    let both = second_refused args.first.now.file.now args.second.now args.word.now args.out.now args.first.now.attributes args.first.now.from c.requires _ _ (file_refused c.in-Err.ensures) c.into.ensures in
     record { value = both.0; out_after = both.1 }
 
 pub join_both-requires : goal.join_both-requires

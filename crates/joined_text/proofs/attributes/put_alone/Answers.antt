@@ -22,9 +22,9 @@ known_attribute-requires c = c.requires.0.standing
 pub loop-j-preserved-then-known_attribute : goal.loop-j-preserved-then-known_attribute
 loop-j-preserved-then-known_attribute c =
     let l = c.loop-j in
-    let first = attributes_of c.args.first.now c.args.a in
+    let first = attributes_of c.args.first.now.file.now c.args.first.now.attributes in
     let known = sym (c.known_attribute.ensures ∙ ap (declared first) c.name.ensures) ∙ c.if-known_attribute.true in
-    passed_over l.invariant (alone_known c.args.second.now c.args.b first l.j known)
+    passed_over l.invariant (alone_known c.args.second.now.file.now c.args.second.now.attributes first l.j known)
 
 pub put_attribute-requires : goal.put_attribute-requires
 put_attribute-requires c =
@@ -35,15 +35,15 @@ put_attribute-requires c =
 pub loop-j-preserved : goal.loop-j-preserved
 loop-j-preserved c =
     let l = c.loop-j in
-    let first = attributes_of c.args.first.now c.args.a in
+    let first = attributes_of c.args.first.now.file.now c.args.first.now.attributes in
     let alone = sym (c.known_attribute.ensures ∙ ap (declared first) c.name.ensures) ∙ c.if-known_attribute.false in
     let put = c.put_attribute.ensures in
-    let line = same_text (alone_new c.args.second.now c.args.b first l.j alone) put.0 in
+    let line = same_text (alone_new c.args.second.now.file.now c.args.second.now.attributes first l.j alone) put.0 in
     stored l.invariant (line, put.1)
 
 pub returns : goal.returns
 returns c =
     let l = c.loop-j in
-    let first = attributes_of c.args.first.now c.args.a in
-    let lines = ended_all l.invariant c.args.b.len (omega (arith)) in
-    (same_text (alone_lines c.args.second.now c.args.b first) lines, omega (arith, l.invariant.within, c.requires.1.standing.few))
+    let first = attributes_of c.args.first.now.file.now c.args.first.now.attributes in
+    let lines = ended_all l.invariant c.args.second.now.attributes.len (omega (arith)) in
+    (same_text (alone_lines c.args.second.now.file.now c.args.second.now.attributes first) lines, omega (arith, l.invariant.within, c.requires.1.standing.few))

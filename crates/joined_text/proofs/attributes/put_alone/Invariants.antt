@@ -5,4 +5,4 @@ use Rattle.joined_text.proofs.Header.{alone_at}
 use Rattle.joined_text.proofs.attributes.put_alone.Given as goal
 
 abbrev pub invariant-loop-j : goal.invariant-loop-j
-invariant-loop-j l = Sofar (alone_at l.second l.b (attributes_of l.first l.a)) 16388 0 l.initial.sink l.j l.sink
+invariant-loop-j l = Sofar (alone_at l.second.file.now l.second.attributes (attributes_of l.first.file.now l.first.attributes)) 16388 0 l.initial.sink l.j l.sink

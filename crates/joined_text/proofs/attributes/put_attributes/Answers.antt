@@ -22,5 +22,5 @@ loop-i-preserved c =
 pub returns : goal.returns
 returns c =
     let l = c.loop-i in
-    let lines = ended_all l.invariant c.args.a.len (omega (arith)) in
-    (same_text (all_lines c.args.file.now c.args.a) lines, omega (arith, l.invariant.within, c.requires.0.standing.few))
+    let lines = ended_all l.invariant c.args.part.now.attributes.len (omega (arith)) in
+    (same_text (all_lines c.args.part.now.file.now c.args.part.now.attributes) lines, omega (arith, l.invariant.within, c.requires.0.standing.few))
