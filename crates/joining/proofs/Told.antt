@@ -1,6 +1,6 @@
 -- What joining two files answers, and leaves in the buffer.
 use mathlib.Core.Path.{◌≡◌, refl, sym, ap, ap₂, ◌∙◌, subst}
-use mathlib.Core.List.{List, []}
+use mathlib.Core.List.{List}
 use mathlib.Core.Option.{Option, none, some}
 use Prim.Native.Nat.{ℕ, suc, ◌+◌, ◌≤◌, ◌<◌}
 use native.Mathlib.Nat.{zero-add}
@@ -22,14 +22,10 @@ use Rattle.layout.specs.declared.Attributes.{Attributes}
 use Rattle.layout.specs.Places.{attributes_of}
 use Rattle.printing.specs.Wrote.{Wrote}
 use Rattle.printing.specs.Fitted.{Fitted}
-use Rattle.printing.proofs.Laws.{sets_out, at_start}
+use Rattle.printing.proofs.Laws.{at_start}
 use Rattle.joined_attributes.specs.declared.Placing.{Placing}
 use Rattle.joined_attributes.specs.Placing.{listed, places_in}
 use Rattle.joining.specs.Held.{FileHeld, if_accepted, Accepted}
-
--- a text counted by its length
-pub counted_whole : (t : Bytes) → Wrote [] 0 t [] (length t)
-counted_whole t = record { moved = omega arith; laid = sym (sets_out [] 0 t (omega arith)) }
 
 -- the part of a buffer that a text was laid into
 pub laid_part : {x t y : List ℕ} {needed : ℕ} → Wrote x 0 t y needed → needed ≤ length x → needed ≡ length (take needed y)

@@ -8,9 +8,24 @@ ghost use Rattle.joining.specs.Held.{FileHeld, Accepted};
 use joined_attributes::Part;
 use layout::ElementPlaces;
 use meaning::{Answer, Kind};
-use printing::Sink;
+use printing::{Sink, Text};
 use refusals::{Refusal, Refused};
 use table::Row;
+
+// A text no longer than a file, as it is told.
+#[derive(Clone, Copy)]
+struct Joined<'a> {
+    text: &'a [u8],
+    ghost short: { length text.now ≤ 16384 },
+}
+
+impl Text for Joined<'_> {
+    ghost text = { λ t. t.text.now };
+
+    fn put(&self, sink: &mut Sink) {
+        sink.put_bytes(self.text);
+    }
+}
 
 // A text: what reading it refuses, or the text in a lent buffer.
 fn accept(text: &[u8], out: &mut [u8]) -> Answer
@@ -20,15 +35,7 @@ fn accept(text: &[u8], out: &mut [u8]) -> Answer
     let mut table = [Row::NONE; 64];
     let mut places = [ElementPlaces::NONE; 64];
     match reader::read(text, &mut table, &mut places) {
-        Ok(_) => {
-            let needed = text.len();
-            let room = out.len();
-            if needed <= room {
-                let mut sink = Sink { out, at: 0 };
-                sink.put_bytes(text);
-            }
-            printing::text_answer(needed, room)
-        }
+        Ok(_) => printing::answer(&Joined { text }, out),
         Err(refused) => refused.into(),
     }
 }
