@@ -1,4 +1,5 @@
 // The elements of a policy, lent as a table with a row for each, and a flag for each: one that is not 0 strikes its element.
+// (Flags stay numbers: the functions on them that docs/ARCHITECTURE.md names take any, and a `bool` would ask more of callers.)
 #![tactic(auto)]
 
 ghost use Rattle.std.specs.Prelude.{◌≡◌, ◌+◌, ◌≤◌, ◌<◌, length, IfSome};
