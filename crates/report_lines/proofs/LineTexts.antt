@@ -6,6 +6,7 @@ use native.Mathlib.Omega.{arith}
 use mathlib.Core.List.{List, []}
 use lib.ListN.{get_or}
 use borrow.Author.Tests.{ne_eqb, lt-ltb, le-ltb}
+use Rattle.std.specs.Prelude.{Option, None, Some}
 use Rattle.meaning.specs.declared.Decision.{Decision}
 use Rattle.meaning.specs.Text.{Bytes, bytes, decimal}
 use Rattle.meaning.specs.Model.{decision_text}
@@ -53,10 +54,14 @@ module _ (f : Bytes) (places : List ElementPlaces) {a : Sink} where
   struck_line_lem {c = c} i one (two, l) = (same_text (line_next (bytes "X") (name_in f places i) []) (then one two), omega (arith, one.wrote.moved, l))
 
   -- `K`
-  module _ (shown : List ℕ) (space i m : ℕ) (is : m ≡ get_or shown i 0) where
+  pub none_kept : (shown : List (Option ℕ)) (space i : ℕ) → get_or shown i None ≡ None → Puts a (kept_line f places shown space i) a × (a.at ≤ a.at + 500)
+  unfolding kept_line
+  none_kept shown space i is = (rw is (nothing a), omega arith)
+
+  module _ (shown : List (Option ℕ)) (space i m : ℕ) (is : get_or shown i None ≡ Some m) where
     pub not_kept : space ≤ m → Puts a (kept_line f places shown space i) a × (a.at ≤ a.at + 500)
     unfolding kept_line
-    not_kept e = (rw (← is, le-ltb m space e) (nothing a), omega arith)
+    not_kept e = (rw (is, le-ltb m space e) (nothing a), omega arith)
 
     pub kept : {b c d : Sink} → m < space → space ≤ 4096
         → Puts a (field (bytes "K")) b
@@ -65,7 +70,7 @@ module _ (f : Bytes) (places : List ElementPlaces) {a : Sink} where
         → Puts a (kept_line f places shown space i) d × (d.at ≤ a.at + 500)
     unfolding kept_line
     kept {d = d} found few one (two, g) (third, l) = (
-      rw (← is, lt-ltb m space found) (same_text (three (bytes "K") (name_in f places i) (decimal m)) (then one (then two third))),
+      rw (is, lt-ltb m space found) (same_text (three (bytes "K") (name_in f places i) (decimal m)) (then one (then two third))),
       omega (arith, one.wrote.moved, g, l),
     )
 

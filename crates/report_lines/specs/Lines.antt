@@ -36,12 +36,16 @@ module _ (f : Bytes) (places : List ElementPlaces) where
   struck_text order count = gathered (λ k. struck_line (get_or order k 0)) (counting 0 count)
 
   -- `K`: for an element with a request in the space
-  unfoldable pub kept_line : (shown : List ℕ) (space : ℕ) → ℕ → Bytes
-  kept_line shown space i = cond (ltb (get_or shown i 0) space) (line (bytes "K" ∷ name_in f places i ∷ decimal (get_or shown i 0) ∷ [])) []
+  abbrev pub kept_for : (space : ℕ) → ℕ → Option ℕ → Bytes
+  kept_for space i None = []
+  kept_for space i (Some m) = cond (ltb m space) (line (bytes "K" ∷ name_in f places i ∷ decimal m ∷ [])) []
+
+  unfoldable pub kept_line : (shown : List (Option ℕ)) (space : ℕ) → ℕ → Bytes
+  kept_line shown space i = kept_for space i (get_or shown i None)
 
   -- how many elements there are
   module _ (n : ℕ) where
-    unfoldable pub kept_text : (shown : List ℕ) (space : ℕ) → Bytes
+    unfoldable pub kept_text : (shown : List (Option ℕ)) (space : ℕ) → Bytes
     kept_text shown space = gathered (kept_line shown space) (counting 0 n)
 
     -- the names of the elements whose bits are set in a word

@@ -71,7 +71,7 @@ pub fn put_struck(policy: &PolicyFile, order: &[u8; 64], count: usize, sink: &mu
 }
 
 // The lines of the rules kept, `K`.
-pub fn put_kept(policy: &PolicyFile, shown: &[usize; 64], sink: &mut Sink)
+pub fn put_kept(policy: &PolicyFile, shown: &[Option<usize>; 64], sink: &mut Sink)
     requires { Naming policy.now.file.now policy.now.places.now policy.now.shape.n × (policy.now.shape.space ≤ 4096) × (sink.old.at ≤ 2100000000) }
     ensures { Puts sink.old (kept_text policy.now.file.now policy.now.places.now policy.now.shape.n shown.now policy.now.shape.space) sink.new × (sink.new.at ≤ sink.old.at + 32000) }
 {

@@ -18,13 +18,19 @@ pub(crate) fn put_struck_rule(policy: &PolicyFile, i: u8, sink: &mut Sink)
 }
 
 // The line of element i, if a request needs it.
-pub(crate) fn put_kept_rule(policy: &PolicyFile, shown: &[usize; 64], i: usize, sink: &mut Sink)
+pub(crate) fn put_kept_rule(
+    policy: &PolicyFile,
+    shown: &[Option<usize>; 64],
+    i: usize,
+    sink: &mut Sink,
+)
     requires { NameAt policy.now.file.now policy.now.places.now i × (i < 64) × (policy.now.shape.space ≤ 4096) × (sink.old.at ≤ 3000000000) }
     ensures { Puts sink.old (kept_line policy.now.file.now policy.now.places.now shown.now policy.now.shape.space i) sink.new × (sink.new.at ≤ sink.old.at + 500) }
 {
-    let space = policy.shape.space;
-    let m = shown[i];
-    if space <= m {
+    let Some(m) = shown[i] else {
+        return;
+    };
+    if policy.shape.space <= m {
         return;
     }
     sink.put_field(b"K", 9);

@@ -50,8 +50,8 @@ order_few f places t n hit space (suc k) struck = go (next_at f places t n hit s
 
 module _ (t : List Row) (s : Shape) where
   -- the rules, from the flags that striking left
-  module _ (f : Bytes) (places : List ElementPlaces) (outcomes : List Effects) (flags old order behind shown : List ℕ) (count : ℕ) (trims : Trims f places t outcomes s none_struck flags old order count) where
-    pub rules_found : shown ≡ map (shown_at f places t s.n (hit_of s) s.space flags) (counting 0 s.n) ++ behind → RulesFound f places t s.n (hit_of s) s.space order shown count
+  module _ (f : Bytes) (places : List ElementPlaces) (outcomes : List Effects) (flags old order : List ℕ) (behind shown : List (Found ℕ)) (count : ℕ) (trims : Trims f places t outcomes s none_struck flags old order count) where
+    pub rules_found : shown ≡ map (λ i. found (shown_at f places t s.n (hit_of s) s.space flags i)) (counting 0 s.n) ++ behind → RulesFound f places t s.n (hit_of s) s.space order shown count
     rules_found e =
         let end = trimmed_at f places t s.n (hit_of s) s.space in
         record {
@@ -59,7 +59,7 @@ module _ (t : List Row) (s : Shape) where
           counted = trims.count_is;
           few = omega (arith, trims.count_is, order_few f places t s.n (hit_of s) s.space s.n none_struck);
           stays = subst (λ fs. get_or fs 0 0 ≡ 0) trims.flags_are trims.ready.stays;
-          needed = λ i l. laid_at_lem 0 (shown_at f places t s.n (hit_of s) s.space flags) s.n behind e i l ∙ ap (λ fs. shown_at f places t s.n (hit_of s) s.space fs i) trims.flags_are;
+          needed = λ i l. laid_at_lem None (λ j. found (shown_at f places t s.n (hit_of s) s.space flags j)) s.n behind e i l ∙ ap (λ fs. found (shown_at f places t s.n (hit_of s) s.space fs i)) trims.flags_are;
         }
 
   -- segments, from the words of all requests
@@ -86,7 +86,7 @@ pub laid : (f : List ℕ) (table : List Row) (places : List ElementPlaces) (hits
 laid f table places hits outcomes s held matched holds = record { steady = steady f held.policy held.is_read table places s held.elements held.obliged; ready = held.ready; matched = matched; holds = holds }
 
 -- each place struck has a name
-pub struck_named : (f : Bytes) (places : List ElementPlaces) (t : List Row) (n : ℕ) (hit : ℕ → Element → Bool) (space : ℕ) (order shown : List ℕ) (count : ℕ) → Naming f places n → RulesFound f places t n hit space order shown count → Ordered f places order count
+pub struck_named : (f : Bytes) (places : List ElementPlaces) (t : List Row) (n : ℕ) (hit : ℕ → Element → Bool) (space : ℕ) (order : List ℕ) (shown : List (Found ℕ)) (count : ℕ) → Naming f places n → RulesFound f places t n hit space order shown count → Ordered f places order count
 struck_named f places t n hit space order shown count naming rules =
     record {
       few = omega (arith, naming.few, rules.few);

@@ -26,7 +26,7 @@ use Rattle.reporting.proofs.ConflictText.{conflicts_are}
 use Rattle.reporting.proofs.StruckText.{struck_are, kept_are}
 use Rattle.layout.specs.declared.ElementPlaces.{ElementPlaces}
 
-module _ (f : List ℕ) (table : List Row) (places : List ElementPlaces) (s : Shape) (held : PolicyHeld f table places s) (words lengths : List ℕ) (decided : List Decision) (parents : List (Option ℕ)) (pairs order shown : List ℕ) (count : ℕ)
+module _ (f : List ℕ) (table : List Row) (places : List ElementPlaces) (s : Shape) (held : PolicyHeld f table places s) (words lengths : List ℕ) (decided : List Decision) (parents : List (Option ℕ)) (pairs order : List ℕ) (shown : List (Option ℕ)) (count : ℕ)
     (found : SegmentsFound table s.n (hit_of s) s.space words lengths decided) (shown-pairs : ConflictsFound table s.n (hit_of s) s.space parents pairs) (rules : RulesFound f places table s.n (hit_of s) s.space order shown count) where
   -- the four kinds of lines, one behind the other
   abbrev text : Bytes

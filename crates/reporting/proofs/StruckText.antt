@@ -9,8 +9,9 @@ use mathlib.Core.List.{List, [], ◌∷◌, map, reverse, Memᴰ}
 use mathlib.Core.Option.{Option, none, some}
 use lib.Dec.{ltb}
 use lib.ListN.{length, get_or, set}
-use borrow.Author.Tests.{le-ltb}
-use Rattle.meaning.specs.Text.{Bytes, bytes, gathered, if_some, counting, line, decimal}
+use borrow.Author.Tests.{lt-ltb}
+use Rattle.std.specs.Prelude.{Option as Found, None}
+use Rattle.meaning.specs.Text.{Bytes, bytes, gathered, if_some, first_from, counting, line, decimal}
 use Rattle.meaning.specs.Model.{Policy, given, space as space_of}
 use Rattle.meaning.specs.Reading.{read}
 use Rattle.meaning.specs.Trimming.{rule_lines, trimmed}
@@ -18,11 +19,12 @@ use Rattle.meaning.specs.Report.{name_in as name_of_place, struck_fields, kept_l
 use Rattle.meaning.specs.Deciding.{hits}
 use Rattle.meaning.specs.declared.Element.{Element}
 use Rattle.laws.proofs.Bools.{Test, passed, failed, test}
-use Rattle.laws.proofs.Search.{last_some, counting_only}
+use Rattle.laws.specs.Found.{found}
+use Rattle.laws.proofs.Search.{first_some, last_some, counting_only}
 use Rattle.laws.proofs.Bounds.{bounded}
 use Rattle.laws.proofs.Rewritten.{gathered_map}
 use Rattle.table.specs.declared.Row.{Row}
-use Rattle.table.specs.Tree.{place_or, rule_left}
+use Rattle.table.specs.Tree.{rule_left}
 use Rattle.trimming.specs.Decided as table-level
 use Rattle.laws.proofs.Lists.{has_at, gathered_alike, gathered_keep}
 use Rattle.layout.specs.declared.ElementPlaces.{ElementPlaces}
@@ -32,10 +34,17 @@ use Rattle.trimmed_text.proofs.Whole.{none_clear}
 use Rattle.trimmed_text.proofs.Trimmed.{trimmed_flags, kept_flags}
 use Rattle.trimmed_text.proofs.Table.{count_is, name_at_lem}
 use Rattle.trimmed_text.proofs.Tabled.{first_change_is, rule_is, trimming_is}
-use Rattle.report_lines.specs.Lines.{struck_line, kept_line, kept_text}
+use Rattle.report_lines.specs.Lines.{struck_line, kept_for, kept_line, kept_text}
 use Rattle.outcomes.specs.Decided.{none_struck}
 use Rattle.reporting.specs.Found.{trimmed_at}
-use Rattle.reporting.proofs.Searched.{first_or}
+
+-- a request that a search finds is in the space
+found_line : (f : Bytes) (places : List ElementPlaces) (i : ℕ) (t : ℕ → Bool) (s : ℕ) → kept_for f places s i (found (first_from t 0 s)) ≡ if_some (first_from t 0 s) (λ m. line (bytes "K" ∷ name_in f places i ∷ decimal m ∷ []))
+found_line f places i t s = go (first_from t 0 s) refl
+  where
+    go : (o : Option ℕ) → first_from t 0 s ≡ o → kept_for f places s i (found (first_from t 0 s)) ≡ if_some (first_from t 0 s) (λ m. line (bytes "K" ∷ name_in f places i ∷ decimal m ∷ []))
+    go none e = rw e
+    go (some m) e = rw (e, lt-ltb m s (omega (arith, (first_some t 0 s m e).high)))
 
 -- What is struck is one of n
 module _ (f : Bytes) (places : List ElementPlaces) (table : List Row) (n : ℕ) (hit : ℕ → Element → Bool) (space : ℕ) where
@@ -96,7 +105,7 @@ module _ (f : Bytes) (p : Policy) (h : read f ≡ given p) (table : List Row) (p
       ∙ ap (gathered (λ m. line (struck_fields m))) (sym struck_names)
 
   -- Requests that show the rules that flags leave
-  module _ (struck shown : List ℕ) (stays : get_or struck 0 0 ≡ 0) (needed : (i : ℕ) → i < n → get_or shown i 0 ≡ table-level.shown_at f places table n hit space struck i) where
+  module _ (struck : List ℕ) (shown : List (Found ℕ)) (stays : get_or struck 0 0 ≡ 0) (needed : (i : ℕ) → i < n → get_or shown i None ≡ found (table-level.shown_at f places table n hit space struck i)) where
     -- the line of an element
     kept_line_is : (i : ℕ) → i < n → kept_line f places shown space i ≡ cond (kept_at p struck i) (kept_line_at p struck i) []
     unfolding kept_line table-level.shown_at table-level.first_change_at
@@ -114,16 +123,16 @@ module _ (f : Bytes) (p : Policy) (h : read f ≡ given p) (table : List Row) (p
         line_for : Bytes → ℕ → Bytes
         line_for b m = line (bytes "K" ∷ b ∷ decimal m ∷ [])
 
-        go : Test (kept_at p struck i) → get_or shown i 0 ≡ cond (rule_left table struck i) (place_or s change) s → kept_line f places shown s i ≡ cond (kept_at p struck i) (kept_line_at p struck i) []
-        go (passed e) found =
-            let here : get_or shown i 0 ≡ place_or s change = found ∙ ap (λ b. cond b (place_or s change) s) (rule ∙ e) in
-            ap (λ m. cond (ltb m s) (line_for (name_in f places i) m) []) here
-            ∙ first_or (table-level.changes_at f places table n hit struck i) s (line_for (name_in f places i))
+        go : Test (kept_at p struck i) → get_or shown i None ≡ found (cond (rule_left table struck i) change none) → kept_line f places shown s i ≡ cond (kept_at p struck i) (kept_line_at p struck i) []
+        go (passed e) is-found =
+            let here : get_or shown i None ≡ found change = is-found ∙ ap (λ b. found (cond b change none)) (rule ∙ e) in
+            ap (kept_for f places s i) here
+            ∙ found_line f places i (table-level.changes_at f places table n hit struck i) s
             ∙ (λ t. if_some (first_change_is f p h table places n is size hit space hits_are space_is struck stays i e t) (line_for (name i l t)))
             ∙ ap (λ b. cond b (kept_line_at p struck i) []) (sym e)
-        go (failed e) found =
-            let here : get_or shown i 0 ≡ s = found ∙ ap (λ b. cond b (place_or s change) s) (rule ∙ e) in
-            rw (here, e, le-ltb s s (omega arith))
+        go (failed e) is-found =
+            let here : get_or shown i None ≡ None = is-found ∙ ap (λ b. found (cond b change none)) (rule ∙ e) in
+            rw (here, e)
 
     -- of all elements
     kept_lines_are : kept_text f places n shown space ≡ gathered (λ i. cond (kept_at p struck i) (kept_line_at p struck i) []) (counting 0 (length p.elements))
@@ -133,7 +142,7 @@ module _ (f : Bytes) (p : Policy) (h : read f ≡ given p) (table : List Row) (p
         ∙ ap (λ k. gathered (λ i. cond (kept_at p struck i) (kept_line_at p struck i) []) (counting 0 k)) (sym size)
 
   -- the `K` lines
-  pub kept_are : (shown : List ℕ) → get_or (trimmed_at f places table n hit space).flags 0 0 ≡ 0 → ((i : ℕ) → i < n → get_or shown i 0 ≡ table-level.shown_at f places table n hit space (trimmed_at f places table n hit space).flags i)
+  pub kept_are : (shown : List (Found ℕ)) → get_or (trimmed_at f places table n hit space).flags 0 0 ≡ 0 → ((i : ℕ) → i < n → get_or shown i None ≡ found (table-level.shown_at f places table n hit space (trimmed_at f places table n hit space).flags i))
       → kept_text f places n shown space ≡ gathered (kept_line_of (trimmed f).text) (rule_lines (trimmed f).text)
   kept_are shown stays needed =
       let end = (trimmed_at f places table n hit space).flags in

@@ -34,9 +34,9 @@ pub record ConflictsFound (table : List Row) (n : ℕ) (hit : ℕ → Element �
   pub paired : Pairs parents (shows_at table none_struck n hit) n space pairs
 
 -- the rules: those struck, in order, and the first request that needs each one kept; the first element is left
-pub record RulesFound (f : Bytes) (places : List ElementPlaces) (table : List Row) (n : ℕ) (hit : ℕ → Element → Bool) (space : ℕ) (order shown : List ℕ) (count : ℕ) : Type 0 where
+pub record RulesFound (f : Bytes) (places : List ElementPlaces) (table : List Row) (n : ℕ) (hit : ℕ → Element → Bool) (space : ℕ) (order : List ℕ) (shown : List (Option ℕ)) (count : ℕ) : Type 0 where
   pub struck : take count order ≡ (trimmed_at f places table n hit space).order
   pub counted : count ≡ length (trimmed_at f places table n hit space).order
   pub few : count ≤ n
   pub stays : get_or (trimmed_at f places table n hit space).flags 0 0 ≡ 0
-  pub needed : (i : ℕ) → i < n → get_or shown i 0 ≡ shown_at f places table n hit space (trimmed_at f places table n hit space).flags i
+  pub needed : (i : ℕ) → i < n → get_or shown i None ≡ found (shown_at f places table n hit space (trimmed_at f places table n hit space).flags i)

@@ -96,7 +96,7 @@ impl Conflicts {
 struct Rules {
     order: [u8; 64],
     count: usize,
-    shown: [usize; 64],
+    shown: [Option<usize>; 64],
 }
 
 impl Rules {
@@ -148,7 +148,7 @@ fn write_lines(o: &PolicyOutcomes, conflicts: &Conflicts, out: &mut [u8]) -> Ans
     let mut rules = Rules {
         order: [0; 64],
         count: 0,
-        shown: [0; 64],
+        shown: [None; 64],
     };
     rules.find(o);
     let mut none = [0u8; 0];

@@ -9,7 +9,7 @@ use lib.Dec.{eqb, ltb}
 use lib.ListN.{length, get_or, set, length-set}
 use lib.Seq.{get_or-set_same, get_or-set_other, set-set, set-get_or}
 use borrow.Author.Tests.{eqb-true, ltb-true}
-use Rattle.std.specs.Prelude.{Option as Found, Some, None, unwrap_or}
+use Rattle.std.specs.Prelude.{Option as Found, Some, None}
 use Rattle.meaning.specs.Text.{Bytes, is_none, first_from}
 use Rattle.meaning.specs.Deciding.{same_outcome}
 use Rattle.laws.proofs.Bools.{contradiction, and_true}
@@ -18,7 +18,7 @@ use Rattle.laws.proofs.Found.{found_some, found_none}
 use Rattle.laws.proofs.Search.{first_some, first_none}
 use Rattle.table.specs.declared.Row.{Row}
 use Rattle.table.specs.Rows.{word_number}
-use Rattle.table.specs.Tree.{place_or, rule_left}
+use Rattle.table.specs.Tree.{rule_left}
 use Rattle.table.specs.declared.Shape.{Shape}
 use Rattle.table.specs.Shape.{hit_of}
 use Rattle.table.proofs.Children.{rule_struck}
@@ -133,15 +133,11 @@ module _ (f : Bytes) (places : List ElementPlaces) (t : List Row) (struck : List
   unfolding needless_at
   needless_other other = rw other
 
-  pub shown_rule : (o : Found ℕ) → rule_left t struck i ≡ true → o ≡ found (first_change_at f places t s.n (hit_of s) s.space struck i) → unwrap_or o s.space ≡ shown_at f places t s.n (hit_of s) s.space struck i
+  pub shown_rule : rule_left t struck i ≡ true → shown_at f places t s.n (hit_of s) s.space struck i ≡ first_change_at f places t s.n (hit_of s) s.space struck i
   unfolding shown_at
-  shown_rule o rule e = rw (rule, e) (go (first_change_at f places t s.n (hit_of s) s.space struck i))
-    where
-      go : (x : Option ℕ) → unwrap_or (found x) s.space ≡ place_or s.space x
-      go none = refl
-      go (some m) = refl
+  shown_rule rule = rw rule
 
-  pub shown_other : rule_left t struck i ≡ false → s.space ≡ shown_at f places t s.n (hit_of s) s.space struck i
+  pub shown_other : rule_left t struck i ≡ false → shown_at f places t s.n (hit_of s) s.space struck i ≡ none
   unfolding shown_at
   shown_other other = rw other
 

@@ -1,11 +1,11 @@
 -- What changes without a rule, and which rules are needless, over a file, its places, a table of elements and a flag for each: an element whose flag is not 0 is struck.
 use Rattle.std.specs.Prelude.{ℕ, Bool, not, cond, ◌&&◌, List, set}
-use Rattle.std.proofs.Math.Option.{Option}
+use Rattle.std.proofs.Math.Option.{Option, none}
 use Rattle.meaning.specs.Text.{Bytes, is_none, first_from}
 use Rattle.meaning.specs.Deciding.{same_outcome}
 use Rattle.meaning.specs.declared.Element.{Element}
 use Rattle.table.specs.declared.Row.{Row}
-use Rattle.table.specs.Tree.{place_or, rule_left}
+use Rattle.table.specs.Tree.{rule_left}
 use Rattle.moves.specs.Moved.{kept}
 use Rattle.obligations.specs.Given.{outcome_left}
 use Rattle.differences.specs.Apart.{apart}
@@ -26,9 +26,9 @@ module _ (f : Bytes) (places : List ElementPlaces) (t : List Row) (n : ℕ) (hit
     unfoldable pub first_change_at : List ℕ → ℕ → Option ℕ
     first_change_at struck i = first_from (changes_at struck i) 0 space
 
-    -- that request for a rule that is left; the number of requests where there is none, and for every other element
-    unfoldable pub shown_at : List ℕ → ℕ → ℕ
-    shown_at struck i = cond (rule_left t struck i) (place_or space (first_change_at struck i)) space
+    -- that request for a rule that is left; none for every other element
+    unfoldable pub shown_at : List ℕ → ℕ → Option ℕ
+    shown_at struck i = cond (rule_left t struck i) (first_change_at struck i) none
 
     -- a rule that is left and without which every request gets the same decision and the same obligations
     unfoldable pub needless_at : List ℕ → ℕ → Bool

@@ -126,22 +126,21 @@ fn needed_by(o: &PolicyOutcomes, struck: &mut [u8], rule: usize) -> Option<usize
     shown
 }
 
-// The same for every element, the number of requests where there is none and for one that is no rule left.
-fn shown_by(o: &PolicyOutcomes, struck: &mut [u8], i: usize) -> usize
+// The same for every element, none for one that is no rule left.
+fn shown_by(o: &PolicyOutcomes, struck: &mut [u8], i: usize) -> Option<usize>
     requires { let p = o.now.policy in Laid p.file.now p.places.now p.table.now struck.old o.now.hits.now o.now.outcomes.now p.shape × (i < p.shape.n) }
-    ensures { let p = o.now.policy in (result ≡ shown_at p.file.now p.places.now p.table.now p.shape.n (hit_of p.shape) p.shape.space struck.old i) × (struck.new ≡ struck.old) }
+    ensures { let p = o.now.policy in (result ≡ found (shown_at p.file.now p.places.now p.table.now p.shape.n (hit_of p.shape) p.shape.space struck.old i)) × (struck.new ≡ struck.old) }
 {
-    let space = o.policy.shape.space;
     if !table::is_left(o.policy.table, struck, i) {
-        return space;
+        return None;
     }
-    needed_by(o, struck, i).unwrap_or(space)
+    needed_by(o, struck, i)
 }
 
-// Lays down for each rule left the first request that gets another decision, or other obligations, without it, the number of requests where there is none and for every other element. What lies behind them stays.
-pub fn needed_all(o: &PolicyOutcomes, struck: &mut [u8], shown: &mut [usize])
+// Lays down for each rule left the first request that gets another decision, or other obligations, without it, and none for every other element. What lies behind them stays.
+pub fn needed_all(o: &PolicyOutcomes, struck: &mut [u8], shown: &mut [Option<usize>])
     requires { let p = o.now.policy in Laid p.file.now p.places.now p.table.now struck.old o.now.hits.now o.now.outcomes.now p.shape × (p.shape.n ≤ length shown.old) }
-    ensures { let p = o.now.policy in (shown.new ≡ map (shown_at p.file.now p.places.now p.table.now p.shape.n (hit_of p.shape) p.shape.space struck.old) (counting 0 p.shape.n) ++ drop p.shape.n shown.old) × (struck.new ≡ struck.old) }
+    ensures { let p = o.now.policy in (shown.new ≡ map (λ i. found (shown_at p.file.now p.places.now p.table.now p.shape.n (hit_of p.shape) p.shape.space struck.old i)) (counting 0 p.shape.n) ++ drop p.shape.n shown.old) × (struck.new ≡ struck.old) }
 {
     for i in 0..o.policy.shape.n {
         shown[i] = shown_by(o, struck, i);
