@@ -4,6 +4,7 @@ ghost use Rattle.meaning.specs.Text.{among_names, repeated, cut, tab};
 ghost use Rattle.repeats.specs.Marks.{marked, with_mark, first_at, others_at, Kept, Caught, LastField, Passing};
 
 use crate::{has, marks};
+use marks::Marks;
 
 // Where a field starts, and its hash.
 #[derive(Clone, Copy)]
@@ -29,21 +30,21 @@ fn last_field(s: &[u8], end: usize) -> Hashed
 }
 
 // Passes a hash: a suspect, if it was marked before.
-fn suspect(passed: &mut [u64; 256], suspects: &mut [u64; 256], h: usize)
-    ensures passed_after { passed.new ≡ with_mark passed.old h }
-    ensures suspects_after { suspects.new ≡ cond (marked passed.old h) (with_mark suspects.old h) suspects.old }
+fn suspect(passed: &mut Marks, suspects: &mut Marks, h: usize)
+    ensures passed_after { passed.new.words ≡ with_mark passed.old.words h }
+    ensures suspects_after { suspects.new.words ≡ cond (marked passed.old.words h) (with_mark suspects.old.words h) suspects.old.words }
 {
-    if marks::note(passed, h) {
-        marks::mark(suspects, h);
+    if passed.note(h) {
+        suspects.mark(h);
     }
 }
 
 // Marks every field that stands again behind, and few others.
-fn mark_suspects(fields: &[u8], suspects: &mut [u64; 256])
-    requires { length suspects.old ≡ 256 }
-    ensures { Caught suspects.new (cut tab fields.now) }
+fn mark_suspects(fields: &[u8], suspects: &mut Marks)
+    requires { length suspects.old.words ≡ 256 }
+    ensures { Caught suspects.new.words (cut tab fields.now) }
 {
-    let mut passed = [0u64; 256];
+    let mut passed = Marks::NONE;
     let mut end = fields.len();
     loop {
         let last = last_field(fields, end);
@@ -69,32 +70,26 @@ fn stands_again(fields: &[u8], at: usize) -> bool
 }
 
 // The same of a field that is passed: looked for only if it is a suspect, and is marked among the suspects passed.
-fn passes_again(
-    fields: &[u8],
-    at: usize,
-    h: usize,
-    suspects: &[u64; 256],
-    passed: &mut [u64; 256],
-) -> bool
-    requires { Passing fields.now at h suspects.now passed.old }
+fn passes_again(fields: &[u8], at: usize, h: usize, suspects: &Marks, passed: &mut Marks) -> bool
+    requires { Passing fields.now at h suspects.now.words passed.old.words }
     ensures value { result ≡ among_names (first_at fields.now at) (others_at fields.now at) }
-    ensures kept { Kept (marked suspects.now) passed.new (first_at fields.now at ∷ others_at fields.now at) }
+    ensures kept { Kept (marked suspects.now.words) passed.new.words (first_at fields.now at ∷ others_at fields.now at) }
 {
-    if !marks::marked(suspects, h) {
+    if !suspects.marked(h) {
         return false;
     }
-    if !marks::note(passed, h) {
+    if !passed.note(h) {
         return false;
     }
     stands_again(fields, at)
 }
 
 // Whether no suspect stands again behind.
-fn none_again(fields: &[u8], suspects: &[u64; 256]) -> bool
-    requires { Caught suspects.now (cut tab fields.now) }
+fn none_again(fields: &[u8], suspects: &Marks) -> bool
+    requires { Caught suspects.now.words (cut tab fields.now) }
     ensures { result ≡ not (repeated (cut tab fields.now)) }
 {
-    let mut passed = [0u64; 256];
+    let mut passed = Marks::NONE;
     let mut end = fields.len();
     loop {
         let last = last_field(fields, end);
@@ -113,7 +108,7 @@ fn none_again(fields: &[u8], suspects: &[u64; 256]) -> bool
 pub fn many_distinct(fields: &[u8]) -> bool
     ensures { result ≡ not (repeated (cut tab fields.now)) }
 {
-    let mut suspects = [0u64; 256];
+    let mut suspects = Marks::NONE;
     mark_suspects(fields, &mut suspects);
     none_again(fields, &suspects)
 }

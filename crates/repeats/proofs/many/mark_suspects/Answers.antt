@@ -24,7 +24,7 @@ returns-then-last-eq0 c =
     let inv = c.loop-passed.invariant in
     let start = c.last_field-last.result.start in
     let whole = ap (λ i. cut tab (drop i s)) (sym c.if-last-eq0.true) ∙ passed_parts l inv.0 in
-    rw (c.suspect.ensures.suspects_after, whole) (caught_step c.loop-passed.suspects (first_at s start) (others_at s c.loop-passed.end) h l.hashed c.loop-passed.passed inv.2 inv.3)
+    rw (c.suspect.ensures.suspects_after, whole) (caught_step c.loop-passed.suspects.words (first_at s start) (others_at s c.loop-passed.end) h l.hashed c.loop-passed.passed.words inv.2 inv.3)
 
 pub loop-passed-preserved : goal.loop-passed-preserved
 loop-passed-preserved c =
@@ -40,6 +40,6 @@ loop-passed-preserved c =
     let fs = others_at s c.loop-passed.end in (
       omega (arith, l.within),
       ap (λ ps. get_or ps 0 []) next,
-      rw (note.passed_after, others) (kept_step c.loop-passed.passed (first_at s start) fs h l.hashed (λ k. true) inv.2),
-      rw (note.suspects_after, others) (caught_step c.loop-passed.suspects (first_at s start) fs h l.hashed c.loop-passed.passed inv.2 inv.3),
+      rw (note.passed_after, others) (kept_step c.loop-passed.passed.words (first_at s start) fs h l.hashed (λ k. true) inv.2),
+      rw (note.suspects_after, others) (caught_step c.loop-passed.suspects.words (first_at s start) fs h l.hashed c.loop-passed.passed.words inv.2 inv.3),
     )

@@ -8,7 +8,7 @@ use Rattle.repeats.specs.Marks.{first_at, others_at, Kept, Caught}
 use Rattle.repeats.proofs.many.mark_suspects.Given as goal
 
 abbrev pub invariant-loop-passed : goal.invariant-loop-passed
-invariant-loop-passed l = (l.end ≤ length l.fields) × (first_at l.fields l.end ≡ []) × Kept (λ k. true) l.passed (others_at l.fields l.end) × Caught l.suspects (others_at l.fields l.end)
+invariant-loop-passed l = (l.end ≤ length l.fields) × (first_at l.fields l.end ≡ []) × Kept (λ k. true) l.passed.words (others_at l.fields l.end) × Caught l.suspects.words (others_at l.fields l.end)
 
 abbrev pub decreases-loop-passed : goal.decreases-loop-passed
 decreases-loop-passed l = l.end

@@ -17,7 +17,7 @@ loop-passed-init c =
 
 pub passes_again-requires : goal.passes_again-requires
 passes_again-requires c =
-    passing c.last_field-last.ensures c.loop-passed.invariant.0 c.args.suspects.now c.loop-passed.passed c.requires c.loop-passed.invariant.2
+    passing c.last_field-last.ensures c.loop-passed.invariant.0 c.args.suspects.now.words c.loop-passed.passed.words c.requires c.loop-passed.invariant.2
 
 pub returns-then-passes_again : goal.returns-then-passes_again
 returns-then-passes_again c =

@@ -19,9 +19,9 @@ returns-then-not-note c =
     let note = c.note in
     let is-suspect = sym mark.ensures ∙ c.if-not-marked.false in
     let is-new = sym note.ensures.0 ∙ c.if-not-note.true in
-    record { value = sym (no_mark p is-suspect is-new); kept = subst⁻¹ (λ ws. Kept (marked c.args.suspects.now) ws (first_at c.args.fields.now c.args.at ∷ others_at c.args.fields.now c.args.at)) note.ensures.1 (mark_kept p) }
+    record { value = sym (no_mark p is-suspect is-new); kept = subst⁻¹ (λ ws. Kept (marked c.args.suspects.now.words) ws (first_at c.args.fields.now c.args.at ∷ others_at c.args.fields.now c.args.at)) note.ensures.1 (mark_kept p) }
 
 pub returns : goal.returns
 returns c =
     let p = c.requires in
-    record { value = c.stands_again.ensures; kept = subst⁻¹ (λ ws. Kept (marked c.args.suspects.now) ws (first_at c.args.fields.now c.args.at ∷ others_at c.args.fields.now c.args.at)) c.note.ensures.1 (mark_kept p) }
+    record { value = c.stands_again.ensures; kept = subst⁻¹ (λ ws. Kept (marked c.args.suspects.now.words) ws (first_at c.args.fields.now c.args.at ∷ others_at c.args.fields.now c.args.at)) c.note.ensures.1 (mark_kept p) }

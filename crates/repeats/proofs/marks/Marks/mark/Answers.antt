@@ -1,7 +1,7 @@
--- `repeats::marks::mark` meets its contract: one bit after the other.
+-- `repeats::marks::Marks::mark` meets its contract: one bit after the other.
 use mathlib.Core.Path.{ap, ◌∙◌}
 use Rattle.repeats.specs.Marks.{with_bit, second_bit, with_mark}
-use Rattle.repeats.proofs.marks.mark.Goals as goal
+use Rattle.repeats.proofs.marks.Marks.mark.Goals as goal
 
 pub returns : goal.returns
 unfolding with_mark

@@ -1,7 +1,7 @@
--- `repeats::marks::marked` meets its contract.
+-- `repeats::marks::Marks::marked` meets its contract.
 use mathlib.Core.Path.{sym, ◌∙◌}
 use Rattle.repeats.specs.Marks.{marked}
-use Rattle.repeats.proofs.marks.marked.Goals as goal
+use Rattle.repeats.proofs.marks.Marks.marked.Goals as goal
 
 pub returns-then-is_set : goal.returns-then-is_set
 unfolding marked

@@ -1,7 +1,7 @@
--- `repeats::marks::is_set` meets its contract.
+-- `repeats::marks::Marks::is_set` meets its contract.
 use borrow.Author.Rules.{rules}
 use Rattle.repeats.specs.Marks.{is_set}
-use Rattle.repeats.proofs.marks.is_set.Goals as goal
+use Rattle.repeats.proofs.marks.Marks.is_set.Goals as goal
 
 pub returns : goal.returns
 unfolding is_set
