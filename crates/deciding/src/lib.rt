@@ -7,13 +7,14 @@ ghost use Rattle.requests.specs.Values.{values_of, severals_of};
 ghost use Rattle.table.specs.Rows.{Rows};
 ghost use Rattle.blocks.specs.Bits.{Answers};
 ghost use Rattle.chains.specs.Chain.{chained};
+ghost use Rattle.obligations.specs.Given.{given_text, effect, marks_in, Giving};
 ghost use Rattle.deciding.specs.Told.{deciding, Effect, outcome_on, Told, Asking};
 
 use blocks::Block;
-use layout::ElementPlaces;
+use layout::PolicyFile;
 use meaning::{Answer, Decided, Decision};
 use obligations::Marks;
-use printing::Sink;
+use printing::{Sink, Text};
 use requests::Request;
 use table::Row;
 
@@ -52,6 +53,22 @@ fn ask_one(table: &[Row], n: usize, q: Request, given: &mut [u64])
     chains::ask_all(&b, given);
 }
 
+// The obligations that come with one request: those of the elements whose word has bit 0 set, and whose effect this is.
+#[derive(Clone, Copy)]
+struct Given<'a> {
+    marks: Marks<'a>,
+    permit: bool,
+    ghost giving: { Giving marks.file.now marks.places.now marks.words.now marks.n 0 },
+}
+
+impl Text for Given<'_> {
+    ghost text = { λ g. given_text (effect g.permit) (marks_in g.marks.words.now 0) g.marks.file.now g.marks.places.now g.marks.n };
+
+    fn put(&self, sink: &mut Sink) {
+        self.marks.put(0, self.permit, sink);
+    }
+}
+
 // The answer of a decision whose obligations were told.
 fn with_decision(told: Answer, decision: Decision) -> Decided
     ensures { result ≡ deciding told decision }
@@ -71,55 +88,33 @@ fn with_decision(told: Answer, decision: Decision) -> Decided
 }
 
 // The answer of a request that is permitted or denied.
-fn give(
-    file: &[u8],
-    table: &[Row],
-    places: &[ElementPlaces],
-    n: usize,
-    q: Request,
-    decision: Decision,
-    out: &mut [u8],
-) -> Decided
-    requires { Asking file.now table.now places.now n q × Effect decision × (decision ≡ (outcome_on file.now table.now places.now n q).decision) }
-    ensures { Told out.old out.new (outcome_on file.now table.now places.now n q) result }
+fn give(policy: PolicyFile, q: Request, decision: Decision, out: &mut [u8]) -> Decided
+    requires { Asking policy.file.now policy.table.now policy.places.now policy.shape.n q × Effect decision × (decision ≡ (outcome_on policy.file.now policy.table.now policy.places.now policy.shape.n q).decision) }
+    ensures { let p = policy.entry in Told out.old out.new (outcome_on p.file.now p.table.now p.places.now p.shape.n q) result }
 {
-    let mut given = [0u64; 64];
-    ask_one(table, n, q, &mut given);
-    let permit = decision == Decision::Permit;
-    let marks = Marks {
-        file,
-        places,
-        n,
-        words: &given,
+    let n = policy.shape.n;
+    let mut words = [0u64; 64];
+    ask_one(policy.table, n, q, &mut words);
+    let given = Given {
+        marks: Marks {
+            file: policy.file,
+            places: policy.places,
+            n,
+            words: &words,
+        },
+        permit: decision == Decision::Permit,
     };
-    let mut none = [0u8; 0];
-    let mut count = Sink {
-        out: &mut none,
-        at: 0,
-    };
-    marks.put(0, permit, &mut count);
-    let needed = count.at;
-    let room = out.len();
-    if needed <= room {
-        marks.put(0, permit, &mut Sink { out, at: 0 });
-    }
-    with_decision(printing::text_answer(needed, room), decision)
+    with_decision(printing::answer(&given, out), decision)
 }
 
 // The answer of a request: its decision, and how many bytes of obligations stand in the buffer.
-pub fn answer(
-    file: &[u8],
-    table: &[Row],
-    places: &[ElementPlaces],
-    n: usize,
-    q: Request,
-    out: &mut [u8],
-) -> Decided
-    requires { Asking file.now table.now places.now n q }
-    ensures { Told out.old out.new (outcome_on file.now table.now places.now n q) result }
+pub fn answer(policy: PolicyFile, q: Request, out: &mut [u8]) -> Decided
+    requires { Asking policy.file.now policy.table.now policy.places.now policy.shape.n q }
+    ensures { let p = policy.entry in Told out.old out.new (outcome_on p.file.now p.table.now p.places.now p.shape.n q) result }
 {
+    let n = policy.shape.n;
     let struck = [0u8; 64];
-    let decision = decisions::decide(table, &struck, n, q);
+    let decision = decisions::decide(policy.table, &struck, n, q);
     let none = Answer {
         number: 0,
         second: 0,
@@ -128,8 +123,8 @@ pub fn answer(
         Decision::Permit | Decision::Deny => {}
         Decision::NotApplicable | Decision::Indeterminate => return with_decision(none, decision),
     }
-    if !obligations::any_obligations(places, n) {
+    if !obligations::any_obligations(policy.places, n) {
         return with_decision(none, decision);
     }
-    give(file, table, places, n, q, decision, out)
+    give(policy, q, decision, out)
 }

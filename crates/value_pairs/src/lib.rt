@@ -12,10 +12,10 @@ ghost use Rattle.printing.specs.Puts.{Puts};
 ghost use Rattle.value_pairs.specs.Lines.{later_bit, pair_line, value_lines, pair_lines};
 ghost use Rattle.value_pairs.specs.Held.{place_or13, PolicyDecided};
 
-use layout::Attributes;
+use layout::{Attributes, PolicyFile};
 use meaning::{Answer, Decision};
-use printing::Sink;
-use table::{Row, Shape};
+use printing::{Sink, Text};
+use refusals::{Refusal, Refused};
 
 // The place of the attribute of an `M` line that has this name.
 fn several_at(file: &[u8], a: Attributes, name: &[u8]) -> Option<usize>
@@ -71,100 +71,89 @@ fn differs(both: Decision, earlier: Decision, later: Decision) -> bool
     true
 }
 
-// The line of request n, if its decision is another than with one of its two values alone: the request with the earlier
-// alone is `high` numbers before it, the one with the later alone `low`.
-fn put_pair(decided: &[Decision; 4096], n: usize, low: usize, high: usize, sink: &mut Sink)
-    requires { (n < 4096) × (low ≤ n) × (high ≤ n) × (sink.old.at ≤ 2000000000) }
-    ensures { Puts sink.old (pair_line decided.now low high n) sink.new × (sink.new.at ≤ sink.old.at + 500) }
-{
-    let both = decided[n];
-    let earlier = decided[n - high];
-    let later = decided[n - low];
-    if !differs(both, earlier, later) {
-        return;
-    }
-    sink.put_field(b"D", 9);
-    sink.put_number(n, 9);
-    sink.put_decision(both, 9);
-    sink.put_decision(earlier, 9);
-    sink.put_decision(later, 10);
-}
-
-// The lines of two values and a choice of the attributes before: one for each choice of those behind, from request `first` on.
-fn put_values(
-    decided: &[Decision; 4096],
-    first: usize,
-    low: usize,
-    high: usize,
+// The requests' decisions, and how the sets of an attribute lie among them: a run of `behind` requests has one choice of
+// the attributes before and one set, set `run % size`, whose mask is one more.
+#[derive(Clone, Copy)]
+struct Pairs<'a> {
+    decided: &'a [Decision; 4096],
+    size: usize,
     behind: usize,
-    sink: &mut Sink,
-)
-    requires { (first + behind ≤ 4096) × (low ≤ first) × (high ≤ first) × (sink.old.at ≤ 1000000000) }
-    ensures { Puts sink.old (value_lines decided.now first low high behind) sink.new × (sink.new.at ≤ sink.old.at + 500 * behind) }
-{
-    for k in 0..behind {
-        put_pair(decided, first + k, low, high, sink);
+    runs: usize,
+    ghost inside: { (1 ≤ size) × (size ≤ 4095) × (runs * behind ≤ 4096) },
+}
+
+impl Pairs<'_> {
+    // The line of request n, if its decision is another than with one of its two values alone: the request with the
+    // earlier alone is `high` numbers before it, the one with the later alone `low`.
+    fn put_pair(&self, n: usize, low: usize, high: usize, sink: &mut Sink)
+        requires { (n < 4096) × (low ≤ n) × (high ≤ n) × (sink.old.at ≤ 2000000000) }
+        ensures { Puts sink.old (pair_line self.now.decided.now low high n) sink.new × (sink.new.at ≤ sink.old.at + 500) }
+    {
+        let both = self.decided[n];
+        let earlier = self.decided[n - high];
+        let later = self.decided[n - low];
+        if !differs(both, earlier, later) {
+            return;
+        }
+        sink.put_field(b"D", 9);
+        sink.put_number(n, 9);
+        sink.put_decision(both, 9);
+        sink.put_decision(earlier, 9);
+        sink.put_decision(later, 10);
+    }
+
+    // The lines of the run from request `first` on, whose set has two values.
+    fn put_values(&self, first: usize, low: usize, high: usize, sink: &mut Sink)
+        requires { (first + self.now.behind ≤ 4096) × (low ≤ first) × (high ≤ first) × (sink.old.at ≤ 1000000000) }
+        ensures { Puts sink.old (value_lines self.now.decided.now first low high self.now.behind) sink.new × (sink.new.at ≤ sink.old.at + 500 * self.now.behind) }
+    {
+        for k in 0..self.behind {
+            self.put_pair(first + k, low, high, sink);
+        }
     }
 }
 
-// The lines of an attribute of so many sets, with so many choices behind it. A run of requests has one choice of the
-// attributes before and one set: set `run % size`, whose mask is one more.
-fn put_pairs(decided: &[Decision; 4096], size: usize, behind: usize, runs: usize, sink: &mut Sink)
-    requires { (1 ≤ size) × (size ≤ 4095) × (runs * behind ≤ 4096) × (sink.old.at ≤ 100000000) }
-    ensures { Puts sink.old (pair_lines decided.now size behind runs) sink.new × (sink.new.at ≤ sink.old.at + 2048000) }
-{
-    for run in 0..runs {
-        let set = run % size + 1;
-        let Some(high) = later_bit(set) else {
-            continue;
-        };
-        let low = set - high;
-        put_values(
-            decided,
-            run * behind,
-            low * behind,
-            high * behind,
-            behind,
-            sink,
-        );
+impl Text for Pairs<'_> {
+    ghost text = { λ p. pair_lines p.decided.now p.size p.behind p.runs };
+
+    fn put(&self, sink: &mut Sink) {
+        let behind = self.behind;
+        for run in 0..self.runs {
+            let set = run % self.size + 1;
+            let Some(high) = later_bit(set) else {
+                continue;
+            };
+            let low = set - high;
+            self.put_values(run * behind, low * behind, high * behind, sink);
+        }
     }
 }
 
-// The lines of the attribute that has the name, in a lent buffer, for the policy that was read from a file.
-pub fn tell(
-    file: &[u8],
-    attributes: Attributes,
-    table: &[Row],
-    shape: Shape,
-    name: &[u8],
-    out: &mut [u8],
-) -> Answer
-    requires { PolicyDecided file.now attributes table.now shape }
-    ensures value { result ≡ value_pairs_answer file.now name.now out.old }
-    ensures out_after { out.new ≡ value_pairs_lent file.now name.now out.old }
+// The lines of the attribute that has the name, in a lent buffer, for a policy file that was read.
+pub fn tell(policy: PolicyFile, attributes: Attributes, name: &[u8], out: &mut [u8]) -> Answer
+    requires { PolicyDecided policy.file.now attributes policy.table.now policy.shape }
+    ensures value { result ≡ value_pairs_answer policy.entry.file.now name.now out.old }
+    ensures out_after { out.new ≡ value_pairs_lent policy.entry.file.now name.now out.old }
 {
-    let Some(place) = several_at(file, attributes, name) else {
-        return Answer {
-            number: 13,
+    let Some(place) = several_at(policy.file, attributes, name) else {
+        return Refused {
+            why: Refusal::NoSuchAttribute,
             second: 0,
-        };
+        }
+        .into();
     };
+    let shape = policy.shape;
     let mut decided = [Decision::Permit; 4096];
-    outcomes::decide_requests(table, shape, &mut decided);
+    outcomes::decide_requests(policy.table, shape, &mut decided);
     let counts = shape.counts;
     let size = counts[place];
     let behind = choices_from(counts, place + 1, shape.len);
     let runs = shape.space / behind;
-    let mut none = [0u8; 0];
-    let mut count = Sink {
-        out: &mut none,
-        at: 0,
+    let pairs = Pairs {
+        decided: &decided,
+        size,
+        behind,
+        runs,
     };
-    put_pairs(&decided, size, behind, runs, &mut count);
-    let needed = count.at;
-    let room = out.len();
-    if needed <= room {
-        put_pairs(&decided, size, behind, runs, &mut Sink { out, at: 0 });
-    }
-    printing::text_answer(needed, room)
+    printing::answer(&pairs, out)
 }

@@ -2,7 +2,7 @@
 use native.Mathlib.Omega.{arith}
 use Rattle.printing.proofs.Walks.{begun, stored, ended_all}
 use Rattle.value_pairs.specs.Lines.{value_lines}
-use Rattle.value_pairs.proofs.put_values.Goals as goal
+use Rattle.value_pairs.proofs.Pairs.put_values.Goals as goal
 
 pub loop-k-init : goal.loop-k-init
 loop-k-init c = begun
@@ -23,4 +23,4 @@ unfolding value_lines
 returns c =
     let args = c.args in
     let l = c.loop-k in
-    (ended_all l.invariant args.behind (omega arith), omega (arith, l.invariant))
+    (ended_all l.invariant args.self.now.behind (omega arith), omega (arith, l.invariant))
