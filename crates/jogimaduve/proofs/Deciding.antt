@@ -14,6 +14,7 @@ use Rattle.meaning.specs.Operations.{lent, decided_by, decide_answer, decide_len
 use Rattle.requests.specs.Values.{values_of, severals_of}
 use Rattle.requests.proofs.Laid.{values_with}
 use Rattle.table.specs.declared.Row.{Row}
+use Rattle.table.specs.declared.Shape.{Shape}
 use Rattle.table.specs.Rows.{depth_of}
 use Rattle.layout.specs.declared.ElementPlaces.{ElementPlaces}
 use Rattle.layout.specs.Places.{attributes_of, severals_at}
@@ -25,7 +26,7 @@ use Rattle.refusals.specs.declared.Refused.{Refused}
 use Rattle.refusals.specs.Numbers.{number_of}
 use Rattle.request_lines.specs.Asked.{AskedAs}
 use Rattle.reader.specs.declared.Policy.{Policy as PolicyRead}
-use Rattle.reader.specs.Told.{ReadPolicy}
+use Rattle.reader.specs.Told.{policy_shape, ReadPolicy}
 use Rattle.reader.proofs.FileRead.{few}
 use Rattle.jogimaduve.proofs.Shaping.{letters_are}
 
@@ -69,18 +70,21 @@ module _ (f : List ℕ) (table : List Row) (places : List ElementPlaces) (r : Po
 
   -- a request that is decided
   module _ (a : Asked) (asks : AskedAs r.attributes (Ok a) (request_line (attributes_of f r.attributes) request)) where
-    pub asking : Asking f table places r.elements a
-    asking =
+    pub asking : {s : Shape} → s ≡ policy_shape r → Asking f table places s.n a
+    asking shaped =
         let small = few f table places r p h holds in
-        record { rows = omega (arith, holds.rooms.rows, small); some = holds.some; few = small; each = holds.obliged; values = go (request_line p.attributes request) (asked_policy (Ok a) asks) }
+        rw shaped (record { rows = omega (arith, holds.rooms.rows, small); some = holds.some; few = small; each = holds.obliged; values = go (request_line p.attributes request) (asked_policy (Ok a) asks) })
       where
         go : (x : Result Request) → AskedAs r.attributes (Ok a) x → a.len ≤ 6
         go (refused n m) t = elim t [ ]
         go (given q) t = rw (t.is, t.count) holds.spaced.standing.few
 
-    pub request_decided : depth_of table 0 ≡ 0 → (new : Bytes) (d : Decided) → ToldAs out new (outcome_on f table places r.elements a) d → (d ≡ decide_answer f request out) × (new ≡ decide_lent f request out)
-    request_decided top new d told = answered_so new d (go (request_line p.attributes request) (asked_policy (Ok a) asks))
+    pub request_decided : {s : Shape} → s ≡ policy_shape r → depth_of table 0 ≡ 0 → (new : Bytes) (d : Decided) → ToldAs out new (outcome_on f table places s.n a) d → (d ≡ decide_answer f request out) × (new ≡ decide_lent f request out)
+    request_decided shaped top new d is_told = answered_so new d (go (request_line p.attributes request) (asked_policy (Ok a) asks))
       where
+        told : ToldAs out new (outcome_on f table places r.elements a) d
+        told = subst (λ s. ToldAs out new (outcome_on f table places s.n a) d) shaped is_told
+
         go : (x : Result Request) → AskedAs r.attributes (Ok a) x → Answers out new d (x then gets)
         go (refused k m) t = elim t [ ]
         go (given q) t =

@@ -35,7 +35,15 @@ pub fn jogimaduve_decide(file: &[u8], request: &[u8], out: &mut [u8]) -> Decided
         Err(refused) => return undecided(refused),
     };
     match request_lines::request_line(file, policy.attributes, request) {
-        Ok(q) => deciding::answer(file, &table, &places, policy.elements, q, out),
+        Ok(q) => {
+            let held = PolicyFile {
+                file,
+                places: &places,
+                table: &table,
+                shape: policy.shape(),
+            };
+            deciding::answer(held, q, out)
+        }
         Err(refused) => undecided(refused),
     }
 }
@@ -180,8 +188,13 @@ pub fn jogimaduve_value_pairs(file: &[u8], attribute: &[u8], out: &mut [u8]) -> 
     let mut places = [ElementPlaces::NONE; 64];
     match reader::read(file, &mut table, &mut places) {
         Ok(policy) => {
-            let shape = policy.shape();
-            value_pairs::tell(file, policy.attributes, &table, shape, attribute, out)
+            let held = PolicyFile {
+                file,
+                places: &places,
+                table: &table,
+                shape: policy.shape(),
+            };
+            value_pairs::tell(held, policy.attributes, attribute, out)
         }
         Err(refused) => refused.into(),
     }

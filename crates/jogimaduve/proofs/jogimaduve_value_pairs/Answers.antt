@@ -12,8 +12,8 @@ returns-in-Err c =
     let (answer, buffer) = refusal _ (file_refused c.in-Err.ensures) c.args.out.now _ in
     record { value = c.into.ensures ∙ answer; out_after = buffer }
 
-pub shape-shape-requires : goal.shape-shape-requires
-shape-shape-requires c = sizable c.in-Ok.ensures
+pub shape-requires : goal.shape-requires
+shape-requires c = sizable c.in-Ok.ensures
 
 pub tell-requires : goal.tell-requires
-tell-requires c = held_read c.in-Ok.ensures c.shape-shape.ensures
+tell-requires c = held_read c.in-Ok.ensures c.shape.ensures
