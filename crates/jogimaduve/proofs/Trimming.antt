@@ -38,7 +38,7 @@ small_text f p h needed l = omega (arith, (accepted f p h).size)
 module _ (f : List ℕ) (table : List Row) (places : List ElementPlaces) (r : PolicyRead) (p : Policy) (h : read f ≡ given p) (holds : ReadPolicy f table places r p) (s : Shape) (shaped : s ≡ policy_shape r)
     (flags : List ℕ) (struck : flags ≡ (table-level.trimming_at f places table s.n (hit_of s) s.space s.n none_struck).flags) where
   abbrev text : Bytes
-  text = copied f places flags r.elements
+  text = copied f places flags s.n
 
   -- the trimmed text is the text left by these flags
   text_is : (trimmed f).text ≡ text
@@ -50,6 +50,7 @@ module _ (f : List ℕ) (table : List Row) (places : List ElementPlaces) (r : Po
       ap (λ t. t.text) (trimmed_flags f p h n none_struck none_clear (omega (arith, size, few f table places r p h holds)) (omega (arith, size)))
       ∙ ap (text_left f p) (sym same_flags ∙ sym here)
       ∙ text_copied f p h table places flags r.attributes.len n (attributes_are f table places r p h holds) holds.elements size holds.lined holds.some
+      ∙ ap (λ s. copied f places flags s.n) (sym shaped)
 
   -- that text fitted to the buffer
   pub trim_fitted : {out new : Bytes} {a : Answer} → Fitted out text new a → (a ≡ trim_answer f out) × (new ≡ trim_lent f out)

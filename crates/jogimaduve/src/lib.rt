@@ -8,9 +8,9 @@ ghost use Rattle.refusals.specs.Numbers.{number_of};
 use joined_attributes::Part;
 use layout::{ElementPlaces, PolicyFile};
 use meaning::{Answer, Decided, Stepped};
-use printing::Sink;
 use refusals::Refused;
 use table::Row;
+use trimmed_text::KeptText;
 
 // The answer of a request that is not decided.
 fn undecided(refused: Refused) -> Decided
@@ -59,28 +59,19 @@ pub fn jogimaduve_trim(file: &[u8], out: &mut [u8]) -> Answer
         Ok(policy) => policy,
         Err(refused) => return refused.into(),
     };
-    let n = policy.elements;
-    let mut struck = [0u8; 64];
-    let shape = policy.shape();
     let held = PolicyFile {
         file,
         places: &places,
         table: &table,
-        shape,
+        shape: policy.shape(),
     };
+    let mut struck = [0u8; 64];
     trimming::strike(held, &mut struck);
-    let mut none = [0u8; 0];
-    let mut count = Sink {
-        out: &mut none,
-        at: 0,
+    let kept = KeptText {
+        policy: held,
+        struck: &struck,
     };
-    trimmed_text::put_text(file, &places, &struck, n, &mut count);
-    let needed = count.at;
-    let room = out.len();
-    if needed <= room {
-        trimmed_text::put_text(file, &places, &struck, n, &mut Sink { out, at: 0 });
-    }
-    printing::text_answer(needed, room)
+    printing::answer(&kept, out)
 }
 
 // The name of the rule that trimming a policy file would strike next, in a lent buffer.
@@ -91,7 +82,15 @@ pub fn jogimaduve_next_rule(file: &[u8], out: &mut [u8]) -> Answer
     let mut table = [Row::NONE; 64];
     let mut places = [ElementPlaces::NONE; 64];
     match reader::read(file, &mut table, &mut places) {
-        Ok(policy) => rule_by_rule::show(file, &table, &places, policy.shape(), out),
+        Ok(policy) => {
+            let held = PolicyFile {
+                file,
+                places: &places,
+                table: &table,
+                shape: policy.shape(),
+            };
+            rule_by_rule::show(held, out)
+        }
         Err(refused) => refused.into(),
     }
 }
@@ -104,7 +103,15 @@ pub fn jogimaduve_strike(file: &[u8], rule: &[u8], out: &mut [u8]) -> Answer
     let mut table = [Row::NONE; 64];
     let mut places = [ElementPlaces::NONE; 64];
     match reader::read(file, &mut table, &mut places) {
-        Ok(policy) => rule_by_rule::strike(file, &table, &places, policy.shape(), rule, out),
+        Ok(policy) => {
+            let held = PolicyFile {
+                file,
+                places: &places,
+                table: &table,
+                shape: policy.shape(),
+            };
+            rule_by_rule::strike(held, rule, out)
+        }
         Err(refused) => refused.into(),
     }
 }

@@ -5,8 +5,27 @@ ghost use Rattle.std.specs.Prelude.{◌≡◌, ◌*◌, ◌≤◌, ◌<◌, ◌+
 ghost use Rattle.printing.specs.Puts.{Puts};
 ghost use Rattle.trimmed_text.specs.Copied.{lines_end, copied, Copies, Piece};
 
-use layout::ElementPlaces;
-use printing::Sink;
+use layout::{ElementPlaces, PolicyFile};
+use printing::{Sink, Text};
+
+// The lines of a policy file that flags leave, one flag for each element.
+#[derive(Clone, Copy)]
+pub struct KeptText<'a> {
+    pub policy: PolicyFile<'a>,
+    pub struck: &'a [u8],
+    ghost copies: { Copies policy.file.now policy.places.now struck.now policy.shape.n },
+    ghost short: { length policy.file.now < 4294967296 },
+}
+
+impl Text for KeptText<'_> {
+    ghost text = { λ t. copied t.policy.file.now t.policy.places.now t.struck.now t.policy.shape.n };
+
+    fn put(&self, sink: &mut Sink) {
+        let policy = self.policy;
+        let n = policy.shape.n;
+        put_text(policy.file, policy.places, self.struck, n, sink);
+    }
+}
 
 // Where element i's lines end: where the next element starts, or the file ends.
 pub fn lines_end(file: &[u8], places: &[ElementPlaces], n: usize, i: usize) -> usize
