@@ -12,7 +12,7 @@ pub fn hash_step(b: u8, h: usize) -> usize
 // A set of names, by two bits for each: a name that is in the set has both.
 #[derive(Drop)]
 pub struct Marks {
-    pub words: [u64; 256],
+    words: [u64; 256],
 }
 
 impl Marks {
