@@ -100,22 +100,31 @@ fn step(algorithm: Word, so_far: Reply, child: Reply) -> Reply
     }
 }
 
+// A request asked of the first n elements of a table, but for those whose flag is not 0.
+#[derive(Clone, Copy)]
+struct Asking<'a> {
+    table: &'a [Row],
+    struck: &'a [u8],
+    n: usize,
+    q: Request,
+}
+
 // Decides element `at`: behind it stand its children, and what comes after them.
 // (It and `fold` call each other: the paper names this form.)
 #[cycle(decide_at_fold)]
-fn decide_at(table: &[Row], struck: &[u8], n: usize, at: usize, q: Request) -> Reply
-    requires { Room table.now struck.now n (at + 1) × (q.len ≤ 6) }
-    ensures { reply_of result ≡ reply_at (matches (severals_of q) (values_of q)) table.now struck.now n at }
+fn decide_at(a: &Asking, at: usize) -> Reply
+    requires { Room a.now.table.now a.now.struck.now a.now.n (at + 1) × (a.now.q.len ≤ 6) }
+    ensures { reply_of result ≡ reply_at (matches (severals_of a.now.q) (values_of a.now.q)) a.now.table.now a.now.struck.now a.now.n at }
 {
-    if !table::matches(table, at, q) {
+    if !table::matches(a.table, at, a.q) {
         return UNMATCHED;
     }
-    let decision = match table::word_at(table, at) {
+    let decision = match table::word_at(a.table, at) {
         Word::Permit => Permit,
         Word::Deny => Deny,
         algorithm => {
-            let depth = table::depth_at(table, at) + 1;
-            fold(table, struck, n, at + 1, depth, algorithm, q)
+            let depth = table::depth_at(a.table, at) + 1;
+            fold(a, at + 1, depth, algorithm)
         }
     };
     Reply {
@@ -126,22 +135,14 @@ fn decide_at(table: &[Row], struck: &[u8], n: usize, at: usize, q: Request) -> R
 
 // What the algorithm gives of the children at the depth from `from` on, up to the first element of a lower depth.
 #[cycle(decide_at_fold)]
-fn fold(
-    table: &[Row],
-    struck: &[u8],
-    n: usize,
-    from: usize,
-    depth: usize,
-    algorithm: Word,
-    q: Request,
-) -> Decision
-    requires { Room table.now struck.now n from × (q.len ≤ 6) }
-    ensures { result ≡ combined (algorithm_of algorithm) (replies_from (matches (severals_of q) (values_of q)) table.now struck.now n depth from) }
+fn fold(a: &Asking, from: usize, depth: usize, algorithm: Word) -> Decision
+    requires { Room a.now.table.now a.now.struck.now a.now.n from × (a.now.q.len ≤ 6) }
+    ensures { result ≡ combined (algorithm_of algorithm) (replies_from (matches (severals_of a.now.q) (values_of a.now.q)) a.now.table.now a.now.struck.now a.now.n depth from) }
 {
     let mut so_far = UNMATCHED;
     let mut behind = from;
-    while let Some(at) = table::next_child(table, struck, n, behind, depth) {
-        let child = decide_at(table, struck, n, at, q);
+    while let Some(at) = table::next_child(a.table, a.struck, a.n, behind, depth) {
+        let child = decide_at(a, at);
         so_far = step(algorithm, so_far, child);
         behind = at + 1;
     }
@@ -153,5 +154,11 @@ pub fn decide(table: &[Row], struck: &[u8], n: usize, q: Request) -> Decision
     requires { Room table.now struck.now n 1 × (q.len ≤ 6) × (get_or struck.now 0 0 ≡ 0) }
     ensures { result ≡ first_decision (matches (severals_of q) (values_of q)) (left table.now struck.now 0 n) }
 {
-    decide_at(table, struck, n, 0, q).decision
+    let a = Asking {
+        table,
+        struck,
+        n,
+        q,
+    };
+    decide_at(&a, 0).decision
 }
