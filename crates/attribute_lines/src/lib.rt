@@ -59,36 +59,34 @@ fn most_values(several: bool) -> usize
 // The lowest of 3 to 6 that refuses an attribute line of so many fields.
 fn attribute_refusal(
     file: &[u8],
-    a: Attributes,
-    space: usize,
-    elements: usize,
+    st: State,
     several: bool,
     line: &[u8],
     fields: usize,
 ) -> Result<(), Refusal>
-    requires { Tested file.now a space (cut tab line.now) fields }
-    ensures { AttributeRefusal file.now a space elements several (cut tab line.now) fields (number_in result) }
+    requires { Tested file.now st.attributes st.space (cut tab line.now) fields }
+    ensures { AttributeRefusal file.now st.attributes st.space st.tree.len several (cut tab line.now) fields (number_in result) }
 {
     if !names::all_names(text::from_field(line, 1)) {
         return Err(Refusal::BadName);
     }
-    if layout::known_attribute(file, a, fields::field(line, 1)) {
+    if layout::known_attribute(file, st.attributes, fields::field(line, 1)) {
         return Err(Refusal::KnownName);
     }
     if !repeats::all_distinct(text::from_field(line, 2)) {
         return Err(Refusal::KnownName);
     }
-    if 6 <= a.len {
+    if 6 <= st.attributes.len {
         return Err(Refusal::TooMany);
     }
     let values = fields - 2;
     if most_values(several) < values {
         return Err(Refusal::TooMany);
     }
-    if 4096 < space * layout::choices(several, values) {
+    if 4096 < st.space * layout::choices(several, values) {
         return Err(Refusal::TooMany);
     }
-    if elements != 0 {
+    if st.tree.len != 0 {
         return Err(Refusal::Misplaced);
     }
     Ok(())
@@ -106,15 +104,12 @@ pub fn attribute_line(
     ensures { AttributeStep file.now st end several fields result }
 {
     let at = st.at;
-    let a = st.attributes;
-    let space = st.space;
-    let tree = st.tree;
     let line = &file[at..end];
-    attribute_refusal(file, a, space, tree.len, several, line, fields)?;
+    attribute_refusal(file, st, several, line, fields)?;
     let name = fields::field(line, 1);
     let first = at + 3 + name.len();
     let values = fields - 2;
-    let attributes = a.with(AttributePlace {
+    let attributes = st.attributes.with(AttributePlace {
         several,
         name: at + 2,
         values: first,
@@ -125,8 +120,8 @@ pub fn attribute_line(
         at: end + 1,
         line: st.line + 1,
         attributes,
-        space: space * layout::choices(several, values),
-        tree,
+        space: st.space * layout::choices(several, values),
+        tree: st.tree,
     })
 }
 

@@ -14,7 +14,7 @@ ghost use Rattle.attribute_lines.specs.Sofar.{TreeLine};
 ghost use Rattle.attribute_lines.specs.Steps.{BeforeLine, EndedLine, StepIs};
 
 use attribute_lines::State;
-use layout::{Attributes, ElementPlaces, Tree};
+use layout::ElementPlaces;
 use meaning::{Kind, Word};
 use refusals::Refusal;
 use table::Row;
@@ -23,15 +23,14 @@ use tree_fields::FieldEnds;
 // The word of a tree line of this kind, or the lowest of 3 to 7 that refuses the line.
 fn element_word(
     file: &[u8],
-    a: Attributes,
+    st: State,
     places: &[ElementPlaces],
-    tree: Tree,
     kind: Kind,
     line: &[u8],
     e: FieldEnds,
 ) -> Result<Word, Refusal>
-    requires { Named file.now places.now tree.len × (tree.depth ≤ 7) × Headed line.now e × ((s : Sofar) × Behind file.now a places.now tree s) }
-    ensures refusal { (s : Sofar) → Behind file.now a places.now tree s
+    requires { Named file.now places.now st.tree.len × (st.tree.depth ≤ 7) × Headed line.now e × ((s : Sofar) × Behind file.now st.attributes places.now st.tree s) }
+    ensures refusal { (s : Sofar) → Behind file.now st.attributes places.now st.tree s
         → number_in result ≡ lowest (earlier_tests s (get_or (cut tab line.now) 3 []) (element_from s.attributes kind (cut tab line.now))) }
     ensures word { IfOk result (λ word. word_of kind (get_or (cut tab line.now) 3 []) ≡ some word) }
 {
@@ -39,17 +38,17 @@ fn element_word(
     if !names::is_name(name) {
         return Err(Refusal::BadName);
     }
-    if layout::known_element(file, places, tree.len, name) {
+    if layout::known_element(file, places, st.tree.len, name) {
         return Err(Refusal::KnownName);
     }
-    if 64 <= tree.len {
+    if 64 <= st.tree.len {
         return Err(Refusal::TooMany);
     }
-    if a.len == 0 {
+    if st.attributes.len == 0 {
         return Err(Refusal::Misplaced);
     }
     let depth = syntax::depth_of(tree_fields::depth_field(line, e));
-    if !layout::well_placed(kind, depth, tree) {
+    if !layout::well_placed(kind, depth, st.tree) {
         return Err(Refusal::Misplaced);
     }
     syntax::word_of(kind, tree_fields::word_field(line, e)).ok_or(Refusal::BadWord)
@@ -102,15 +101,13 @@ pub fn tree_line(
     requires { BeforeLine file.now table.old places.old st × EndedLine file.now st end × TreeLine (cut tab (part file.now st.at end)) kind fields }
     ensures { StepIs file.now table.old places.old table.new places.new st end result }
 {
-    let at = st.at;
     let attributes = st.attributes;
-    let tree = st.tree;
-    let line = &file[at..end];
+    let line = &file[st.at..end];
     if fields != 4 + attributes.len {
         return Err(Refusal::BadLine);
     }
     let e = tree_fields::field_ends(line);
-    let word = element_word(file, attributes, places, tree, kind, line, e)?;
+    let word = element_word(file, st, places, kind, line, e)?;
     let Some(masks) = tree_fields::line_masks(file, attributes, line, e) else {
         return Err(Refusal::BadTarget);
     };

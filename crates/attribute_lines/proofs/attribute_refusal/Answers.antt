@@ -28,7 +28,7 @@ twice_told fs e r = sym (ap (λ vs. not (repeated vs)) e) ∙ sym r
 named : (c : Else-not-all_names) → all is_name (drop 1 (cut tab c.args.line.now)) ≡ true
 named c = all_told (cut tab c.args.line.now) c.from_field.ensures c.all_names.ensures ∙ c.if-not-all_names.false
 
-good : (c : Else-not-all_distinct) → GoodNames c.args.file.now c.args.a (cut tab c.args.line.now)
+good : (c : Else-not-all_distinct) → GoodNames c.args.file.now c.args.st.attributes (cut tab c.args.line.now)
 good c =
     record {
       named = all_told (cut tab c.args.line.now) c.from_field.ensures c.all_names.ensures ∙ c.if-not-all_names.false;
@@ -41,46 +41,46 @@ few_values c = omega (arith, c.most_values.ensures, c.if-most_values-values.fals
 
 pub returns-then-not-all_names : goal.returns-then-not-all_names
 returns-then-not-all_names c =
-    bad_name_lem c.args.elements c.args.several c.requires (all_told (cut tab c.args.line.now) c.from_field.ensures c.all_names.ensures ∙ c.if-not-all_names.true)
+    bad_name_lem c.args.st.tree.len c.args.several c.requires (all_told (cut tab c.args.line.now) c.from_field.ensures c.all_names.ensures ∙ c.if-not-all_names.true)
 
 pub returns-then-known_attribute : goal.returns-then-known_attribute
 returns-then-known_attribute c =
     let at = goal.at.returns-then-known_attribute c in
-    known_name c.args.elements c.args.several c.requires (named at.Else-not-all_names) (known_told _ c.field.ensures c.known_attribute.ensures ∙ c.if-known_attribute.true)
+    known_name c.args.st.tree.len c.args.several c.requires (named at.Else-not-all_names) (known_told _ c.field.ensures c.known_attribute.ensures ∙ c.if-known_attribute.true)
 
 pub returns-then-not-all_distinct : goal.returns-then-not-all_distinct
 returns-then-not-all_distinct c =
     let at = goal.at.returns-then-not-all_distinct c in
     let twice = not-false _ (twice_told (cut tab c.args.line.now) c.from_field-2.ensures c.all_distinct.ensures ∙ c.if-not-all_distinct.true) in
-    twice_value c.args.elements c.args.several c.requires (named at.Else-not-all_names) (known_told _ c.field.ensures c.known_attribute.ensures ∙ c.if-known_attribute.false) twice
+    twice_value c.args.st.tree.len c.args.several c.requires (named at.Else-not-all_names) (known_told _ c.field.ensures c.known_attribute.ensures ∙ c.if-known_attribute.false) twice
 
-pub returns-then-a-ge6 : goal.returns-then-a-ge6
-returns-then-a-ge6 c = many_attributes c.args.elements c.args.several c.requires (good (goal.at.returns-then-a-ge6 c).Else-not-all_distinct) c.if-a-ge6.true
+pub returns-then-st-ge6 : goal.returns-then-st-ge6
+returns-then-st-ge6 c = many_attributes c.args.st.tree.len c.args.several c.requires (good (goal.at.returns-then-st-ge6 c).Else-not-all_distinct) c.if-st-ge6.true
 
 pub returns-then-most_values-values : goal.returns-then-most_values-values
 returns-then-most_values-values c =
     let at = goal.at.returns-then-most_values-values c in
-    many_values c.args.elements c.args.several c.requires (good at.Else-not-all_distinct) (omega arith) (omega (arith, c.most_values.ensures, c.if-most_values-values.true))
+    many_values c.args.st.tree.len c.args.several c.requires (good at.Else-not-all_distinct) (omega arith) (omega (arith, c.most_values.ensures, c.if-most_values-values.true))
 
 pub choices-requires : goal.choices-requires
 choices-requires c = omega (arith, few_values (goal.at.choices-requires c).Else-most_values-values, most_sixteen c.args.several [])
 
-pub overflow_mul-space : goal.overflow_mul-space
-overflow_mul-space c =
-    let small = size_small c.args.several [] (c.args.fields - 2) (few_values (goal.at.overflow_mul-space c).Else-most_values-values) in
+pub overflow_mul-st : goal.overflow_mul-st
+overflow_mul-st c =
+    let small = size_small c.args.several [] (c.args.fields - 2) (few_values (goal.at.overflow_mul-st c).Else-most_values-values) in
     omega (arith, c.choices.ensures, small, mul-le-mul_right c.choices.result c.requires.small)
 
-pub returns-then-space-choices-gt4096 : goal.returns-then-space-choices-gt4096
-returns-then-space-choices-gt4096 c =
-    let at = goal.at.returns-then-space-choices-gt4096 c in
-    large_space c.args.elements c.args.several c.requires (good at.Else-not-all_distinct) (omega arith) (few_values at.Else-most_values-values) (rw (← c.choices.ensures) c.if-space-choices-gt4096.true)
+pub returns-then-st-choices-gt4096 : goal.returns-then-st-choices-gt4096
+returns-then-st-choices-gt4096 c =
+    let at = goal.at.returns-then-st-choices-gt4096 c in
+    large_space c.args.st.tree.len c.args.several c.requires (good at.Else-not-all_distinct) (omega arith) (few_values at.Else-most_values-values) (rw (← c.choices.ensures) c.if-st-choices-gt4096.true)
 
-pub returns-then-elements-ne0 : goal.returns-then-elements-ne0
-returns-then-elements-ne0 c =
-    let at = goal.at.returns-then-elements-ne0 c in
-    behind_elements c.args.elements c.args.several c.requires (good at.Else-not-all_distinct) (omega arith) (few_values at.Else-most_values-values) (rw (← c.choices.ensures) (omega arith)) c.if-elements-ne0.true
+pub returns-then-st-ne0 : goal.returns-then-st-ne0
+returns-then-st-ne0 c =
+    let at = goal.at.returns-then-st-ne0 c in
+    behind_elements c.args.st.tree.len c.args.several c.requires (good at.Else-not-all_distinct) (omega arith) (few_values at.Else-most_values-values) (rw (← c.choices.ensures) (omega arith)) c.if-st-ne0.true
 
 pub returns : goal.returns
 returns c =
     let at = goal.at.returns c in
-    good_attribute c.args.elements c.args.several c.requires (good at.Else-not-all_distinct) (omega arith) (few_values at.Else-most_values-values) (rw (← c.choices.ensures) (omega arith)) c.if-elements-ne0.false
+    good_attribute c.args.st.tree.len c.args.several c.requires (good at.Else-not-all_distinct) (omega arith) (few_values at.Else-most_values-values) (rw (← c.choices.ensures) (omega arith)) c.if-st-ne0.false
