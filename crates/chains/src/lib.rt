@@ -28,28 +28,41 @@ fn settled(word: Word, child: Effects) -> u64
     }
 }
 
-// Asks the children at the depth from `from` on, by their parent's word, on the requests of `on`; sets the bits of those on which a child gives what the first element gives, and asks its own children on them.
-fn ask(b: &Block, from: usize, depth: usize, word: Word, on: u64, first: Effects, given: &mut [u64])
+// Children to ask: their depth, their parent's word, the requests, and what the first element gives on them.
+#[derive(Clone, Copy)]
+struct Asking {
+    depth: usize,
+    word: Word,
+    on: u64,
+    first: Effects,
+}
+
+// Asks the children from `from` on; sets the bits of those on which a child gives what the first element gives, and asks its own children on them.
+fn ask(b: &Block, from: usize, a: Asking, given: &mut [u64])
     requires { (from ≤ b.now.n) × (b.now.n ≤ length given.old) }
-    ensures { Marks b.now.table.now b.now.struck.now b.now.hits.now b.now.n b.now.block from depth word on first given.old given.new }
+    ensures { Marks b.now.table.now b.now.struck.now b.now.hits.now b.now.n b.now.block from a.depth a.word a.on a.first given.old given.new }
 {
-    if matches!(word, Word::Permit | Word::Deny) {
+    if matches!(a.word, Word::Permit | Word::Deny) {
         return;
     }
-    let mut left = on;
+    let mut left = a.on;
     let mut behind = from;
-    while let Some(at) = table::next_child(b.table, b.struck, b.n, behind, depth) {
+    while let Some(at) = table::next_child(b.table, b.struck, b.n, behind, a.depth) {
         if left == 0 {
             return;
         }
         let gives = b.reply(at).given;
-        let same = left & agreed(first, gives);
+        let same = left & agreed(a.first, gives);
         given[at] |= same;
-        let below = table::depth_at(b.table, at) + 1;
-        let own = table::word_at(b.table, at);
+        let below = Asking {
+            depth: table::depth_at(b.table, at) + 1,
+            word: table::word_at(b.table, at),
+            on: same,
+            first: a.first,
+        };
         behind = at + 1;
-        ask(b, behind, below, own, same, first, given);
-        let ended = settled(word, gives);
+        ask(b, behind, below, given);
+        let ended = settled(a.word, gives);
         left = blocks::without(left, ended);
     }
 }
@@ -61,7 +74,11 @@ pub fn ask_all(b: &Block, given: &mut [u64])
 {
     given[..b.n].fill(0);
     let first = b.reply(0).given;
-    let depth = table::depth_at(b.table, 0);
-    let on = agreed(first, first);
-    ask(b, 0, depth, Word::FirstApplicable, on, first, given);
+    let asked = Asking {
+        depth: table::depth_at(b.table, 0),
+        word: Word::FirstApplicable,
+        on: agreed(first, first),
+        first,
+    };
+    ask(b, 0, asked, given);
 }

@@ -10,7 +10,7 @@ abbrev pub invariant-loop-at : goal.invariant-loop-at
 invariant-loop-at l =
     let b = l.b in
     (l.from ≤ l.behind) × (l.behind ≤ b.n) × (drop b.n l.given ≡ drop b.n l.initial.given)
-    × Marking b.table.now b.struck.now b.hits.now b.n b.block l.from l.depth l.word l.on l.first l.initial.given l.given l.left l.behind
+    × Marking b.table.now b.struck.now b.hits.now b.n b.block l.from l.a.depth l.a.word l.a.on l.a.first l.initial.given l.given l.left l.behind
 
 abbrev pub decreases-loop-at : goal.decreases-loop-at
 decreases-loop-at l = l.b.n - l.behind

@@ -19,7 +19,7 @@ returns c =
     let cleared : zeros ≡ replicate b.n 0 = c.fill.ensures.after (λ y e. e) ∙ ap (λ m. replicate m 0) own in
     record {
       bits = root_asked b.table.now b.struck.now b.hits.now b.n b.block _ _ _ _ asked.new.given
-          (λ v hit answers. ap (λ r. r.decision) (c.reply.ensures v hit answers)) c.agreed-on.ensures c.depth_at-depth.ensures.0
+          (λ v hit answers. ap (λ r. r.decision) (c.reply.ensures v hit answers)) c.agreed.ensures c.depth_at.ensures.0
           (λ j l. get_or-append zeros _ 0 j (omega (arith, size)) ∙ ap (λ s. get_or s j 0) cleared ∙ get_or-replicate b.n j 0 0 l) asked.ensures.bits;
       behind = asked.ensures.behind ∙ drop-append-drop b.n given zeros b.n (omega arith) size;
     }
