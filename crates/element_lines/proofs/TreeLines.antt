@@ -24,15 +24,20 @@ use Rattle.table.specs.Rows.{word_at, number_of_word, row_of, with_row}
 use Rattle.table.proofs.Rows.{row_length}
 use Rattle.layout.specs.declared.ElementPlaces.{ElementPlaces}
 use Rattle.layout.specs.Places.{part, with_name, kind_at, elements_to, Clear, line_start, lines_to}
-use Rattle.layout.specs.Nearest.{Stands}
+use Rattle.layout.specs.Nearest.{Stands, grown}
 use Rattle.layout.proofs.Placing.{stands_more}
 use Rattle.layout.proofs.Laws.{elements_more, more_length, named_more, lined_more, clear_more, obliged_more}
 use Rattle.attribute_lines.specs.declared.State.{State}
 use Rattle.attribute_lines.specs.Sofar.{refusal_of, TreeLine}
-use Rattle.element_lines.specs.Elements.{element_from, earlier_tests, Fits, behind_tree}
+use Rattle.element_lines.specs.Elements.{element_from, earlier_tests, Fits}
 use Rattle.attribute_lines.specs.Steps.{Rooms, BeforeLine, EndedLine, read_sofar, Next}
 use Rattle.attribute_lines.proofs.TreeShape.{right_fields, by_tests}
 use Rattle.attribute_lines.proofs.Parts.{first_byte, field_at_lem, next_start}
+
+-- the state behind a tree line of these fields
+abbrev pub behind_tree : State → ℕ → Kind → List Bytes → State
+behind_tree st end k fs =
+    record { at = end + 1; line = st.line + 1; attributes = st.attributes; space = st.space; tree = grown st.tree k (depth_of (get_or fs 1 [])) }
 
 -- The first of two lists of tests that refuses
 lowest_first : (ts more : Tests) → (lowest ts ≡ 0 → ⊥) → lowest (ts ++ more) ≡ lowest ts
@@ -160,15 +165,13 @@ module _ (f : List ℕ) (table : List Row) (places : List ElementPlaces) (st : S
     named = name_at_lem f st.at end k (get_or fs 1 []) (get_or fs 2 []) (get_or fs 3 []) (drop 4 fs) (omega (arith, at.ends)) (right_fields s fs k n line count).are known.1
 
     -- there is room for it
-    pub room : end < 18446744073709551615 → Fits table places st end fs
+    pub room : end < 18446744073709551615 → Fits table places st fs
     room l = record {
       row = omega (arith, ready.rooms.rows, few);
       pair = omega (arith, ready.rooms.pairs, few);
       few = few;
       shallow = known.1;
-      lines_passed = ready.in_file.lines_passed;
       name_inside = omega (arith, named.within);
-      ends = l;
     }
 
     pair_room : size < length places

@@ -27,11 +27,11 @@ use Rattle.layout.proofs.Laws.{attributes_length}
 use Rattle.attribute_lines.specs.declared.State.{State}
 use Rattle.attribute_lines.specs.Sofar.{TreeLine}
 use Rattle.attribute_lines.specs.Steps.{BeforeLine, EndedLine, read_sofar, StepIs}
-use Rattle.element_lines.specs.Elements.{Fits, behind_tree}
+use Rattle.element_lines.specs.Elements.{Fits}
 use Rattle.tree_fields.specs.Masks.{masks_in}
 use Rattle.attribute_lines.proofs.LineKinds.{stopped, refused_2}
 use Rattle.attribute_lines.proofs.TreeShape.{wrong_count_lem}
-use Rattle.element_lines.proofs.TreeLines.{earlier, earlier_numbered, earlier_refused, earlier_passed, el, room, tree_next}
+use Rattle.element_lines.proofs.TreeLines.{behind_tree, earlier, earlier_numbered, earlier_refused, earlier_passed, el, room, tree_next}
 
 -- what the masks of a line say of its targets
 masks_bad : (attrs : List Attribute) (ts : List Bytes) → masks_in attrs ts ≡ None → bad_masks attrs (padded 6 (masks_of attrs ts)) ≡ true
@@ -75,7 +75,7 @@ module _ (f : List ℕ) (table : List Row) (places : List ElementPlaces) (st : S
           let some = filled s.attributes (or_false (empty s.attributes) (not (well_placed k (depth_of (get_or fs 1 [])) s.before)) f6).0 in
           omega (arith, some, attributes_length f st.attributes)
 
-      pub room_there : end < 18446744073709551615 → Fits table places st end fs
+      pub room_there : end < 18446744073709551615 → Fits table places st fs
       room_there l = room f table places st end k n ready at line count passed_earlier l
 
       -- a bad target

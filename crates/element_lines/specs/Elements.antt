@@ -11,7 +11,7 @@ use Rattle.layout.specs.declared.Attributes.{Attributes}
 use Rattle.layout.specs.declared.Tree.{Tree}
 use Rattle.layout.specs.declared.ElementPlaces.{ElementPlaces}
 use Rattle.layout.specs.Places.{attributes_of, names_to}
-use Rattle.layout.specs.Nearest.{Stands, grown}
+use Rattle.layout.specs.Nearest.{Stands}
 use Rattle.attribute_lines.specs.declared.State.{State}
 
 -- the element of a tree line of this kind
@@ -34,16 +34,10 @@ earlier_tests s w e =
     ∷ (7, is_none (word_of e.kind w))
     ∷ []
 
--- room for the element of a tree line of these fields, and the state behind it
-pub record Fits (table : List Row) (places : List ElementPlaces) (st : State) (end : ℕ) (fs : List Bytes) : Type 0 where
+-- room for the element of a tree line of these fields
+pub record Fits (table : List Row) (places : List ElementPlaces) (st : State) (fs : List Bytes) : Type 0 where
   pub row : Rows table (st.tree.len + 1)
   pub pair : st.tree.len < length places
   pub few : st.tree.len < 64
   pub shallow : depth_of (get_or fs 1 []) ≤ 7
-  pub lines_passed : st.line ≤ st.at + 1
-  pub name_inside : st.at + 4 + length (get_or fs 2 []) ≤ end
-  pub ends : end < 18446744073709551615
-
-abbrev pub behind_tree : State → ℕ → Kind → List Bytes → State
-behind_tree st end k fs =
-    record { at = end + 1; line = st.line + 1; attributes = st.attributes; space = st.space; tree = grown st.tree k (depth_of (get_or fs 1 [])) }
+  pub name_inside : st.at + 4 + length (get_or fs 2 []) < 18446744073709551615

@@ -7,34 +7,41 @@ ghost use Rattle.meaning.specs.Text.{cut, tab};
 ghost use Rattle.meaning.specs.Reading.{depth_of, word_of, Sofar, lowest};
 ghost use Rattle.refusals.specs.Numbers.{number_in};
 ghost use Rattle.table.specs.Rows.{row_of, with_row};
+ghost use Rattle.layout.specs.Nearest.{grown};
 ghost use Rattle.layout.specs.Places.{part, with_name, Named};
 ghost use Rattle.tree_fields.specs.Headed.{Headed};
-ghost use Rattle.element_lines.specs.Elements.{element_from, Behind, earlier_tests, Fits, behind_tree};
+ghost use Rattle.element_lines.specs.Elements.{element_from, Behind, earlier_tests, Fits};
 ghost use Rattle.attribute_lines.specs.Sofar.{TreeLine};
 ghost use Rattle.attribute_lines.specs.Steps.{BeforeLine, EndedLine, StepIs};
 
 use attribute_lines::State;
-use layout::ElementPlaces;
+use layout::{ElementPlaces, Tree};
 use meaning::{Kind, Word};
 use refusals::Refusal;
 use table::Row;
 use tree_fields::FieldEnds;
 
-// The word of a tree line of this kind, or the lowest of 3 to 7 that refuses the line.
+// A tree line of this kind, and where its fields end.
+#[derive(Clone, Copy)]
+struct TreeFields<'a> {
+    kind: Kind,
+    line: &'a [u8],
+    ends: FieldEnds,
+}
+
+// The word of a tree line, or the lowest of 3 to 7 that refuses the line.
 fn element_word(
     file: &[u8],
     st: State,
     places: &[ElementPlaces],
-    kind: Kind,
-    line: &[u8],
-    e: FieldEnds,
+    l: TreeFields,
 ) -> Result<Word, Refusal>
-    requires { Named file.now places.now st.tree.len × (st.tree.depth ≤ 7) × Headed line.now e × ((s : Sofar) × Behind file.now st.attributes places.now st.tree s) }
-    ensures refusal { (s : Sofar) → Behind file.now st.attributes places.now st.tree s
-        → number_in result ≡ lowest (earlier_tests s (get_or (cut tab line.now) 3 []) (element_from s.attributes kind (cut tab line.now))) }
-    ensures word { IfOk result (λ word. word_of kind (get_or (cut tab line.now) 3 []) ≡ some word) }
+    requires { Named file.now places.now st.tree.len × (st.tree.depth ≤ 7) × Headed l.line.now l.ends × ((s : Sofar) × Behind file.now st.attributes places.now st.tree s) }
+    ensures refusal { let l = l.entry in (s : Sofar) → Behind file.now st.attributes places.now st.tree s
+        → number_in result ≡ lowest (earlier_tests s (get_or (cut tab l.line.now) 3 []) (element_from s.attributes l.kind (cut tab l.line.now))) }
+    ensures word { let l = l.entry in IfOk result (λ word. word_of l.kind (get_or (cut tab l.line.now) 3 []) ≡ some word) }
 {
-    let name = tree_fields::name_field(line, e);
+    let name = tree_fields::name_field(l.line, l.ends);
     if !names::is_name(name) {
         return Err(Refusal::BadName);
     }
@@ -47,48 +54,37 @@ fn element_word(
     if st.attributes.len == 0 {
         return Err(Refusal::Misplaced);
     }
-    let depth = syntax::depth_of(tree_fields::depth_field(line, e));
-    if !layout::well_placed(kind, depth, st.tree) {
+    let depth = syntax::depth_of(tree_fields::depth_field(l.line, l.ends));
+    if !layout::well_placed(l.kind, depth, st.tree) {
         return Err(Refusal::Misplaced);
     }
-    syntax::word_of(kind, tree_fields::word_field(line, e)).ok_or(Refusal::BadWord)
+    syntax::word_of(l.kind, tree_fields::word_field(l.line, l.ends)).ok_or(Refusal::BadWord)
 }
 
-// Lays the element of a tree line down behind the others.
-fn lay_line(
+// Lays the element of a tree line down behind the others; what is given is the tree with it.
+fn lay_element(
     st: State,
-    end: usize,
-    kind: Kind,
+    l: TreeFields,
     word: Word,
-    line: &[u8],
-    e: FieldEnds,
     masks: [u16; 6],
     table: &mut [Row],
     places: &mut [ElementPlaces],
-) -> State
-    requires { Fits table.old places.old st end (cut tab line.now) × Headed line.now e }
-    ensures value { result ≡ behind_tree st end kind (cut tab line.now) }
-    ensures table_after { table.new ≡ with_row table.old st.tree.len (row_of (some word) (depth_of (get_or (cut tab line.now) 1 [])) masks) }
-    ensures places_after { places.new ≡ with_name places.old st.tree.len st.at (st.at + 4 + length (get_or (cut tab line.now) 2 [])) }
+) -> Tree
+    requires { Fits table.old places.old st (cut tab l.line.now) × Headed l.line.now l.ends }
+    ensures value { let l = l.entry in result ≡ grown st.tree l.kind (depth_of (get_or (cut tab l.line.now) 1 [])) }
+    ensures table_after { let l = l.entry in table.new ≡ with_row table.old st.tree.len (row_of (some word) (depth_of (get_or (cut tab l.line.now) 1 [])) masks) }
+    ensures places_after { let l = l.entry in places.new ≡ with_name places.old st.tree.len st.at (st.at + 4 + length (get_or (cut tab l.line.now) 2 [])) }
 {
     let at = st.at;
-    let tree = st.tree;
-    let attributes = st.attributes;
-    let depth = syntax::depth_of(tree_fields::depth_field(line, e));
-    let name = tree_fields::name_field(line, e);
+    let depth = syntax::depth_of(tree_fields::depth_field(l.line, l.ends));
+    let name = tree_fields::name_field(l.line, l.ends);
     let row = Row::new(word, depth as u16, masks);
-    layout::put_element(table, places, tree.len, row, at, at + 4 + name.len());
-    let tree = layout::with_element(tree, kind, depth);
-    State {
-        at: end + 1,
-        line: st.line + 1,
-        attributes,
-        space: st.space,
-        tree,
-    }
+    layout::put_element(table, places, st.tree.len, row, at, at + 4 + name.len());
+    layout::with_element(st.tree, l.kind, depth)
 }
 
 // A tree line of this kind and of so many fields.
+// (Seven parameters: the state goes on by value, and what it is laid into is lent by the reader.)
 pub fn tree_line(
     file: &[u8],
     st: State,
@@ -106,10 +102,18 @@ pub fn tree_line(
     if fields != 4 + attributes.len {
         return Err(Refusal::BadLine);
     }
-    let e = tree_fields::field_ends(line);
-    let word = element_word(file, st, places, kind, line, e)?;
-    let Some(masks) = tree_fields::line_masks(file, attributes, line, e) else {
+    let ends = tree_fields::field_ends(line);
+    let l = TreeFields { kind, line, ends };
+    let word = element_word(file, st, places, l)?;
+    let Some(masks) = tree_fields::line_masks(file, attributes, line, ends) else {
         return Err(Refusal::BadTarget);
     };
-    Ok(lay_line(st, end, kind, word, line, e, masks, table, places))
+    let tree = lay_element(st, l, word, masks, table, places);
+    Ok(State {
+        at: end + 1,
+        line: st.line + 1,
+        attributes,
+        space: st.space,
+        tree,
+    })
 }

@@ -23,14 +23,14 @@ returns-then-fields-attributes c =
     let pre = c.requires in
     count_told _ _ _ _ _ _ _ pre.0 pre.1 pre.2 c.if-fields-attributes.true
 
-pub field_ends-e-requires : goal.field_ends-e-requires
-field_ends-e-requires c =
+pub field_ends-ends-requires : goal.field_ends-ends-requires
+field_ends-ends-requires c =
     omega (arith, c.requires.2.count)
 
 pub element_word-requires : goal.element_word-requires
 element_word-requires c =
     let pre = c.requires in
-    (pre.0.rooms.named, pre.0.in_file.shallow, c.field_ends-e.ensures.headed, (_, behind pre.0))
+    (pre.0.rooms.named, pre.0.in_file.shallow, c.field_ends-ends.ensures.headed, (_, behind pre.0))
 
 pub returns-in_err-word : goal.returns-in_err-word
 returns-in_err-word c =
@@ -43,7 +43,7 @@ line_masks-requires c =
     let pre = c.requires in
     let passed = sym (c.in_ok-word.ensures.refusal _ (behind pre.0)) in
     let attributes = pre.0.in_file.attributes in
-    (attributes.standing, attributes.few_values, some_attribute _ _ _ _ _ _ _ pre.0 pre.1 pre.2 c.if-fields-attributes.false passed, sym pre.2.count ∙ c.if-fields-attributes.false, c.field_ends-e.ensures.headed)
+    (attributes.standing, attributes.few_values, some_attribute _ _ _ _ _ _ _ pre.0 pre.1 pre.2 c.if-fields-attributes.false passed, sym pre.2.count ∙ c.if-fields-attributes.false, c.field_ends-ends.ensures.headed)
 
 pub returns-in_default : goal.returns-in_default
 returns-in_default c =
@@ -51,15 +51,15 @@ returns-in_default c =
     let passed = sym (c.in_ok-word.ensures.refusal _ (behind pre.0)) in
     targets_told _ _ _ _ _ _ _ pre.0 pre.1 pre.2 c.if-fields-attributes.false passed (sym c.in_default.ensures)
 
-pub lay_line-requires : goal.lay_line-requires
-lay_line-requires c =
+pub lay_element-tree-requires : goal.lay_element-tree-requires
+lay_element-tree-requires c =
     let pre = c.requires in
     let passed = sym (c.in_ok-word.ensures.refusal _ (behind pre.0)) in
-    (room_there _ _ _ _ _ _ _ pre.0 pre.1 pre.2 c.if-fields-attributes.false passed (omega (arith, pre.1.ends)), c.field_ends-e.ensures.headed)
+    (room_there _ _ _ _ _ _ _ pre.0 pre.1 pre.2 c.if-fields-attributes.false passed (omega (arith, pre.1.ends)), c.field_ends-ends.ensures.headed)
 
 pub returns : goal.returns
 returns c =
     let pre = c.requires in
     let passed = sym (c.in_ok-word.ensures.refusal _ (behind pre.0)) in
-    let put = c.lay_line.ensures in
-    tree_told _ _ _ _ _ _ _ pre.0 pre.1 pre.2 c.if-fields-attributes.false passed _ _ _ _ _ c.in_ok-word.ensures.word (sym c.in-Some.ensures) put.value put.table_after put.places_after
+    let put = c.lay_element-tree.ensures in
+    tree_told _ _ _ _ _ _ _ pre.0 pre.1 pre.2 c.if-fields-attributes.false passed _ _ _ _ _ c.in_ok-word.ensures.word (sym c.in-Some.ensures) (rw put.value) put.table_after put.places_after
