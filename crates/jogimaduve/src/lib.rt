@@ -181,7 +181,15 @@ pub fn jogimaduve_report(file: &[u8], out: &mut [u8]) -> Answer
     let mut table = [Row::NONE; 64];
     let mut places = [ElementPlaces::NONE; 64];
     match reader::read(file, &mut table, &mut places) {
-        Ok(policy) => reporting::report(file, &table, &places, policy.shape(), out),
+        Ok(policy) => {
+            let held = PolicyFile {
+                file,
+                places: &places,
+                table: &table,
+                shape: policy.shape(),
+            };
+            reporting::report(held, out)
+        }
         Err(refused) => refused.into(),
     }
 }

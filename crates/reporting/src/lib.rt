@@ -8,7 +8,6 @@ ghost use Rattle.layout.specs.Places.{Naming};
 ghost use Rattle.matching.specs.Hits.{HitsLaid};
 ghost use Rattle.outcomes.specs.PolicyTable.{PolicyTable, OutcomesLaid};
 ghost use Rattle.outcomes.specs.Decided.{none_struck};
-ghost use Rattle.printing.specs.Puts.{Puts};
 ghost use Rattle.trials.specs.Trial.{Laid};
 ghost use Rattle.trimmed_text.specs.Held.{PolicyHeld};
 ghost use Rattle.report_lines.specs.Lines.{segment_text, conflict_text, struck_text, kept_text};
@@ -17,9 +16,9 @@ ghost use Rattle.reporting.specs.Found.{SegmentsFound, ConflictsFound, RulesFoun
 
 use blocks::Effects;
 use differences::PolicyOutcomes;
-use layout::{ElementPlaces, PolicyFile};
+use layout::PolicyFile;
 use meaning::{Answer, Decision};
-use printing::Sink;
+use printing::{Sink, Text};
 use report_lines::{put_conflicts, put_kept, put_segments, put_struck};
 use table::{Row, Shape};
 
@@ -71,7 +70,6 @@ impl Conflicts {
         let table = o.policy.table;
         let shape = o.policy.shape;
         let n = shape.n;
-        let space = shape.space;
         let struck = [0u8; 64];
         let mut applied = [[0u64; 64]; 64];
         let mut permits = [[0u64; 64]; 64];
@@ -79,15 +77,13 @@ impl Conflicts {
         rows::apply_all(table, o.hits, shape, &mut applied);
         rows::give_all(table, &struck, o.hits, shape, &mut permits, &mut denies);
         rows::parent_all(table, n, &mut self.parents);
-        conflicts::pair_all(
-            &self.parents,
-            &applied,
-            &permits,
-            &denies,
-            n,
-            space,
-            &mut self.pairs,
-        );
+        let rows = conflicts::Rows {
+            applied: &applied,
+            permits: &permits,
+            denies: &denies,
+            space: shape.space,
+        };
+        rows.pair_all(&self.parents, n, &mut self.pairs);
     }
 }
 
@@ -111,29 +107,37 @@ impl Rules {
 }
 
 // The lines of all that was found, one kind behind the other.
-fn put_lines(
-    policy: &PolicyFile,
-    segments: &Segments,
-    conflicts: &Conflicts,
-    rules: &Rules,
-    sink: &mut Sink,
-)
-    requires { Naming policy.now.file.now policy.now.places.now policy.now.shape.n × (policy.now.shape.space ≤ 4096) × Ordered policy.now.file.now policy.now.places.now rules.now.order rules.now.count × (sink.old.at ≤ 1000000000) }
-    ensures { let f = policy.now.file.now in let places = policy.now.places.now in let n = policy.now.shape.n in let space = policy.now.shape.space in Puts sink.old (segment_text f places n segments.now.words segments.now.sizes segments.now.decided space ++ (conflict_text f places n conflicts.now.parents conflicts.now.pairs space ++ (struck_text f places rules.now.order rules.now.count ++ kept_text f places n rules.now.shown space))) sink.new × (sink.new.at ≤ sink.old.at + 200000000) }
-{
-    put_segments(
-        policy,
-        &segments.words,
-        &segments.sizes,
-        &segments.decided,
-        sink,
-    );
-    put_conflicts(policy, &conflicts.parents, &conflicts.pairs, sink);
-    put_struck(policy, &rules.order, rules.count, sink);
-    put_kept(policy, &rules.shown, sink);
+#[derive(Clone, Copy)]
+struct Lines<'a> {
+    policy: PolicyFile<'a>,
+    segments: &'a Segments,
+    conflicts: &'a Conflicts,
+    rules: &'a Rules,
+    ghost naming: { Naming policy.file.now policy.places.now policy.shape.n },
+    ghost small: { policy.shape.space ≤ 4096 },
+    ghost ordered: { Ordered policy.file.now policy.places.now rules.now.order rules.now.count },
 }
 
-// Finds what there is to report besides decisions and conflicts. The lines are counted first, and then the same code writes them.
+impl Text for Lines<'_> {
+    ghost text = { λ t. let f = t.policy.file.now in let places = t.policy.places.now in let n = t.policy.shape.n in let space = t.policy.shape.space in segment_text f places n t.segments.now.words t.segments.now.sizes t.segments.now.decided space ++ (conflict_text f places n t.conflicts.now.parents t.conflicts.now.pairs space ++ (struck_text f places t.rules.now.order t.rules.now.count ++ kept_text f places n t.rules.now.shown space)) };
+
+    fn put(&self, sink: &mut Sink) {
+        let policy = &self.policy;
+        let segments = self.segments;
+        put_segments(
+            policy,
+            &segments.words,
+            &segments.sizes,
+            &segments.decided,
+            sink,
+        );
+        put_conflicts(policy, &self.conflicts.parents, &self.conflicts.pairs, sink);
+        put_struck(policy, &self.rules.order, self.rules.count, sink);
+        put_kept(policy, &self.rules.shown, sink);
+    }
+}
+
+// Finds what there is to report besides decisions and conflicts, and answers with the lines.
 fn write_lines(o: &PolicyOutcomes, conflicts: &Conflicts, out: &mut [u8]) -> Answer
     requires { let p = o.now.policy in PolicyHeld p.file.now p.table.now p.places.now p.shape × HitsLaid p.table.now o.now.hits.now p.shape × (64 ≤ length o.now.hits.now) × OutcomesLaid p.table.now none_struck o.now.outcomes.now p.shape × ConflictsFound p.table.now p.shape.n (hit_of p.shape) p.shape.space conflicts.now.parents conflicts.now.pairs }
     ensures value { result ≡ report_answer o.now.policy.file.now out.old }
@@ -151,47 +155,29 @@ fn write_lines(o: &PolicyOutcomes, conflicts: &Conflicts, out: &mut [u8]) -> Ans
         shown: [None; 64],
     };
     rules.find(o);
-    let mut none = [0u8; 0];
-    let mut count = Sink {
-        out: &mut none,
-        at: 0,
+    let lines = Lines {
+        policy: o.policy,
+        segments: &segments,
+        conflicts,
+        rules: &rules,
     };
-    put_lines(&o.policy, &segments, conflicts, &rules, &mut count);
-    let needed = count.at;
-    let room = out.len();
-    if needed <= room {
-        let mut sink = Sink { out, at: 0 };
-        put_lines(&o.policy, &segments, conflicts, &rules, &mut sink);
-    }
-    printing::text_answer(needed, room)
+    printing::answer(&lines, out)
 }
 
 // The report of the policy that was read from a file, in a lent buffer.
-pub fn report(
-    file: &[u8],
-    table: &[Row],
-    places: &[ElementPlaces],
-    shape: Shape,
-    out: &mut [u8],
-) -> Answer
-    requires { PolicyHeld file.now table.now places.now shape }
-    ensures value { result ≡ report_answer file.now out.old }
-    ensures out_after { out.new ≡ report_lent file.now out.old }
+pub fn report(policy: PolicyFile, out: &mut [u8]) -> Answer
+    requires { PolicyHeld policy.file.now policy.table.now policy.places.now policy.shape }
+    ensures value { result ≡ report_answer policy.entry.file.now out.old }
+    ensures out_after { out.new ≡ report_lent policy.entry.file.now out.old }
 {
     let mut hits = [[0u64; 64]; 64];
     let mut outcomes = [Effects::NONE; 64];
-    find_decisions(table, shape, &mut hits, &mut outcomes);
-    let policy = PolicyFile {
-        file,
-        places,
-        table,
-        shape,
-    };
+    find_decisions(policy.table, policy.shape, &mut hits, &mut outcomes);
     let o = PolicyOutcomes {
         policy,
         hits: &hits,
         outcomes: &outcomes,
-        obliged: obligations::any_obligations(places, shape.n),
+        obliged: obligations::any_obligations(policy.places, policy.shape.n),
     };
     // Their rows are gone from the stack before the segments' words lie on it.
     let mut conflicts = Conflicts {

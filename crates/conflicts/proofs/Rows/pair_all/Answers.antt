@@ -3,7 +3,7 @@ use native.Mathlib.Omega.{arith}
 use borrow.Author.Rules.{rules}
 use Rattle.conflicts.specs.Pairs.{shown_by}
 use Rattle.conflicts.proofs.PairSteps.{pairs_more, others_more}
-use Rattle.conflicts.proofs.pair_all.Goals as goal
+use Rattle.conflicts.proofs.Rows.pair_all.Goals as goal
 
 pub loop-j-init : goal.loop-j-init
 loop-j-init c = (λ i l. absurd (omega arith), refl, λ m h. refl)
@@ -21,7 +21,7 @@ loop-j-preserved c =
     let few = c.requires.few in
     let call = c.pair_later in
     let new = call.new.pairs in (
-      pairs_more args.parents.now (shown_by args.applied.now args.permits.now args.denies.now) args.n args.space few l.j l.pairs new l.invariant.0 call.ensures.0 call.ensures.1,
+      pairs_more args.parents.now (shown_by args.self.now.applied.now args.self.now.permits.now args.self.now.denies.now) args.n args.self.now.space few l.j l.pairs new l.invariant.0 call.ensures.0 call.ensures.1,
       search rules,
       others_more args.parents.now args.n l.j args.pairs.now l.pairs new l.invariant.2 call.ensures.1,
     )
