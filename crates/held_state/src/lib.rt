@@ -19,6 +19,7 @@ fn close_gap(text: &mut [u8], start: usize, end: usize)
 }
 
 // Strikes the rule that trimming would strike next, in place; where no rule is needless the text stays.
+// The text is lent to be changed, so no `PolicyFile` can be handed in: one is made for the search alone.
 pub fn step(text: &mut [u8], table: &[Row], places: &[ElementPlaces], shape: Shape) -> Stepped
     requires { PolicyHeld text.old table.now places.now shape }
     ensures value { result ≡ step_answer text.old }
