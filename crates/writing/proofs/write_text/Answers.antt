@@ -18,9 +18,9 @@ returns c =
     let count = c.put_file.ensures.0.wrote in
     let told = c.text_answer.ensures in
     let (value, after) =
-        short_enough out count c.if-needed-gt16384.false (elim c.if-needed-room.branch [
-          then-needed-room w ↦ rw w.out-is (written count out told w.if-needed-room.true (filled w.put_file-then-needed-room.ensures.0 (search rules)))
-        | else-needed-room w ↦ rw w.out-is (untouched count out told w.if-needed-room.false)
-        ])
+    short_enough out count c.if-needed-gt16384.false (elim c.if-needed-room.branch [
+      | then-needed-room w ↦ rw w.out-is (written count out told w.if-needed-room.true (filled w.put_file-then-needed-room.ensures.0 (search rules)))
+      | else-needed-room w ↦ rw w.out-is (untouched count out told w.if-needed-room.false)
+    ])
     in
     record { value = value; out_after = after }
