@@ -65,6 +65,14 @@ fn judge(policy: PolicyFile, struck: &mut [u8]) -> Answer
     let mut hits = [[0u64; 64]; 64];
     let mut outcomes = [Effects::NONE; 64];
     outcomes::find_outcomes(policy.table, &none, shape, &mut hits, &mut outcomes);
+    let first = differences::first_difference(policy, &hits, &outcomes, &none, struck);
+    if let Some(request) = first {
+        let refused = Refused {
+            why: Refusal::OtherOutcome,
+            second: request as u32,
+        };
+        return refused.into();
+    }
     let obliged = obligations::any_obligations(policy.places, shape.n);
     let o = PolicyOutcomes {
         policy,
@@ -72,13 +80,6 @@ fn judge(policy: PolicyFile, struck: &mut [u8]) -> Answer
         outcomes: &outcomes,
         obliged,
     };
-    if let Some(request) = o.first_difference(&none, struck) {
-        let refused = Refused {
-            why: Refusal::OtherOutcome,
-            second: request as u32,
-        };
-        return refused.into();
-    }
     let Some(rule) = first_needless(&o, struck) else {
         return Answer {
             number: 0,

@@ -38,7 +38,7 @@ impl Rows<'_> {
     }
 
     // Lays down at 64 j + k, for each later child k of j's parent, the first request that shows a conflict of j and k, or the number of requests. All other places stay.
-    // (The number stands for none: 64 times 64 options would take twice the controller's memory.)
+    // (The number stands for none: 64 times 64 options would take twice the controller's memory. One list, as definitions and `report_lines` read it.)
     fn pair_later(&self, parents: &[Option<usize>], n: usize, j: usize, pairs: &mut [u16])
         requires { let r = self.now in Pairing parents.now r.applied.now r.permits.now r.denies.now n r.space pairs.old × (j < n) }
         ensures { let r = self.now in PairsOf parents.now (shown_by r.applied.now r.permits.now r.denies.now) n r.space pairs.new j × ((m : ℕ) → (m / 64 ≡ j → (i : ℕ) → Later parents.now n i j (m % 64) → ⊥) → get_or pairs.new m 0 ≡ get_or pairs.old m 0) }

@@ -17,6 +17,7 @@ use layout::{ElementPlaces, PolicyFile};
 use obligations::Marks;
 
 // A policy file, with which requests match its elements and what each request gets, by words of 64, and whether an element has obligations.
+// (It is written out where it is built: the equations of a constructor would have to be carried through each proof.)
 #[derive(Clone, Copy)]
 pub struct PolicyOutcomes<'a> {
     pub policy: PolicyFile<'a>,
@@ -78,6 +79,7 @@ fn touched(struck: &[u8], hits: &[[u64; 64]], n: usize, block: usize) -> u64
 }
 
 impl<'a> PolicyOutcomes<'a> {
+    // (What it takes beside the policy stands for this comparison alone, so no struct holds it.)
     // The first request from `from` on, of 64 at most and below `bound`, that is among those of `on` and gets other obligations by the one marks than by the other. The requests of `permits` are permitted, the others denied. Requests with the marks and the decision of one that was compared need no comparison.
     fn first_given(
         &self,
@@ -194,22 +196,34 @@ impl<'a> PolicyOutcomes<'a> {
         }
         self.obligation_difference(before, struck, block, on, first)
     }
+}
 
-    // The first request of all that gets another decision under `struck` than under `before`, or other obligations; the outcomes are those under `before`. Only requests that match an element struck can.
-    pub fn first_difference(&self, before: &[u8], struck: &[u8]) -> Option<usize>
-        requires { let p = self.now.policy in Compared p.file.now p.places.now p.table.now before.now struck.now self.now.hits.now self.now.outcomes.now p.shape × Untouched p.file.now p.places.now p.table.now before.now struck.now p.shape }
-        ensures { let p = self.now.policy in result ≡ found (first_from (apart p.file.now p.places.now p.table.now p.shape.n (hit_of p.shape) before.now struck.now) 0 p.shape.space) }
-    {
-        let shape = self.policy.shape;
-        for block in 0..(shape.space + 63) / 64 {
-            let on = touched(struck, self.hits, shape.n, block);
-            if on == 0 {
-                continue;
-            }
-            if let Some(first) = self.difference_in(before, struck, block, on) {
-                return Some(first);
-            }
+// The first request of all that gets another decision under `struck` than under `before`, or other obligations; the outcomes are those under `before`. Only requests that match an element struck can.
+pub fn first_difference(
+    policy: PolicyFile,
+    hits: &[[u64; 64]],
+    outcomes: &[Effects],
+    before: &[u8],
+    struck: &[u8],
+) -> Option<usize>
+    requires { let p = policy in Compared p.file.now p.places.now p.table.now before.now struck.now hits.now outcomes.now p.shape × Untouched p.file.now p.places.now p.table.now before.now struck.now p.shape }
+    ensures { let p = policy.entry in result ≡ found (first_from (apart p.file.now p.places.now p.table.now p.shape.n (hit_of p.shape) before.now struck.now) 0 p.shape.space) }
+{
+    let shape = policy.shape;
+    let o = PolicyOutcomes {
+        policy,
+        hits,
+        outcomes,
+        obliged: obligations::any_obligations(policy.places, shape.n),
+    };
+    for block in 0..(shape.space + 63) / 64 {
+        let on = touched(struck, hits, shape.n, block);
+        if on == 0 {
+            continue;
         }
-        None
+        if let Some(first) = o.difference_in(before, struck, block, on) {
+            return Some(first);
+        }
     }
+    None
 }

@@ -7,8 +7,8 @@ ghost use Rattle.elements.specs.Listed.{no_elements, with_element, elements_of};
 
 use meaning::{Element, Kind, Obligation, Word};
 
-// The first `len` elements; the places behind them don't matter. An array and a length, since a list is copied, as an
-// `ArrayVec` can't be.
+// The first `len` elements; the places behind them don't matter. An array and how many, without a heap; the definitions
+// (`elements_of`) go over these two.
 #[derive(Clone, Copy)]
 pub struct Elements {
     pub all: [Element; 65],

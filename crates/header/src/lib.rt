@@ -66,7 +66,7 @@ fn header_line(header: &[u8], st: State, end: usize) -> Result<State, Refusal>
     }
 }
 
-// The attributes that attribute lines hold, or the refusal.
+// The attributes that attribute lines hold, or the refusal. (As in `reader::read`, a `match` keeps what is known of a line.)
 pub fn read_header(header: &[u8]) -> Result<Attributes, Refused>
     ensures { HeaderAs header.now result (short header.now then (read_text header_tests)) }
 {

@@ -1,3 +1,4 @@
 -- Laws that the proofs of a held state cite.
 mod Gap
+mod Moving
 mod Stepping

@@ -27,7 +27,7 @@ pub struct AttributePlace {
     pub count: usize,
 }
 
-// The attributes so far, by their places.
+// The attributes so far, by their places. (An array and how many: it is handed on by copying, as an `ArrayVec` can't be.)
 #[derive(Clone, Copy)]
 pub struct Attributes {
     pub all: [AttributePlace; 6],
@@ -41,7 +41,7 @@ pub struct Span {
     pub end: usize,
 }
 
-// Where an element stands in a file: the start of its line, the end of its name, and the names of its two obligations; one that ends at 0 is none.
+// Where an element stands in a file: the start of its line, the end of its name, and the names of its two obligations; one that ends at 0 is none: `Span::is_none` says so once, for code and contracts alike.
 #[derive(Clone, Copy)]
 pub struct ElementPlaces {
     pub start: usize,

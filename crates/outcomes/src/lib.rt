@@ -37,6 +37,7 @@ fn decide_all(
 }
 
 // Lays down which requests match each element's own target, and what each request gets. All other words, and what stands behind the blocks, stay.
+// (Table, flags and shape are handed on as they come: the functions here, in `matching` and in `rows` each take another part of them.)
 pub fn find_outcomes(
     table: &[Row],
     struck: &[u8],

@@ -5,6 +5,10 @@ use Rattle.meaning.specs.Text.{Bytes}
 use Rattle.meaning.specs.Report.{fitted}
 use Rattle.meaning.specs.Operations.{answered, lent}
 
+-- how many bytes of a buffer a text of so many gets: all, or none where it does not fit
+abbrev pub lendable : (needed room : ℕ) → ℕ
+lendable needed room = cond (ltb room needed) 0 room
+
 -- the answer for a text of so many bytes, and a buffer that has so many
 abbrev pub text_told : (needed room : ℕ) → Answer
 text_told needed room = record { number = cond (ltb room needed) 11 0; second = needed }

@@ -103,7 +103,7 @@ pub fn text_answer(needed: usize, room: usize) -> Answer
     Answer::from(refused)
 }
 
-// What can be told as text.
+// What can be told as text. (A trait: of a sink behind the call of a closure nothing is known.)
 pub trait Text {
     // its bytes
     ghost text: { Self → List ℕ };

@@ -53,6 +53,7 @@ fn line_at(file: &[u8], at: usize) -> Counted
 }
 
 // One line of so many fields, which a newline at `end` ends.
+// (Table and places are lent to be written: a struct of both would have to promise at each step that it holds the same two.)
 fn read_line(
     file: &[u8],
     st: State,
@@ -105,6 +106,7 @@ fn finish(st: State, end: usize) -> Result<Policy, Refused>
     })
 }
 
+// (A `match` on the line's refusal: behind `map_err` a `?` says nothing of what the line gives.)
 // Reads a file into the table and the places, which have no obligation before; a refused one up to the line that is refused.
 pub fn read(file: &[u8], table: &mut [Row], places: &mut [ElementPlaces]) -> Result<Policy, Refused>
     requires { Rows table.old 64 × (64 ≤ length places.old) × Clear places.old 0 }

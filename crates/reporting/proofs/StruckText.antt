@@ -7,7 +7,6 @@ use mathlib.Core.Bool.{cond, Bool}
 use mathlib.Core.List.Memᴰ
 use mathlib.Core.List.{List, [], ◌∷◌, map, reverse, Memᴰ}
 use mathlib.Core.Option.{Option, none, some}
-use lib.Dec.{ltb}
 use lib.ListN.{length, get_or, set}
 use borrow.Author.Tests.{lt-ltb}
 use Rattle.std.specs.Prelude.{Option as Found, None}

@@ -101,7 +101,13 @@ impl Rules {
         ensures { let p = o.now.policy in RulesFound p.file.now p.places.now p.table.now p.shape.n (hit_of p.shape) p.shape.space self.new.order self.new.shown self.new.count }
     {
         let mut struck = [0u8; 64];
-        self.count = trimming::trim_flags(o, &mut struck, &mut self.order);
+        self.count = trimming::trim_flags(
+            o.policy,
+            o.hits,
+            o.outcomes,
+            &mut struck,
+            &mut self.order,
+        );
         trials::needed_all(o, &mut struck, &mut self.shown);
     }
 }

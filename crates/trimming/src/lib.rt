@@ -123,12 +123,25 @@ fn strike_rules(
 }
 
 // The same, with hints of its own, and no rule known to be needed.
-pub fn trim_flags(o: &PolicyOutcomes, struck: &mut [u8], order: &mut [u8]) -> usize
-    requires { let p = o.now.policy in Laid p.file.now p.places.now p.table.now struck.old o.now.hits.now o.now.outcomes.now p.shape × (p.shape.n ≤ length order.old) }
-    ensures { let p = o.now.policy in Trims p.file.now p.places.now p.table.now o.now.outcomes.now p.shape struck.old struck.new order.old order.new result }
+pub fn trim_flags(
+    policy: PolicyFile,
+    hits: &[[u64; 64]],
+    outcomes: &[Effects],
+    struck: &mut [u8],
+    order: &mut [u8],
+) -> usize
+    requires { let p = policy in Laid p.file.now p.places.now p.table.now struck.old hits.now outcomes.now p.shape × (p.shape.n ≤ length order.old) }
+    ensures { let p = policy.entry in Trims p.file.now p.places.now p.table.now outcomes.now p.shape struck.old struck.new order.old order.new result }
 {
+    let obliged = obligations::any_obligations(policy.places, policy.shape.n);
+    let o = PolicyOutcomes {
+        policy,
+        hits,
+        outcomes,
+        obliged,
+    };
     let mut hints = [Hint::NONE; 64];
-    strike_rules(o, struck, &mut hints, order)
+    strike_rules(&o, struck, &mut hints, order)
 }
 
 // Strikes every rule that trimming strikes.
@@ -140,13 +153,6 @@ pub fn strike(policy: PolicyFile, struck: &mut [u8])
     let mut hits = [[0u64; 64]; 64];
     let mut outcomes = [Effects::NONE; 64];
     outcomes::find_outcomes(policy.table, struck, shape, &mut hits, &mut outcomes);
-    let obliged = obligations::any_obligations(policy.places, shape.n);
-    let o = PolicyOutcomes {
-        policy,
-        hits: &hits,
-        outcomes: &outcomes,
-        obliged,
-    };
     let mut order = [0u8; 64];
-    trim_flags(&o, struck, &mut order);
+    trim_flags(policy, &hits, &outcomes, struck, &mut order);
 }

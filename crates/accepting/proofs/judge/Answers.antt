@@ -24,13 +24,13 @@ pub first_needless-requires : goal.first_needless-requires
 first_needless-requires c =
     let a = c.args in
     let outcomes = c.find_outcomes.ensures in
-    let none = found_none _ (sym c.first_difference.ensures ∙ c.in_default.is) in
+    let none = found_none _ (sym c.first_difference-first.ensures ∙ c.in_default.is) in
     record { steady = c.requires.0; ready = c.requires.2; matched = outcomes.0; holds = same_laid a.policy.file.now a.policy.places.now a.policy.table.now a.policy.shape a.struck.now none _ outcomes.2 }
 
 pub returns-in_default-first_needless : goal.returns-in_default-first_needless
 returns-in_default-first_needless c =
     let a = c.args in
-    let none = found_none _ (sym c.first_difference.ensures ∙ c.in_default.is) in
+    let none = found_none _ (sym c.first_difference-first.ensures ∙ c.in_default.is) in
     let rule = c.first_needless.ensures in
     (told_none a.policy.file.now a.policy.places.now a.policy.table.now a.policy.shape a.struck.now none (found_none _ (sym rule.0 ∙ c.in_default-first_needless.is)), rule.1)
 
@@ -45,6 +45,6 @@ line_of-requires c =
 pub returns : goal.returns
 returns c =
     let a = c.args in
-    let none = found_none _ (sym c.first_difference.ensures ∙ c.in_default.is) in
+    let none = found_none _ (sym c.first_difference-first.ensures ∙ c.in_default.is) in
     let (rule, same) = c.in-Some-first_needless.ensures in
     (c.into-2.ensures ∙ told_rule a.policy.file.now a.policy.places.now a.policy.table.now a.policy.shape a.struck.now none _ (found_some _ (sym rule)) _ same _ c.line_of.ensures.0, same)

@@ -1,10 +1,6 @@
 -- `strike`: what is laid down is what trimming asks for. Assumes nothing.
 use borrow.Author.Rules.{rules}
-use Rattle.trials.proofs.Trying.{obligation_room}
 use Rattle.trimming.proofs.strike.Goals as goal
-
-pub any_obligations-obliged-requires : goal.any_obligations-obliged-requires
-any_obligations-obliged-requires c = let pre = c.requires in obligation_room pre.0 pre.1
 
 pub trim_flags-requires : goal.trim_flags-requires
 trim_flags-requires c =

@@ -2,7 +2,7 @@
 use mathlib.Core.Path.{◌∙◌}
 use borrow.Author.Rules.{rules}
 use Rattle.printing.proofs.Laws.{filled}
-use Rattle.printing.proofs.Fitting.{written, untouched}
+use Rattle.printing.proofs.Fitting.{filling, untouched}
 use Rattle.writing.proofs.Texts.{too_long, short_enough}
 use Rattle.writing.proofs.write_text.Goals as goal
 use Rattle.writing.proofs.write_text.Goals.{then-needed-room, else-needed-room}
@@ -19,7 +19,7 @@ returns c =
     let told = c.text_answer.ensures in
     let (value, after) =
     short_enough out count c.if-needed-gt16384.false (elim c.if-needed-room.branch [
-      | then-needed-room w ↦ rw w.out-is (written count out told w.if-needed-room.true (filled w.put_file-then-needed-room.ensures.0 (search rules)))
+      | then-needed-room w ↦ rw w.out-is (filling count out told w.if-needed-room.true (filled w.put_file-then-needed-room.ensures.0 (search rules)))
       | else-needed-room w ↦ rw w.out-is (untouched count out told w.if-needed-room.false)
     ])
     in
