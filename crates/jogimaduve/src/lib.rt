@@ -1,16 +1,37 @@
 // The operations for C callers.
 #![tactic(auto, using(reader::proofs::FileRead::unread))]
 
-ghost use Rattle.std.specs.Prelude.{◌≡◌};
+ghost use Rattle.std.specs.Prelude.{◌≡◌, ◌≤◌};
 ghost use Rattle.meaning.specs.Operations.{decide_answer, decide_lent, trim_answer, trim_lent, next_rule_answer, next_rule_lent, strike_answer, strike_lent, step_answer, step_lent, accept_answer, join_answer, join_lent, report_answer, report_lent, value_pairs_answer, value_pairs_lent};
+ghost use Rattle.layout.specs.Places.{FewValues};
+ghost use Rattle.reader.specs.Told.{policy_shape};
 ghost use Rattle.refusals.specs.Numbers.{number_of};
 
 use joined_attributes::Part;
 use layout::{ElementPlaces, PolicyFile};
 use meaning::{Answer, Decided, Stepped};
+use reader::Policy;
 use refusals::Refused;
 use table::Row;
 use trimmed_text::KeptText;
+
+// The policy file that was read, by what reading laid down.
+fn held<'a>(
+    file: &'a [u8],
+    places: &'a [ElementPlaces],
+    table: &'a [Row],
+    policy: Policy,
+) -> PolicyFile<'a>
+    requires { (policy.attributes.len ≤ 6) × FewValues policy.attributes }
+    ensures { result ≡ record { file = file.entry; places = places.entry; table = table.entry; shape = policy_shape policy } }
+{
+    PolicyFile {
+        file,
+        places,
+        table,
+        shape: policy.shape(),
+    }
+}
 
 // The answer of a request that is not decided.
 fn undecided(refused: Refused) -> Decided
@@ -35,15 +56,7 @@ pub fn jogimaduve_decide(file: &[u8], request: &[u8], out: &mut [u8]) -> Decided
         Err(refused) => return undecided(refused),
     };
     match request_lines::request_line(file, policy.attributes, request) {
-        Ok(q) => {
-            let held = PolicyFile {
-                file,
-                places: &places,
-                table: &table,
-                shape: policy.shape(),
-            };
-            deciding::answer(held, q, out)
-        }
+        Ok(q) => deciding::answer(held(file, &places, &table, policy), q, out),
         Err(refused) => undecided(refused),
     }
 }
@@ -59,16 +72,11 @@ pub fn jogimaduve_trim(file: &[u8], out: &mut [u8]) -> Answer
         Ok(policy) => policy,
         Err(refused) => return refused.into(),
     };
-    let held = PolicyFile {
-        file,
-        places: &places,
-        table: &table,
-        shape: policy.shape(),
-    };
+    let policy = held(file, &places, &table, policy);
     let mut struck = [0u8; 64];
-    trimming::strike(held, &mut struck);
+    trimming::strike(policy, &mut struck);
     let kept = KeptText {
-        policy: held,
+        policy,
         struck: &struck,
     };
     printing::answer(&kept, out)
@@ -82,15 +90,7 @@ pub fn jogimaduve_next_rule(file: &[u8], out: &mut [u8]) -> Answer
     let mut table = [Row::NONE; 64];
     let mut places = [ElementPlaces::NONE; 64];
     match reader::read(file, &mut table, &mut places) {
-        Ok(policy) => {
-            let held = PolicyFile {
-                file,
-                places: &places,
-                table: &table,
-                shape: policy.shape(),
-            };
-            rule_by_rule::show(held, out)
-        }
+        Ok(policy) => rule_by_rule::show(held(file, &places, &table, policy), out),
         Err(refused) => refused.into(),
     }
 }
@@ -103,15 +103,7 @@ pub fn jogimaduve_strike(file: &[u8], rule: &[u8], out: &mut [u8]) -> Answer
     let mut table = [Row::NONE; 64];
     let mut places = [ElementPlaces::NONE; 64];
     match reader::read(file, &mut table, &mut places) {
-        Ok(policy) => {
-            let held = PolicyFile {
-                file,
-                places: &places,
-                table: &table,
-                shape: policy.shape(),
-            };
-            rule_by_rule::strike(held, rule, out)
-        }
+        Ok(policy) => rule_by_rule::strike(held(file, &places, &table, policy), rule, out),
         Err(refused) => refused.into(),
     }
 }
@@ -140,15 +132,7 @@ pub fn jogimaduve_accept(original: &[u8], proposal: &[u8]) -> Answer
     let mut table = [Row::NONE; 64];
     let mut places = [ElementPlaces::NONE; 64];
     match reader::read(original, &mut table, &mut places) {
-        Ok(policy) => {
-            let held = PolicyFile {
-                file: original,
-                places: &places,
-                table: &table,
-                shape: policy.shape(),
-            };
-            accepting::accept(held, proposal)
-        }
+        Ok(policy) => accepting::accept(held(original, &places, &table, policy), proposal),
         Err(refused) => refused.into(),
     }
 }
@@ -181,15 +165,7 @@ pub fn jogimaduve_report(file: &[u8], out: &mut [u8]) -> Answer
     let mut table = [Row::NONE; 64];
     let mut places = [ElementPlaces::NONE; 64];
     match reader::read(file, &mut table, &mut places) {
-        Ok(policy) => {
-            let held = PolicyFile {
-                file,
-                places: &places,
-                table: &table,
-                shape: policy.shape(),
-            };
-            reporting::report(held, out)
-        }
+        Ok(policy) => reporting::report(held(file, &places, &table, policy), out),
         Err(refused) => refused.into(),
     }
 }
@@ -202,15 +178,12 @@ pub fn jogimaduve_value_pairs(file: &[u8], attribute: &[u8], out: &mut [u8]) -> 
     let mut table = [Row::NONE; 64];
     let mut places = [ElementPlaces::NONE; 64];
     match reader::read(file, &mut table, &mut places) {
-        Ok(policy) => {
-            let held = PolicyFile {
-                file,
-                places: &places,
-                table: &table,
-                shape: policy.shape(),
-            };
-            value_pairs::tell(held, policy.attributes, attribute, out)
-        }
+        Ok(policy) => value_pairs::tell(
+            held(file, &places, &table, policy),
+            policy.attributes,
+            attribute,
+            out,
+        ),
         Err(refused) => refused.into(),
     }
 }

@@ -1,5 +1,5 @@
 -- `jogimaduve_report` meets its contract: the file's refusal, or the report.
-use mathlib.Core.Path.{◌∙◌}
+use mathlib.Core.Path.{refl, ◌∙◌}
 use Rattle.meaning.specs.Report.{report_file}
 use Rattle.reader.proofs.FileRead.{file_refused, sizable}
 use Rattle.jogimaduve.proofs.Refusing.{refusal}
@@ -12,8 +12,8 @@ returns-in-Err c =
     let (answer, buffer) = refusal _ (file_refused c.in-Err.ensures) c.args.out.now _ in
     record { value = c.into.ensures ∙ answer; out_after = buffer }
 
-pub shape-requires : goal.shape-requires
-shape-requires c = sizable c.in-Ok.ensures
+pub held-requires : goal.held-requires
+held-requires c = sizable c.in-Ok.ensures
 
 pub report-requires : goal.report-requires
-report-requires c = held_read c.in-Ok.ensures c.shape.ensures
+report-requires c = rw c.held.ensures (held_read c.in-Ok.ensures refl)

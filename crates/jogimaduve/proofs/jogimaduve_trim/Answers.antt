@@ -14,21 +14,21 @@ returns-in-Err c =
     let (answer, buffer) = refusal _ (file_refused c.in-Err.ensures) c.args.out.now _ in
     record { value = c.into.ensures ∙ answer; out_after = buffer }
 
-pub shape-requires : goal.shape-requires
-shape-requires c = sizable c.in-Ok.ensures
+pub held-policy-requires : goal.held-policy-requires
+held-policy-requires c = sizable c.in-Ok.ensures
 
 pub strike-requires : goal.strike-requires
 strike-requires c =
     let (p, h, holds) = file_read c.in-Ok.ensures in
-    (steady_read _ _ _ _ p h holds _ c.shape.ensures, ready _ _ _ _ p h holds _ c.shape.ensures _ (omega arith) refl)
+    rw c.held-policy.ensures (steady_read _ _ _ _ p h holds _ refl, ready _ _ _ _ p h holds _ refl _ (omega arith) refl)
 
 pub invariant_of-kept : goal.invariant_of-kept
 invariant_of-kept c =
     let (p, h, holds) = file_read c.in-Ok.ensures in
-    record { copies = rw c.shape.ensures (copies _ _ _ _ p h holds _ (omega arith)); short = small_text _ p h _ (omega arith) }
+    rw c.held-policy.ensures (record { copies = copies _ _ _ _ p h holds _ (omega arith); short = small_text _ p h _ (omega arith) })
 
 pub returns : goal.returns
 returns c =
     let (p, h, holds) = file_read c.in-Ok.ensures in
-    let both = trim_fitted _ _ _ _ p h holds _ c.shape.ensures _ c.strike.ensures c.answer.ensures in
+    let both = trim_fitted _ _ _ _ p h holds _ refl _ (rw c.held-policy.ensures at c.strike.ensures) (rw c.held-policy.ensures at c.answer.ensures) in
     record { value = both.0; out_after = both.1 }

@@ -1,5 +1,5 @@
 -- `jogimaduve_value_pairs` meets its contract: the file's refusal, or what telling the pairs of a name gives.
-use mathlib.Core.Path.{◌∙◌}
+use mathlib.Core.Path.{refl, ◌∙◌}
 use Rattle.meaning.specs.ValuePairs.{value_pairs_file}
 use Rattle.reader.proofs.FileRead.{file_refused, sizable}
 use Rattle.jogimaduve.proofs.Refusing.{refusal}
@@ -12,8 +12,8 @@ returns-in-Err c =
     let (answer, buffer) = refusal _ (file_refused c.in-Err.ensures) c.args.out.now _ in
     record { value = c.into.ensures ∙ answer; out_after = buffer }
 
-pub shape-requires : goal.shape-requires
-shape-requires c = sizable c.in-Ok.ensures
+pub held-requires : goal.held-requires
+held-requires c = sizable c.in-Ok.ensures
 
 pub tell-requires : goal.tell-requires
-tell-requires c = held_read c.in-Ok.ensures c.shape.ensures
+tell-requires c = rw c.held.ensures (held_read c.in-Ok.ensures refl)
