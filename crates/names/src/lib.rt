@@ -7,27 +7,11 @@ ghost use Rattle.meaning.specs.Deciding.{value_of};
 ghost use Rattle.laws.specs.Found.{found};
 ghost use Rattle.names.specs.Ends.{ends_otherwise};
 
-// A capital as its small letter, any other byte as it is.
-fn folded(b: u8) -> u8
-    ensures { result ≡ folded b }
-{
-    b.to_ascii_lowercase()
-}
-
-// Whether two bytes differ at most in letter case. Most are the same, or differ in more than the bit that tells the cases
-// apart; by that bit alone `@` and the backquote would be one.
+// Whether two bytes differ at most in letter case.
 fn same_letter(x: u8, y: u8) -> bool
     ensures { result ≡ eqb (folded x) (folded y) }
 {
-    if x == y {
-        return true;
-    }
-    if x | 32 != y | 32 {
-        return false;
-    }
-    let first = folded(x);
-    let second = folded(y);
-    first == second
+    x.eq_ignore_ascii_case(&y)
 }
 
 // Whether two names are equal: they differ at most in letter case. Nothing else calls names equal; a target's are compared to
@@ -61,7 +45,7 @@ fn name_byte(b: u8) -> bool
     b.is_ascii_alphanumeric() || b == b'-'
 }
 
-// Whether a text is a name: its length and first byte first, then every byte.
+// Whether a text is a name: its length and first byte first, then every byte. (A `for`: over `all` the proof did not close.)
 pub fn is_name(s: &[u8]) -> bool
     ensures { result ≡ is_name s.now }
 {
@@ -82,7 +66,7 @@ pub fn is_name(s: &[u8]) -> bool
     true
 }
 
-// Whether every field is a name.
+// Whether every field is a name. (`find` and `repeats::few_distinct` go over fields so too: what they ask, and when they end, differs.)
 pub fn all_names(fields: &[u8]) -> bool
     ensures { result ≡ all is_name (cut tab fields.now) }
 {

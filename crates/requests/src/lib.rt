@@ -17,7 +17,7 @@ pub struct Request {
     pub len: usize,
 }
 
-// Whether value v is in the mask: no value from 16 on is.
+// Whether value v is in the mask: no value from 16 on is. (Other crates test a bit so too: one expression, each at its width and range.)
 fn holds(mask: u16, v: usize) -> bool
     ensures { result ≡ bit mask v }
 {

@@ -17,7 +17,7 @@ pub fn end_of(s: &[u8], at: usize, sep: u8) -> usize
     runs::first_from(s, at, |b| b == sep)
 }
 
-// How many pieces the text has: one more than there are bytes `sep`.
+// How many pieces the text has: one more than there are bytes `sep`. (A `for`: `filter().count()` took two to five times as long.)
 pub fn count_pieces(s: &[u8], sep: u8) -> usize
     ensures { result ≡ length (cut sep s.now) }
 {
@@ -30,7 +30,8 @@ pub fn count_pieces(s: &[u8], sep: u8) -> usize
     pieces
 }
 
-// How many fields a line has, or 0 where one of them is empty or has another byte. One pass over the bytes.
+// How many fields a line has, or 0 where one of them is empty or has another byte: a number, since the definition `CountIs`
+// (`attribute_lines`) has 0 for such a line too. One pass over the bytes.
 pub fn count_fields(line: &[u8]) -> usize
     ensures value { result ≡ cond (all is_field (cut tab line.now)) (length (cut tab line.now)) 0 }
     ensures few { result ≤ length line.now + 1 }
@@ -53,7 +54,7 @@ pub fn count_fields(line: &[u8]) -> usize
     }
 }
 
-// Where a line ends, and how many fields it has.
+// Where a line ends, and how many fields it has, 0 for a bad line, as `count_fields` tells it.
 #[derive(Clone, Copy)]
 pub struct Counted {
     pub end: usize,
