@@ -93,18 +93,20 @@ module _ {exact : Bool} {values field : Bytes} {at name end bit taken e : ℕ} (
 
   -- the value is the current name
   module _ (s : same (spelt exact (part values at e)) (spelt exact (part field name end)) ≡ true) where
-    pub walk_takes : {next : ℕ} → end < length field → EndsAt comma field (end + 1) next → Passed exact values field e (end + 1) next bit (taken + bit)
-    walk_takes n q =
+    -- no value is left for the names that are
+    pub walk_left : end < length field → e ≡ length values → None ≡ found (named exact values field)
+    walk_left n m =
         let more = some_spelt exact (cut_some comma (drop (end + 1) field)) in
+        ap found (sym (names_left bit taken (ap (map (spelt exact)) (value_last m)) (ap (map (spelt exact)) (name_more n)) s more) ∙ w.same_mask)
+
+    pub walk_takes : {next : ℕ} → end < length field → EndsAt comma field (end + 1) next → e < length values → Walked exact values field (e + 1) (end + 1) next (bit * 2) (taken + bit)
+    walk_takes n q m =
         record {
-          missed = λ m. ap found (sym (names_left bit taken (ap (map (spelt exact)) (value_last m)) (ap (map (spelt exact)) (name_more n)) s more) ∙ w.same_mask);
-          next = λ m. record {
-            value_within = omega arith;
-            name_ends = q;
-            few_left = few_here (value_more m);
-            low_bits = omega (arith, w.low_bits);
-            same_mask = sym (value_taken bit taken (ap (map (spelt exact)) (value_more m)) (ap (map (spelt exact)) (name_more n)) s) ∙ w.same_mask;
-          };
+          value_within = omega arith;
+          name_ends = q;
+          few_left = few_here (value_more m);
+          low_bits = omega (arith, w.low_bits);
+          same_mask = sym (value_taken bit taken (ap (map (spelt exact)) (value_more m)) (ap (map (spelt exact)) (name_more n)) s) ∙ w.same_mask;
         }
 
     pub walk_ends : end ≡ length field → Some (taken + bit) ≡ found (named exact values field)

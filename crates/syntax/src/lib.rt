@@ -110,6 +110,7 @@ pub fn word_of(kind: Kind, w: &[u8]) -> Option<Word>
 }
 
 // Whether two names are equal: to the byte, or letter case aside.
+// (A flag, and no test that is lent: contracts speak of `spelt exact`, and would have to say of any test what it makes of two names.)
 fn equal(exact: bool, a: &[u8], b: &[u8]) -> bool
     ensures { result ≡ same (spelt exact a.now) (spelt exact b.now) }
 {
@@ -138,10 +139,13 @@ pub fn names_mask(values: &[u8], field: &[u8], exact: bool) -> Option<u16>
             if end == field.len() {
                 return Some(taken as u16);
             }
+            // the field's next name may be long: it is looked for only where a value is left
+            if e == values.len() {
+                return None;
+            }
             name = end + 1;
             end = text::end_of(field, name, b',');
-        }
-        if e == values.len() {
+        } else if e == values.len() {
             return None;
         }
         at = e + 1;
@@ -150,6 +154,7 @@ pub fn names_mask(values: &[u8], field: &[u8], exact: bool) -> Option<u16>
 }
 
 // The mask of a target field of an attribute with n values, their names parted by tabs; none where the target is bad.
+// (The full mask is `elements::full_mask` too: one line, and no crate with code stands below both.)
 pub fn target_mask(values: &[u8], n: usize, field: &[u8]) -> Option<u16>
     requires { (n ≡ length (cut tab values.now)) × (n ≤ 16) }
     ensures { result ≡ found (target_of (cut tab values.now) field.now) }
