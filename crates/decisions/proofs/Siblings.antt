@@ -29,6 +29,10 @@ module _ (hit : Element → Bool) (t : List Row) (struck : List ℕ) (n i : ℕ)
   unfolding replies_from
   replies_behind d j l = ap (child_replies hit d) (left_behind hit t struck n i leaves rules (n - j) j l)
 
+  pub reply_behind : (j : ℕ) → i ≤ j → reply_at hit t without n j ≡ reply_at hit t struck n j
+  unfolding reply_at
+  reply_behind j l = ap (reply hit (element_at t j)) (replies_behind (suc (depth_of t j)) (j + 1) (omega arith))
+
   module _ (room : n ≤ length struck) (inside : i < n) (live : get_or struck i 0 ≡ 0) (rule : word_number t i < 2) where
     -- it ends the children that are deeper, and so does what stands behind it
     ended : (d k : ℕ) → suc i + k ≡ n → depth_of t i < d → child_replies hit d (left t struck (i + 1) k) ≡ []

@@ -5,7 +5,7 @@ ghost use Rattle.std.specs.Prelude.{◌≡◌, [], ◌∷◌, ◌+◌, ◌≤◌
 ghost use Rattle.meaning.specs.declared.Word.TheVariants.{OnlyOneApplicable};
 ghost use Rattle.meaning.specs.Deciding.{decision_number, matches, combined, first_decision};
 ghost use Rattle.requests.specs.Values.{values_of, severals_of};
-ghost use Rattle.table.specs.Rows.{algorithm_at, algorithm_of};
+ghost use Rattle.table.specs.Rows.{algorithm_at, algorithm_number, algorithm_of};
 ghost use Rattle.table.specs.Tree.{left, Room};
 ghost use Rattle.decisions.specs.Replies.{reply_of, next_of, step_of, replies_from, reply_at};
 
@@ -84,15 +84,32 @@ fn only_one(so_far: Reply, child: Reply) -> Decision
     }
 }
 
+// An algorithm's number: its place in the table of those that look at decisions alone, and 3 for any other word.
+// (Words are compared: a `match` becomes a jump through a table, for each child.)
+fn algorithm_number(algorithm: Word) -> usize
+    ensures { result ≡ algorithm_number algorithm }
+{
+    if algorithm == Word::DenyOverrides {
+        return 0;
+    }
+    if algorithm == Word::PermitOverrides {
+        return 1;
+    }
+    if algorithm == Word::FirstApplicable {
+        return 2;
+    }
+    3
+}
+
 // The children so far and one more, taken as one.
 fn step(algorithm: Word, so_far: Reply, child: Reply) -> Reply
     ensures { reply_of result ≡ step_of (algorithm_of algorithm) (reply_of so_far) (reply_of child) }
 {
-    let decision = match algorithm {
-        Word::DenyOverrides => next(0, so_far.decision, child.decision),
-        Word::PermitOverrides => next(1, so_far.decision, child.decision),
-        Word::FirstApplicable => next(2, so_far.decision, child.decision),
-        _ => only_one(so_far, child),
+    let number = algorithm_number(algorithm);
+    let decision = if number < 3 {
+        next(number, so_far.decision, child.decision)
+    } else {
+        only_one(so_far, child)
     };
     Reply {
         matched: so_far.matched || child.matched,

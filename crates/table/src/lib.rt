@@ -1,5 +1,5 @@
 // The elements of a policy, lent as a table with a row for each, and a flag for each: one that is not 0 strikes its element.
-// (Flags stay numbers: the functions on them that docs/ARCHITECTURE.md names take any, and a `bool` would ask more of callers.)
+// (Flags stay numbers: the functions on them that docs/ARCHITECTURE.md names take any, and a `bool` would ask more of callers. A table and how many of its rows are the policy's go on as two for the same reason: it may have more.)
 #![tactic(auto)]
 
 ghost use Rattle.std.specs.Prelude.{◌≡◌, ◌+◌, ◌≤◌, ◌<◌, length, IfSome};
@@ -7,14 +7,14 @@ ghost use Rattle.std.proofs.Math.Option.{some};
 ghost use Rattle.meaning.specs.Deciding.{matches};
 ghost use Rattle.requests.specs.Values.{values_of, severals_of};
 ghost use Rattle.laws.specs.Found.{found};
-ghost use Rattle.table.specs.Rows.{Rows, word_at, number_of_word, row_of, word_number, depth_of, masks_at, element_at, with_row};
+ghost use Rattle.table.specs.Rows.{Rows, algorithm_at, word_at, number_of_word, row_of, word_number, depth_of, masks_at, element_at, with_row};
 ghost use Rattle.table.specs.Tree.{parent_of, over_of, Over, rule_left, next_child, Room};
 
 use meaning::Word;
 use requests::Request;
 
 // A policy's shape: `n` elements; at which of `len` attributes a request has sets of values, how many choices each has, and
-// their product, the number of requests. Arrays of six and `len`, as a request has them: it lies as in C.
+// their product, the number of requests. Arrays of six and `len`, as a request has them, which lies as in C.
 #[derive(Clone, Copy)]
 pub struct Shape {
     pub n: usize,
@@ -75,6 +75,18 @@ fn word_of(number: u16) -> Word
         2 => Word::DenyOverrides,
         3 => Word::PermitOverrides,
         4 => Word::FirstApplicable,
+        _ => Word::OnlyOneApplicable,
+    }
+}
+
+// The combining algorithm of that number; every number from 3 on is the last one's.
+pub fn algorithm_of_number(number: usize) -> Word
+    ensures { result ≡ algorithm_at number }
+{
+    match number {
+        0 => Word::DenyOverrides,
+        1 => Word::PermitOverrides,
+        2 => Word::FirstApplicable,
         _ => Word::OnlyOneApplicable,
     }
 }
@@ -144,7 +156,8 @@ pub fn parent(table: &[Row], i: usize) -> Option<usize>
     None
 }
 
-// The nearest earlier element that is less deep, or the element itself where there is none.
+// The nearest earlier element that is less deep, or the element itself where there is none: a number, since the definition `over_of`
+// gives that number too.
 pub fn over(table: &[Row], i: usize) -> usize
     requires { Rows table.now (i + 1) }
     ensures value { result ≡ over_of table.now i }
