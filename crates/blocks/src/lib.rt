@@ -146,15 +146,20 @@ fn only_one(so_far: Replies, child: Replies) -> Effects
 }
 
 // The decision of the children so far and one more.
+// (Words are compared: a `match` becomes a jump through a table, for each child.)
 fn next(algorithm: Word, so_far: Replies, child: Replies) -> Effects
     ensures { (v : ℕ) → decision_bit result v ≡ combined (algorithm_of algorithm) (reply_bit so_far v ∷ reply_bit child v ∷ []) }
 {
-    match algorithm {
-        Word::DenyOverrides => deny_overrides(so_far.given, child.given),
-        Word::PermitOverrides => permit_overrides(so_far.given, child.given),
-        Word::FirstApplicable => first_applicable(so_far.given, child.given),
-        _ => only_one(so_far, child),
+    if algorithm == Word::DenyOverrides {
+        return deny_overrides(so_far.given, child.given);
     }
+    if algorithm == Word::PermitOverrides {
+        return permit_overrides(so_far.given, child.given);
+    }
+    if algorithm == Word::FirstApplicable {
+        return first_applicable(so_far.given, child.given);
+    }
+    only_one(so_far, child)
 }
 
 // The children so far and one more, taken as one.
@@ -178,6 +183,7 @@ impl Block<'_> {
 
     // The replies of element `at`: behind it stand its children, and what comes after them.
     #[cycle(fold_reply)]
+    #[inline]
     pub fn reply(&self, at: usize) -> Replies
         requires { at < self.now.n }
         ensures { (v : ℕ) (hit : Element → Bool) → Answers self.now.table.now self.now.hits.now self.now.n self.now.block v hit → reply_bit result v ≡ reply_at hit self.now.table.now self.now.struck.now self.now.n at }
@@ -202,15 +208,19 @@ impl Block<'_> {
     }
 
     // What the algorithm gives of the children at the depth from `from` on, up to the first element of a lower depth.
+    // (Kept out of `reply`, so that a rule is asked with no call.)
     #[cycle(fold_reply)]
+    #[inline(never)]
     fn fold(&self, from: usize, depth: usize, algorithm: Word) -> Effects
         requires { from ≤ self.now.n }
         ensures { (v : ℕ) (hit : Element → Bool) → Answers self.now.table.now self.now.hits.now self.now.n self.now.block v hit → decision_bit result v ≡ combined (algorithm_of algorithm) (replies_from hit self.now.table.now self.now.struck.now self.now.n depth from) }
     {
+        // kept at hand: its rows alone are looked at where deeper elements are passed over
+        let table = self.table;
         let mut so_far = Replies::NONE;
         for at in from..self.n {
             if self.struck[at] == 0 {
-                let d = table::depth_at(self.table, at);
+                let d = table::depth_at(table, at);
                 if d < depth {
                     return so_far.given;
                 }

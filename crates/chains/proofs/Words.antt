@@ -12,6 +12,12 @@ use Rattle.blocks.specs.Bits.{decision_by}
 use Rattle.chains.specs.Chain.{alike, asks, settles}
 
 -- what settles the answer, by two bits, permitted and denied
+pub deny_settles : (p d : Bool) → d ≡ settles Word.DenyOverrides (decision_by p d)
+deny_settles true true = refl
+deny_settles true false = refl
+deny_settles false true = refl
+deny_settles false false = refl
+
 pub permit_settles : (p d : Bool) → (p && not d) ≡ settles Word.PermitOverrides (decision_by p d)
 permit_settles true true = refl
 permit_settles true false = refl

@@ -17,15 +17,20 @@ fn agreed(first: Effects, other: Effects) -> u64
 }
 
 // The requests on which what a child gives settles the answer, by its parent's word: deny or indeterminate, permit, or any decision.
+// (Words are compared, as in `blocks`.)
 fn settled(word: Word, child: Effects) -> u64
     ensures { (v : ℕ) → bit result v ≡ settles word (decision_bit child v) }
 {
-    match word {
-        Word::DenyOverrides => child.denies,
-        Word::PermitOverrides => child.permitted(),
-        Word::FirstApplicable => child.permits | child.denies,
-        _ => 0,
+    if word == Word::DenyOverrides {
+        return child.denies;
     }
+    if word == Word::PermitOverrides {
+        return child.permitted();
+    }
+    if word == Word::FirstApplicable {
+        return child.permits | child.denies;
+    }
+    0
 }
 
 // Children to ask: their depth, their parent's word, the requests, and what the first element gives on them.

@@ -1,4 +1,5 @@
 // Which requests match each element's own target, 64 requests in a word.
+// (A plane, a size, a mask and a count go on as they are: each function is a step of one walk, and a struct of them would be built anew at every step.)
 #![tactic(auto)]
 
 ghost use Rattle.std.specs.Prelude.{◌≡◌, true, false, cond, ◌&&◌, ◌||◌, ◌++◌, ℕ, ◌+◌, ◌-◌, ◌*◌, ◌/◌, ◌%◌, ◌≤◌, ◌<◌, length, take, drop, get_or};
@@ -139,9 +140,9 @@ fn match_masks(masks: [u16; 6], several: [bool; 6], counts: [usize; 6], len: usi
     plane
 }
 
-// Copies the first `words` words of a plane to an element's row; its other words stay.
-pub fn copy_plane(plane: &[u64; 64], words: usize, row: &mut [u64; 64])
-    requires { words ≤ 64 }
+// Copies the first `words` words of a plane to those of an element's row; all words behind them stay.
+pub fn copy_plane(plane: &[u64; 64], words: usize, row: &mut [u64])
+    requires { (words ≤ 64) × (words ≤ length row.old) }
     ensures { row.new ≡ take words plane.now ++ drop words row.old }
 {
     row[..words].copy_from_slice(&plane[..words]);
