@@ -28,9 +28,10 @@ pub outcomes_none : (f : ℕ → Decision) (old : List Effects) → OutcomesTo f
 outcomes_none f old = record { size = refl; done = λ m l. absurd (omega arith); behind = λ k l. refl }
 
 -- one block more
-pub outcomes_next : {f : ℕ → Decision} {old outcomes : List Effects} {block : ℕ} (e : Effects) → ((m : ℕ) → m / 64 ≡ block → decision_bit e (m % 64) ≡ f m) → block < length outcomes
-    → OutcomesTo f old outcomes block → OutcomesTo f old (set outcomes block e) (block + 1)
-outcomes_next {f} {old} {outcomes} {block} e here room so_far =
+pub outcomes_next : {f : ℕ → Decision} {old outcomes next : List Effects} {block : ℕ} (e : Effects) → next ≡ set outcomes block e
+    → ((m : ℕ) → m / 64 ≡ block → decision_bit e (m % 64) ≡ f m) → block < length outcomes → OutcomesTo f old outcomes block → OutcomesTo f old next (block + 1)
+outcomes_next {f} {old} {outcomes} {next} {block} e is here room so_far =
+    rw is
     record {
       size = length-set outcomes block e ∙ so_far.size;
       done = λ m more. go m more (test (eqb (m / 64) block));

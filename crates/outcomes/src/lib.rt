@@ -3,6 +3,7 @@
 
 ghost use Rattle.std.specs.Prelude.{◌≡◌, ◌++◌, map, ◌*◌, ◌≤◌, ◌<◌, length, drop};
 ghost use Rattle.meaning.specs.Text.{counting};
+ghost use Rattle.meaning.specs.Deciding.{decision_number};
 ghost use Rattle.table.specs.Shape.{hit_of};
 ghost use Rattle.matching.specs.Hits.{Rest, HitsLaid};
 ghost use Rattle.outcomes.specs.Decided.{none_struck, outcome_at, decided_at, differs_at};
@@ -72,6 +73,18 @@ pub fn decide_requests(table: &[Row], shape: Shape, decided: &mut [Decision])
     let mut outcomes = [Effects::NONE; 64];
     find_outcomes(table, &struck, shape, &mut hits, &mut outcomes);
     tell_all(&outcomes, shape.space, decided);
+}
+
+// The same by the decisions' numbers. What lies behind them stays.
+pub fn number_requests(table: &[Row], shape: Shape, decided: &mut [u8])
+    requires { PolicyTable table.now none_struck shape × (shape.space ≤ length decided.old) }
+    ensures { decided.new ≡ map (λ m. decision_number (decided_at table.now shape.n (hit_of shape) none_struck m)) (counting 0 shape.space) ++ drop shape.space decided.old }
+{
+    let mut given = [Decision::NotApplicable; 4096];
+    decide_requests(table, shape, &mut given);
+    for m in 0..shape.space {
+        decided[m] = decisions::decision_number(given[m]) as u8;
+    }
 }
 
 // The first request from `from` on, of 64 at most, whose bits in the two tell another decision.

@@ -1,5 +1,7 @@
 -- `decide_all`: up to the block looked at, the words tell what each request gets. Assumes nothing.
 use native.Mathlib.Omega.{arith}
+use lib.Seq.{set-set}
+use borrow.Author.Rules.{rules}
 use Rattle.outcomes.proofs.Blocks.{block_fits, given_outcome}
 use Rattle.outcomes.proofs.LayingOutcomes.{outcomes_none, outcomes_next, outcomes_laid, outcomes_rest}
 use Rattle.outcomes.proofs.decide_all.Goals as goal
@@ -18,6 +20,7 @@ invariant_of-b c =
 pub bounds-outcomes-block : goal.bounds-outcomes-block
 bounds-outcomes-block c = let size = c.loop-block.invariant.size in omega (arith, c.requires.0.small)
 
+-- (`set-set`: two writes to one block are one, also where an edit writes the halves one by one.)
 pub loop-block-preserved : goal.loop-block-preserved
 loop-block-preserved c =
     let turn = c.loop-block in
@@ -27,7 +30,7 @@ loop-block-preserved c =
     let ready = c.requires.0 in
     let given = given_outcome t struck c.args.hits.now shape ready c.requires.1 turn.block c.reply.result c.reply.ensures (omega arith) in
     let size = turn.invariant.size in
-    outcomes_next _ given (omega (arith, ready.small)) turn.invariant
+    outcomes_next c.reply.result.given (search (rules, set-set)) given (omega (arith, ready.small)) turn.invariant
 
 pub returns : goal.returns
 returns c =
