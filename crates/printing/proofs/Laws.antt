@@ -58,6 +58,10 @@ wrote_then {x} {y} {z} {s} {t} {n} {m} {k} p q =
 pub then : {a b c : Sink} {s t : List ℕ} → Puts a s b → Puts b t c → Puts a (s ++ t) c
 then p q = record { buffer = q.buffer ∙ p.buffer; wrote = wrote_then p.wrote q.wrote }
 
+-- one text behind another whose end is known because it was counted
+pub then_counted : {x y z a b s t : List ℕ} {n m k l : ℕ} → Wrote a n s b m → Wrote x n s y l → Wrote y m t z k → Wrote x n (s ++ t) z k
+then_counted {x} {y} {s = s} {n = n} c w = wrote_then (subst (Wrote x n s y) (w.moved ∙ sym c.moved) w)
+
 pub nothing : (a : Sink) → Puts a [] a
 nothing a = record { buffer = refl; wrote = record { moved = omega arith; laid = refl } }
 

@@ -1,4 +1,5 @@
 -- What the contracts of printing cite.
 pub mod Wrote
 pub mod Puts
+pub mod Decisions
 pub mod Fitted

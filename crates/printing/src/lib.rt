@@ -4,6 +4,7 @@
 ghost use Rattle.std.specs.Prelude.{◌≡◌, ℕ, List, ◌+◌, ◌/◌, ◌≤◌, ◌<◌, ◌^◌, [], ◌∷◌, ◌++◌, length};
 ghost use Rattle.meaning.specs.Text.{decimal};
 ghost use Rattle.meaning.specs.Model.{decision_text};
+ghost use Rattle.printing.specs.Decisions.{decision_from};
 ghost use Rattle.printing.specs.Puts.{Puts};
 ghost use Rattle.printing.specs.Fitted.{text_told, Fitted};
 
@@ -41,7 +42,7 @@ impl<'a> Sink<'a> {
         self.at += bytes.len();
     }
 
-    // Stores a number in decimal.
+    // Stores a number in decimal. (No `Display`, here and for a decision: what does not fit is counted, and the contract says each byte.)
     pub fn put_decimal(&mut self, number: usize)
         requires { self.old.at + number + 2 < 2 ^ 64 }
         ensures { Puts self.old (decimal number) self.new × (self.new.at ≤ self.old.at + number / 10 + 1) }
@@ -82,6 +83,18 @@ impl<'a> Sink<'a> {
             Decision::Indeterminate => b"indeterminate",
         };
         self.put_field(text, end);
+    }
+}
+
+// The decision of that number, for callers that hold numbers: each from 3 on is Indeterminate.
+pub fn decision_of_number(number: u8) -> Decision
+    ensures { result ≡ decision_from number }
+{
+    match number {
+        0 => Decision::Permit,
+        1 => Decision::Deny,
+        2 => Decision::NotApplicable,
+        _ => Decision::Indeterminate,
     }
 }
 
