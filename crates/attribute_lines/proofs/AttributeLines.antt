@@ -1,5 +1,5 @@
 -- Laws of an attribute line: its tests as code makes them, its parts, and the state behind it.
-use Rattle.std.specs.Prelude.{Result, Ok, Err}
+use Rattle.std.specs.Prelude.{Ok, Err}
 use Prim.Native.Nat.{ℕ, zero, suc, ◌+◌, ◌-◌, ◌*◌, ◌≤◌, ◌<◌, zero-le, suc-le-suc}
 use mathlib.Core.Path.{◌≡◌, refl, sym, ap, ap₂, ◌∙◌, subst⁻¹}
 use mathlib.Core.Bool.{Bool, true, false, not, ◌||◌}
@@ -16,7 +16,6 @@ use Rattle.meaning.specs.Text.{Bytes, empty, all, among_names, repeated, cut, ta
 use Rattle.meaning.specs.Model.{Attribute, choices, most_values, space as space_of, letter_text, choices_of}
 use Rattle.meaning.specs.Reading.{attribute_line, line_of, Sofar, Tests, lowest, attribute_tests}
 use Rattle.laws.proofs.Lines.{letter_attribute, letter_several, attribute_fields_lem}
-use Rattle.refusals.specs.declared.Refusal.{Refusal}
 use Rattle.table.specs.declared.Row.{Row}
 use Rattle.layout.specs.declared.Attributes.{Attributes}
 use Rattle.layout.specs.declared.ElementPlaces.{ElementPlaces}
@@ -24,7 +23,7 @@ use Rattle.layout.specs.Places.{part, attributes_of, elements_to, line_start, li
 use Rattle.layout.proofs.Adding.{added_behind, placed_six, placed_more}
 use Rattle.layout.proofs.Laws.{attributes_length}
 use Rattle.attribute_lines.specs.Sofar.{refusal_by, refusal_of, attribute_in, Tested, AttributeRefusal, AttributeLine}
-use Rattle.attribute_lines.specs.Steps.{BeforeLine, EndedLine, behind_attribute, AttributeStep, read_sofar, Next, StepIs}
+use Rattle.attribute_lines.specs.Steps.{Verdict, BeforeLine, EndedLine, behind_attribute, AttributeStep, read_sofar, Next, StepIs}
 use Rattle.attribute_lines.specs.declared.State.{State}
 use Rattle.attribute_lines.proofs.Parts.{field_at_lem, next_start}
 
@@ -212,15 +211,15 @@ module _ {f : Bytes} {st : State} {end : ℕ} {several : Bool} {fields : ℕ} {t
         laid = rw (line_is fs is, attributes-are);
       }
 
-  pub attribute_told : {r : Result State Refusal} → AttributeStep f st end several fields r → StepIs f table places table places st end r
-  attribute_told {r} step = go r step
+  pub attribute_told : {after : State} {r : Verdict} → AttributeStep f st end several fields after r → StepIs f table places table places st end after r
+  attribute_told {after} {r} step = go r step
     where
-      go : (r : Result State Refusal) → AttributeStep f st end several fields r → StepIs f table places table places st end r
-      go (Ok next) step =
+      go : (r : Verdict) → AttributeStep f st end several fields after r → StepIs f table places table places st end after r
+      go (Ok done) step =
           let tested = step.refusal in
           record {
             refusal = line_refusal tested;
             next = subst⁻¹ (Next f table places table places st end) step.state (line_next (tested.few refl) (tested.few_values refl) (tested.small_space refl) (tested.no_element refl));
             stays = tt;
           }
-      go (Err why) step = record { refusal = line_refusal step.refusal; next = tt; stays = record { table_is = refl; places_are = refl } }
+      go (Err why) step = record { refusal = line_refusal step.refusal; next = tt; stays = record { table_is = refl; places_are = refl; state_is = step.same_state } }

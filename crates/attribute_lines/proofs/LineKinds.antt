@@ -27,15 +27,15 @@ use Rattle.attribute_lines.specs.Sofar.{refusal_by, refusal_of, AttributeLine, T
 use Rattle.attribute_lines.specs.Steps.{read_sofar, StepIs}
 
 -- A refused line leaves all as it was
-pub stopped : {f : List ℕ} {t : List Row} {p : List ElementPlaces} {st : State} {end : ℕ} (why : Refusal) → number_of why ≡ refusal_of (read_sofar f t p st) (cut tab (part f st.at end)) → StepIs f t p t p st end (Err why)
-stopped why is = record { refusal = is; next = tt; stays = record { table_is = refl; places_are = refl } }
+pub stopped : {f : List ℕ} {t : List Row} {p : List ElementPlaces} {st : State} {end : ℕ} (why : Refusal) → number_of why ≡ refusal_of (read_sofar f t p st) (cut tab (part f st.at end)) → StepIs f t p t p st end st (Err why)
+stopped why is = record { refusal = is; next = tt; stays = record { table_is = refl; places_are = refl; state_is = refl } }
 
 -- Test 2 refuses first
 pub wrong_refused : (tests : Sofar → Line → Tests) (s : Sofar) (fs : List Bytes) → wrong_fields s fs (line_of fs) ≡ true → refusal_by tests s fs ≡ 2
 unfolding refusal_by
 wrong_refused tests s fs h = rw h
 
-pub refused_2 : (f : List ℕ) (t : List Row) (p : List ElementPlaces) (st : State) (end : ℕ) → wrong_fields (read_sofar f t p st) (cut tab (part f st.at end)) (line_of (cut tab (part f st.at end))) ≡ true → StepIs f t p t p st end (Err BadLine)
+pub refused_2 : (f : List ℕ) (t : List Row) (p : List ElementPlaces) (st : State) (end : ℕ) → wrong_fields (read_sofar f t p st) (cut tab (part f st.at end)) (line_of (cut tab (part f st.at end))) ≡ true → StepIs f t p t p st end st (Err BadLine)
 refused_2 f t p st end h = stopped BadLine (sym (wrong_refused line_tests (read_sofar f t p st) (cut tab (part f st.at end)) h))
 
 -- A line by its kind; any other is wrong by test 2, whatever was read so far

@@ -1,5 +1,5 @@
 -- What a state of reading stands for, and what reading one line does.
-use Rattle.std.specs.Prelude.{ℕ, ◌+◌, ◌-◌, ◌*◌, ◌≤◌, ◌<◌, Bool, List, [], ◌≡◌, length, drop, get_or, replicate, None, Result, IfOk, OnErr}
+use Rattle.std.specs.Prelude.{ℕ, ◌+◌, ◌-◌, ◌*◌, ◌≤◌, ◌<◌, Bool, List, [], ◌≡◌, length, drop, get_or, replicate, None, Result, OnOk, OnErr}
 use Rattle.meaning.specs.Text.{Bytes, cut, tab, newline}
 use Rattle.meaning.specs.Model.{space, choices_of}
 use Rattle.meaning.specs.Reading.{line_of, Sofar}
@@ -14,6 +14,10 @@ use Rattle.layout.specs.Nearest.{Stands}
 use Rattle.attribute_lines.specs.declared.State.{State}
 use Rattle.attribute_lines.specs.Sofar.{sofar_of, refusal_of, AttributeRefusal}
 use Rattle.attribute_lines.specs.Laid.{Laid, with_line}
+
+-- whether a line is refused, and as what
+abbrev pub Verdict : Type 0
+Verdict = Result (Unit {0}) Refusal
 
 -- the attributes lie in the file, with at most 16 values each and a small space
 pub record Spaced (f : Bytes) (a : Attributes) : Type 0 where
@@ -66,10 +70,11 @@ behind_attribute st end several fs fields =
       tree = st.tree;
     }
 
--- an attribute line: its refusal, or the state behind it
-pub record AttributeStep (f : Bytes) (st : State) (end : ℕ) (several : Bool) (fields : ℕ) (r : Result State Refusal) : Type 0 where
+-- an attribute line: its refusal and the state as it was, or the state behind it
+pub record AttributeStep (f : Bytes) (st : State) (end : ℕ) (several : Bool) (fields : ℕ) (after : State) (r : Verdict) : Type 0 where
   pub refusal : AttributeRefusal f st.attributes st.space st.tree.len several (cut tab (part f st.at end)) fields (number_in r)
-  pub state : IfOk r (λ next. next ≡ behind_attribute st end several (cut tab (part f st.at end)) fields)
+  pub state : OnOk r (after ≡ behind_attribute st end several (cut tab (part f st.at end)) fields)
+  pub same_state : OnErr r (after ≡ st)
 
 -- What was read before a state's line, and laid down
 abbrev pub read_sofar : Bytes → List Row → List ElementPlaces → State → Sofar
@@ -78,18 +83,19 @@ read_sofar f table places st = sofar_of f st.attributes table places st.tree.len
 abbrev pub laid_at : Bytes → List Row → List ElementPlaces → State → Laid
 laid_at f table places st = record { sofar = read_sofar f table places st; table = table; places = places }
 
--- One line, which a newline at `end` ends: the state behind it, or its refusal and the table and the places as they were
+-- One line, which a newline at `end` ends: the state behind it, or its refusal and state, table and places as they were
 pub record Next (f : List ℕ) (table₀ : List Row) (places₀ : List ElementPlaces) (table : List Row) (places : List ElementPlaces) (st : State) (end : ℕ) (next : State) : Type 0 where
   pub ready : BeforeLine f table places next
   pub at_next : next.at ≡ end + 1
   pub line_next : next.line ≡ st.line + 1
   pub laid : laid_at f table places next ≡ with_line st.at (laid_at f table₀ places₀ st) (line_of (cut tab (part f st.at end)))
 
-pub record Stays (table₀ : List Row) (places₀ : List ElementPlaces) (table : List Row) (places : List ElementPlaces) : Type 0 where
+pub record Stays (table₀ : List Row) (places₀ : List ElementPlaces) (table : List Row) (places : List ElementPlaces) (st after : State) : Type 0 where
   pub table_is : table ≡ table₀
   pub places_are : places ≡ places₀
+  pub state_is : after ≡ st
 
-pub record StepIs (f : List ℕ) (table₀ : List Row) (places₀ : List ElementPlaces) (table : List Row) (places : List ElementPlaces) (st : State) (end : ℕ) (r : Result State Refusal) : Type 0 where
+pub record StepIs (f : List ℕ) (table₀ : List Row) (places₀ : List ElementPlaces) (table : List Row) (places : List ElementPlaces) (st : State) (end : ℕ) (after : State) (r : Verdict) : Type 0 where
   pub refusal : number_in r ≡ refusal_of (read_sofar f table₀ places₀ st) (cut tab (part f st.at end))
-  pub next : IfOk r (Next f table₀ places₀ table places st end)
-  pub stays : OnErr r (Stays table₀ places₀ table places)
+  pub next : OnOk r (Next f table₀ places₀ table places st end after)
+  pub stays : OnErr r (Stays table₀ places₀ table places st after)

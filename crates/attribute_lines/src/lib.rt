@@ -59,18 +59,18 @@ fn most_values(several: bool) -> usize
 // The lowest of 3 to 6 that refuses an attribute line of so many fields.
 fn attribute_refusal(
     file: &[u8],
-    st: State,
+    st: &State,
     several: bool,
     line: &[u8],
     fields: usize,
 ) -> Result<(), Refusal>
-    requires { Tested file.now st.attributes st.space (cut tab line.now) fields }
-    ensures { AttributeRefusal file.now st.attributes st.space st.tree.len several (cut tab line.now) fields (number_in result) }
+    requires { Tested file.now st.now.attributes st.now.space (cut tab line.now) fields }
+    ensures { AttributeRefusal file.now st.now.attributes st.now.space st.now.tree.len several (cut tab line.now) fields (number_in result) }
 {
     if !names::all_names(text::from_field(line, 1)) {
         return Err(Refusal::BadName);
     }
-    if layout::known_attribute(file, st.attributes, fields::field(line, 1)) {
+    if layout::known_attribute(file, &st.attributes, fields::field(line, 1)) {
         return Err(Refusal::KnownName);
     }
     if !repeats::all_distinct(text::from_field(line, 2)) {
@@ -92,16 +92,16 @@ fn attribute_refusal(
     Ok(())
 }
 
-// An attribute line of so many fields.
+// An attribute line of so many fields. (The state is changed in place: to hand it on would copy it at every line.)
 pub fn attribute_line(
     file: &[u8],
-    st: State,
+    st: &mut State,
     end: usize,
     several: bool,
     fields: usize,
-) -> Result<State, Refusal>
-    requires { InFile file.now st × EndedLine file.now st end × AttributeLine several (cut tab (part file.now st.at end)) fields }
-    ensures { AttributeStep file.now st end several fields result }
+) -> Result<(), Refusal>
+    requires { InFile file.now st.old × EndedLine file.now st.old end × AttributeLine several (cut tab (part file.now st.old.at end)) fields }
+    ensures { AttributeStep file.now st.old end several fields st.new result }
 {
     let at = st.at;
     let line = &file[at..end];
@@ -109,20 +109,17 @@ pub fn attribute_line(
     let name = fields::field(line, 1);
     let first = at + 3 + name.len();
     let values = fields - 2;
-    let attributes = st.attributes.with(AttributePlace {
+    st.attributes.push(AttributePlace {
         several,
         name: at + 2,
         values: first,
         end,
         count: values,
     });
-    Ok(State {
-        at: end + 1,
-        line: st.line + 1,
-        attributes,
-        space: st.space * layout::choices(several, values),
-        tree: st.tree,
-    })
+    st.space *= layout::choices(several, values);
+    st.at = end + 1;
+    st.line += 1;
+    Ok(())
 }
 
 // The shape of a line whose fields were counted.

@@ -1,5 +1,5 @@
 -- One line among attribute lines: the step over an attribute line, and the refusals of any other.
-use Rattle.std.specs.Prelude.{Result, Err}
+use Rattle.std.specs.Prelude.{Ok, Err}
 use Prim.Native.Nat.{ℕ, ◌+◌}
 use mathlib.Core.Path.{◌≡◌, refl, sym, ap, ◌∙◌}
 use mathlib.Core.Bool.{Bool, true, false}
@@ -20,7 +20,7 @@ use Rattle.layout.specs.Places.{part}
 use Rattle.layout.proofs.Laws.{attributes_length}
 use Rattle.attribute_lines.specs.declared.State.{State}
 use Rattle.attribute_lines.specs.Sofar.{refusal_by, refusal_of, AttributeLine, TreeLine, ObligationLine}
-use Rattle.attribute_lines.specs.Steps.{Next, StepIs}
+use Rattle.attribute_lines.specs.Steps.{Verdict, Next, StepIs}
 use Rattle.attribute_lines.proofs.LineKinds.{wrong_refused}
 use Rattle.attribute_lines.proofs.AttributeLines.{line_is}
 use Rattle.attribute_lines.proofs.TreeShape.{wrong_count_lem, by_tests}
@@ -59,17 +59,18 @@ module _ (h : Bytes) (st : State) (end : ℕ) where
   abbrev fields : List Bytes
   fields = cut tab (part h st.at end)
 
-  pub past_attribute : {several : Bool} {n : ℕ} (r : Result State Refusal) → AttributeLine several fields n → StepIs h no_rows blank no_rows blank st end r → Past h st end r
-  past_attribute r line step = record { refusal = step.refusal ∙ sym (attribute_alike (sofar_at h st) fields line); next = step.next }
+  pub past_attribute : {several : Bool} {n : ℕ} {after : State} (r : Verdict) → AttributeLine several fields n → StepIs h no_rows blank no_rows blank st end after r → Past h st end after r
+  past_attribute (Ok done) line step = record { refusal = step.refusal ∙ sym (attribute_alike (sofar_at h st) fields line); next = step.next; stays = tt }
+  past_attribute (Err why) line step = record { refusal = step.refusal ∙ sym (attribute_alike (sofar_at h st) fields line); next = tt; stays = step.stays.state_is }
 
-  pub past_tree : (a : ℕ) (why : Refusal) → a ≡ st.attributes.len → ((s : Sofar) → length s.attributes ≡ a → number_of why ≡ refusal_by header_tests s fields) → Past h st end (Err why)
-  past_tree a why count is = record { refusal = is (sofar_at h st) (attributes_length h st.attributes ∙ sym count); next = tt }
+  pub past_tree : (a : ℕ) (why : Refusal) → a ≡ st.attributes.len → ((s : Sofar) → length s.attributes ≡ a → number_of why ≡ refusal_by header_tests s fields) → Past h st end st (Err why)
+  past_tree a why count is = record { refusal = is (sofar_at h st) (attributes_length h st.attributes ∙ sym count); next = tt; stays = refl }
 
-  pub past_obligation : (why : Refusal) → ((s : Sofar) → number_of why ≡ refusal_by header_tests s fields) → Past h st end (Err why)
-  past_obligation why is = record { refusal = is (sofar_at h st); next = tt }
+  pub past_obligation : (why : Refusal) → ((s : Sofar) → number_of why ≡ refusal_by header_tests s fields) → Past h st end st (Err why)
+  past_obligation why is = record { refusal = is (sofar_at h st); next = tt; stays = refl }
 
-  pub past_other : wrong_fields (sofar_at h st) fields (line_of fields) ≡ true → Past h st end (Err BadLine)
-  past_other wrong = record { refusal = sym (wrong_refused header_tests (sofar_at h st) fields wrong); next = tt }
+  pub past_other : wrong_fields (sofar_at h st) fields (line_of fields) ≡ true → Past h st end st (Err BadLine)
+  past_other wrong = record { refusal = sym (wrong_refused header_tests (sofar_at h st) fields wrong); next = tt; stays = refl }
 
   -- behind a line that is not refused
   pub among_next : (next : State) → Among h st → refusal_by header_tests (sofar_at h st) fields ≡ 0 → Next h no_rows blank no_rows blank st end next → Among h next

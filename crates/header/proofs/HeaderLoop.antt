@@ -103,13 +103,13 @@ module _ (h : Bytes) (st : State) (keeps : Keeps h st) (end : ℕ) (ends : end �
 
   -- a line that is refused, and one that is not
   module _ (inside : end < length h) where
-    pub refused_here : (why : Refusal) → Past h st end (Err why) → HeaderAs h (Err (record { why = why; second = st.line })) (read_header h)
+    pub refused_here : (why : Refusal) {after : State} → Past h st end after (Err why) → HeaderAs h (Err (record { why = why; second = st.line })) (read_header h)
     refused_here why past =
         let fs = cut tab (part h st.at end) in
         let reads = keeps.reads ∙ one_refused header_tests h st.at st.line (sofar_at h st) end ends inside (λ z. not_zero why (past.refusal ∙ z)) ∙ ap (λ k. refused k st.line) (sym past.refusal) in
         told why reads (omega (arith, past.refusal, refusal_low (sofar_at h st) fs))
 
-    pub keeps_next : (next : State) → Past h st end (Ok next) → Keeps h next
+    pub keeps_next : (next : State) → Past h st end next (Ok tt) → Keeps h next
     keeps_next next past =
         let n = past.next in
         let none = sym past.refusal in

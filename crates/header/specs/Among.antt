@@ -1,9 +1,8 @@
 -- A state of the reader among attribute lines, and the step over one line.
-use Rattle.std.specs.Prelude.{ℕ, ◌≡◌, List, [], replicate, Result, IfOk}
+use Rattle.std.specs.Prelude.{ℕ, ◌≡◌, List, [], replicate, OnOk, OnErr}
 use Rattle.meaning.specs.Text.{Bytes, cut, tab}
 use Rattle.meaning.specs.Reading.{Sofar}
 use Rattle.meaning.specs.Writing.{header_tests}
-use Rattle.refusals.specs.declared.Refusal.{Refusal}
 use Rattle.refusals.specs.Numbers.{number_in}
 use Rattle.table.specs.declared.Row.{Row}
 use Rattle.table.specs.Rows.{no_row}
@@ -11,7 +10,7 @@ use Rattle.layout.specs.declared.ElementPlaces.{ElementPlaces}
 use Rattle.layout.specs.Places.{part, no_places}
 use Rattle.attribute_lines.specs.declared.State.{State}
 use Rattle.attribute_lines.specs.Sofar.{refusal_by}
-use Rattle.attribute_lines.specs.Steps.{BeforeLine, Next, read_sofar}
+use Rattle.attribute_lines.specs.Steps.{Verdict, BeforeLine, Next, read_sofar}
 
 -- the table and the places of no element: any with room will do
 unfoldable pub no_rows : List Row
@@ -27,7 +26,8 @@ pub record Among (h : Bytes) (st : State) : Type 0 where
   pub ready : BeforeLine h no_rows blank st
   pub no_element : (sofar_at h st).before ≡ []
 
--- One line, which a newline at `end` ends: the state behind it, or its refusal
-pub record Past (h : Bytes) (st : State) (end : ℕ) (r : Result State Refusal) : Type 0 where
+-- One line, which a newline at `end` ends: the state behind it, or its refusal and the state as it was
+pub record Past (h : Bytes) (st : State) (end : ℕ) (after : State) (r : Verdict) : Type 0 where
   pub refusal : number_in r ≡ refusal_by header_tests (sofar_at h st) (cut tab (part h st.at end))
-  pub next : IfOk r (Next h no_rows blank no_rows blank st end)
+  pub next : OnOk r (Next h no_rows blank no_rows blank st end after)
+  pub stays : OnErr r (after ≡ st)

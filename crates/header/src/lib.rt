@@ -47,12 +47,11 @@ fn obligation_refusal(line: &[u8], fields: usize) -> Refusal
 }
 
 // One line, which a newline at `end` ends.
-fn header_line(header: &[u8], st: State, end: usize) -> Result<State, Refusal>
-    requires { Among header.now st × EndedLine header.now st end }
-    ensures { Past header.now st end result }
+fn header_line(header: &[u8], st: &mut State, end: usize) -> Result<(), Refusal>
+    requires { Among header.now st.old × EndedLine header.now st.old end }
+    ensures { Past header.now st.old end st.new result }
 {
-    let at = st.at;
-    let line = &header[at..end];
+    let line = &header[st.at..end];
     let shape = attribute_lines::line_shape(line);
     let kind = shape.kind;
     let fields = shape.fields;
@@ -66,7 +65,7 @@ fn header_line(header: &[u8], st: State, end: usize) -> Result<State, Refusal>
     }
 }
 
-// The attributes that attribute lines hold, or the refusal. (As in `reader::read`, a `match` keeps what is known of a line.)
+// The attributes that attribute lines hold, or the refusal.
 pub fn read_header(header: &[u8]) -> Result<Attributes, Refused>
     ensures { HeaderAs header.now result (short header.now then (read_text header_tests)) }
 {
@@ -90,9 +89,9 @@ pub fn read_header(header: &[u8]) -> Result<Attributes, Refused>
             }
             return Ok(st.attributes);
         }
-        match header_line(header, st, end) {
-            Ok(next) => st = next,
-            Err(why) => return Err(Refused { why, second: line }),
+        // no `?` behind `map_err`, which no longer carries what the call ensures
+        if let Err(why) = header_line(header, &mut st, end) {
+            return Err(Refused { why, second: line });
         }
     }
 }

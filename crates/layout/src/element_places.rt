@@ -1,4 +1,5 @@
 // The elements by their places: the search for a name, and one element more.
+// (File and places go on as two: the reader asks for a known name while it still fills the places, so no `PolicyFile` stands yet.)
 ghost use Rattle.std.specs.Prelude.{◌≡◌, ◌+◌, ◌≤◌, ◌<◌, length};
 ghost use Rattle.meaning.specs.Text.{last_below, among_names};
 ghost use Rattle.laws.specs.Found.{found};

@@ -27,7 +27,7 @@ pub struct AttributePlace {
     pub count: usize,
 }
 
-// The attributes so far, by their places. (An array and how many: it is handed on by copying, as an `ArrayVec` can't be.)
+// The attributes so far, by their places. (An array and how many: what was read is copied out of the state, as an `ArrayVec` can't be.)
 #[derive(Clone, Copy)]
 pub struct Attributes {
     pub all: [AttributePlace; 6],
@@ -96,37 +96,33 @@ impl Attributes {
         }
     }
 
-    // These and one more behind them.
-    pub fn with(self, place: AttributePlace) -> Attributes
-        requires { self.len < 6 }
-        ensures { result ≡ added self place }
+    // One more behind them.
+    pub fn push(&mut self, place: AttributePlace)
+        requires { self.old.len < 6 }
+        ensures { self.new ≡ added self.old place }
     {
-        let mut all = self.all;
-        all[self.len] = place;
-        Attributes {
-            all,
-            len: self.len + 1,
-        }
+        self.all[self.len] = place;
+        self.len += 1;
     }
 
     // Whether each may have several values in a request.
-    pub fn severals(self) -> [bool; 6]
-        ensures { result ≡ severals_at self }
+    pub fn severals(&self) -> [bool; 6]
+        ensures { result ≡ severals_at self.now }
     {
         self.all.map(|place| place.several)
     }
 
     // How many values each has.
-    pub fn counts(self) -> [usize; 6]
-        ensures { result ≡ counts_at self }
+    pub fn counts(&self) -> [usize; 6]
+        ensures { result ≡ counts_at self.now }
     {
         self.all.map(|place| place.count)
     }
 
     // How many choices each has in the space; zeros behind the last.
-    pub fn sizes(self) -> [usize; 6]
-        requires { (self.len ≤ 6) × FewValues self }
-        ensures { result ≡ sizes_of self }
+    pub fn sizes(&self) -> [usize; 6]
+        requires { (self.now.len ≤ 6) × FewValues self.now }
+        ensures { result ≡ sizes_of self.now }
     {
         let mut sizes: [usize; 6] = [0; 6];
         for i in 0..self.len {
@@ -136,9 +132,9 @@ impl Attributes {
     }
 
     // The name of attribute i.
-    pub fn name(self, file: &[u8], i: usize) -> &[u8]
-        requires { (i < 6) × Standing file.now self i }
-        ensures { result.now ≡ (attribute_at file.now self i).name }
+    pub fn name<'a>(&self, file: &'a [u8], i: usize) -> &'a [u8]
+        requires { (i < 6) × Standing file.now self.now i }
+        ensures { result.now ≡ (attribute_at file.now self.now i).name }
     {
         let start = self.all[i].name;
         let end = self.all[i].values - 1;
@@ -146,9 +142,9 @@ impl Attributes {
     }
 
     // The values of attribute i, parted by tabs.
-    pub fn values(self, file: &[u8], i: usize) -> &[u8]
-        requires { (i < 6) × Standing file.now self i }
-        ensures { result.now ≡ values_in file.now self i }
+    pub fn values<'a>(&self, file: &'a [u8], i: usize) -> &'a [u8]
+        requires { (i < 6) × Standing file.now self.now i }
+        ensures { result.now ≡ values_in file.now self.now i }
     {
         &file[self.all[i].values..self.all[i].end]
     }
@@ -205,18 +201,19 @@ impl ElementPlaces {
 }
 
 // Whether attribute i has this name.
-pub fn has_name(file: &[u8], a: Attributes, i: usize, name: &[u8]) -> bool
-    requires { (i < 6) × Standing file.now a i }
-    ensures { result ≡ same_name name.now (attribute_at file.now a i).name }
+// (File and attributes go on as two, here and below: the reader asks while it still fills the attributes.)
+pub fn has_name(file: &[u8], a: &Attributes, i: usize, name: &[u8]) -> bool
+    requires { (i < 6) × Standing file.now a.now i }
+    ensures { result ≡ same_name name.now (attribute_at file.now a.now i).name }
 {
     names::same_name(name, a.name(file, i))
 }
 
 // The place of the first attribute that has this name.
-pub fn attribute_named(file: &[u8], a: Attributes, name: &[u8]) -> Option<usize>
-    requires { AllStanding file.now a }
-    ensures value { result ≡ place_named (attributes_of file.now a) name.now }
-    ensures within { IfSome result (λ i. i < a.len) }
+pub fn attribute_named(file: &[u8], a: &Attributes, name: &[u8]) -> Option<usize>
+    requires { AllStanding file.now a.now }
+    ensures value { result ≡ place_named (attributes_of file.now a.now) name.now }
+    ensures within { IfSome result (λ i. i < a.now.len) }
 {
     for i in 0..a.len {
         if has_name(file, a, i, name) {
@@ -227,9 +224,9 @@ pub fn attribute_named(file: &[u8], a: Attributes, name: &[u8]) -> Option<usize>
 }
 
 // Whether an attribute has this name.
-pub fn known_attribute(file: &[u8], a: Attributes, name: &[u8]) -> bool
-    requires { AllStanding file.now a }
-    ensures { result ≡ among_names name.now (map (λ b. b.name) (attributes_of file.now a)) }
+pub fn known_attribute(file: &[u8], a: &Attributes, name: &[u8]) -> bool
+    requires { AllStanding file.now a.now }
+    ensures { result ≡ among_names name.now (map (λ b. b.name) (attributes_of file.now a.now)) }
 {
     attribute_named(file, a, name).is_some()
 }

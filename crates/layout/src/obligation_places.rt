@@ -1,4 +1,5 @@
 // The obligations of the elements by their places.
+// (File and places go on as two: the reader asks for a known name while it still fills the places, so no `PolicyFile` stands yet.)
 ghost use Rattle.std.specs.Prelude.{◌≡◌, map, ◌<◌, length};
 ghost use Rattle.meaning.specs.Text.{same_name, among_names};
 ghost use Rattle.meaning.specs.Model.{obligation_name};

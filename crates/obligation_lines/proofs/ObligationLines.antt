@@ -1,5 +1,5 @@
 -- An obligation's line that is read: what it laid down is the obligation of the nearest element, and the state behind it.
-use Rattle.std.specs.Prelude.{None, Result, Ok, Err}
+use Rattle.std.specs.Prelude.{None, Ok, Err}
 use mathlib.Core.Path.{◌≡◌, refl, sym, ap, ap₂, ◌∙◌, subst, subst⁻¹}
 use mathlib.Core.Logic.{◌≢◌, ⊎_elim}
 use Prim.Native.Nat.{ℕ, zero, suc, ◌+◌, ◌-◌, ◌≤◌, ◌<◌, zero-le, suc-le-suc}
@@ -20,7 +20,6 @@ use Rattle.laws.proofs.Lines.{obligation_fields_lem}
 use Rattle.laws.proofs.Words.{word_again, word_allowed, word_had}
 use Rattle.laws.proofs.Bounds.{stored}
 use Rattle.laws.proofs.Reading.{Passes, lowest_zero, obligation_numbered}
-use Rattle.refusals.specs.declared.Refusal.{Refusal}
 use Rattle.table.specs.declared.Row.{Row}
 use Rattle.layout.specs.declared.Tree.{Tree}
 use Rattle.layout.specs.declared.ElementPlaces.{ElementPlaces}
@@ -31,7 +30,7 @@ use Rattle.layout.proofs.Obligations.{obligations_in_lem}
 use Rattle.layout.proofs.Obliging.{Oblige, elements_obliged, named_still, lined_obliged, obliged_still}
 use Rattle.attribute_lines.specs.declared.State.{State}
 use Rattle.attribute_lines.specs.Sofar.{refusal_of, ObligationLine}
-use Rattle.attribute_lines.specs.Steps.{BeforeLine, EndedLine, read_sofar, Next, StepIs}
+use Rattle.attribute_lines.specs.Steps.{Verdict, BeforeLine, EndedLine, read_sofar, Next, StepIs}
 use Rattle.attribute_lines.proofs.LineKinds.{wrong_refused}
 use Rattle.attribute_lines.proofs.ObligationShape.{not_three, is_obligation, by_obligation_tests}
 use Rattle.attribute_lines.proofs.Parts.{first_byte, part_length, field_at_lem, next_start}
@@ -188,11 +187,11 @@ module _ {f : List ℕ} {table : List Row} {places : List ElementPlaces} {st : S
         }
 
   -- what the code tells of the line is the step of reading over it
-  pub obligation_told : {p : List ElementPlaces} {r : Result State Refusal} → ObligationStep f places p st end r → StepIs f table places table p st end r
-  obligation_told {p} {r} step = go r step
+  pub obligation_told : {p : List ElementPlaces} {after : State} {r : Verdict} → ObligationStep f places p st end after r → StepIs f table places table p st end after r
+  obligation_told {p} {after} {r} step = go r step
     where
-      go : (r : Result State Refusal) → ObligationStep f places p st end r → StepIs f table places table p st end r
-      go (Ok next) step =
+      go : (r : Verdict) → ObligationStep f places p st end after r → StepIs f table places table p st end after r
+      go (Ok done) step =
           let refusal = step.refusal s (follows ready) in
           record { refusal = refusal; next = rw (step.laid, step.state) (obligation_next (sym refusal)); stays = tt }
-      go (Err why) step = record { refusal = step.refusal s (follows ready); next = tt; stays = record { table_is = refl; places_are = step.stays } }
+      go (Err why) step = record { refusal = step.refusal s (follows ready); next = tt; stays = record { table_is = refl; places_are = step.stays; state_is = step.same_state } }

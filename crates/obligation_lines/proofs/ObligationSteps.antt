@@ -26,17 +26,17 @@ module _ (f : List ℕ) (places : List ElementPlaces) (st : State) (end n : ℕ)
   fs = cut tab (part f st.at end)
 
   -- a wrong field count
-  pub count_told : (n ≡ 3 → ⊥) → ObligationStep f places places st end (Err BadLine)
-  count_told h = record { refusal = λ s follows. sym (wrong_refused line_tests s fs (not_three s fs n line h)); state = tt; laid = tt; stays = refl }
+  pub count_told : (n ≡ 3 → ⊥) → ObligationStep f places places st end st (Err BadLine)
+  count_told h = record { refusal = λ s follows. sym (wrong_refused line_tests s fs (not_three s fs n line h)); state = tt; laid = tt; stays = refl; same_state = refl }
 
   module _ (three : n ≡ 3) where
     line_refusal : {r : ℕ} → ObligationRefusal f places st.tree fs r → (s : Sofar) → Follows f places st.tree s → r ≡ refusal_of s fs
     line_refusal is s follows = is.is_lowest s follows ∙ sym (by_obligation_tests s fs n line three line_tests)
 
     -- one of 3, 4, 14 and 7
-    pub refused_told : (why : Refusal) → ObligationRefusal f places st.tree fs (number_of why) → ObligationStep f places places st end (Err why)
-    refused_told why is = record { refusal = line_refusal is; state = tt; laid = tt; stays = refl }
+    pub refused_told : (why : Refusal) → ObligationRefusal f places st.tree fs (number_of why) → ObligationStep f places places st end st (Err why)
+    refused_told why is = record { refusal = line_refusal is; state = tt; laid = tt; stays = refl; same_state = refl }
 
     -- the line is read
-    pub read_told : ObligationRefusal f places st.tree fs 0 → {next : State} {p : List ElementPlaces} → next ≡ behind_obligation st end → p ≡ obliged places st.tree st.at fs → ObligationStep f places p st end (Ok next)
-    read_told is is_state is-places = record { refusal = line_refusal is; state = is_state; laid = is-places; stays = tt }
+    pub read_told : ObligationRefusal f places st.tree fs 0 → {after : State} {p : List ElementPlaces} → after ≡ behind_obligation st end → p ≡ obliged places st.tree st.at fs → ObligationStep f places p st end after (Ok tt)
+    read_told is is_state is-places = record { refusal = line_refusal is; state = is_state; laid = is-places; stays = tt; same_state = tt }

@@ -1,9 +1,8 @@
 -- An obligation's line: its tests by what the places and the tree show, and what it does to state and places.
-use Rattle.std.specs.Prelude.{ℕ, zero, suc, ◌+◌, ◌-◌, ◌≤◌, ◌<◌, ◌≡◌, List, [], length, get_or, Result, IfOk, OnOk, OnErr}
+use Rattle.std.specs.Prelude.{ℕ, zero, suc, ◌+◌, ◌-◌, ◌≤◌, ◌<◌, ◌≡◌, List, [], length, get_or, OnOk, OnErr}
 use Rattle.meaning.specs.declared.Obligation.{Obligation}
 use Rattle.meaning.specs.Text.{Bytes, cut, tab}
 use Rattle.meaning.specs.Reading.{Sofar, lowest, nearest_obligations, obligation_of, obligation_tests}
-use Rattle.refusals.specs.declared.Refusal.{Refusal}
 use Rattle.refusals.specs.Numbers.{number_in}
 use Rattle.layout.specs.declared.Tree.{Tree}
 use Rattle.layout.specs.declared.ElementPlaces.{ElementPlaces}
@@ -11,6 +10,7 @@ use Rattle.layout.specs.Nearest.{Stands}
 use Rattle.layout.specs.Places.{part, with_obligation, obligations_in, obligation_count, Obliged}
 use Rattle.attribute_lines.specs.declared.State.{State}
 use Rattle.attribute_lines.specs.Sofar.{refusal_of}
+use Rattle.attribute_lines.specs.Steps.{Verdict}
 
 -- the obligations of each of n elements lie in the file
 abbrev pub AllObliged : Bytes → List ElementPlaces → ℕ → Type 0
@@ -42,9 +42,10 @@ obliged places tree at fs =
 abbrev pub behind_obligation : State → ℕ → State
 behind_obligation st end = record { at = end + 1; line = st.line + 1; attributes = st.attributes; space = st.space; tree = st.tree }
 
--- an obligation's line: its refusal and the places as they were, or the state behind it and the obligation in the places
-pub record ObligationStep (f : List ℕ) (places₀ places : List ElementPlaces) (st : State) (end : ℕ) (r : Result State Refusal) : Type 0 where
+-- an obligation's line: its refusal and state and places as they were, or the state behind it and the obligation in the places
+pub record ObligationStep (f : List ℕ) (places₀ places : List ElementPlaces) (st : State) (end : ℕ) (after : State) (r : Verdict) : Type 0 where
   pub refusal : (s : Sofar) → Follows f places₀ st.tree s → number_in r ≡ refusal_of s (cut tab (part f st.at end))
-  pub state : IfOk r (λ next. next ≡ behind_obligation st end)
+  pub state : OnOk r (after ≡ behind_obligation st end)
   pub laid : OnOk r (places ≡ obliged places₀ st.tree st.at (cut tab (part f st.at end)))
   pub stays : OnErr r (places ≡ places₀)
+  pub same_state : OnErr r (after ≡ st)

@@ -1,4 +1,5 @@
 // An obligation's line: its tests, and its name's place laid down behind the nearest element's other obligations.
+// (State and places are lent to be changed: a struct of both would have to promise at each step that it holds the same two.)
 #![tactic(auto)]
 
 ghost use Rattle.std.specs.Prelude.{◌≤◌};
@@ -51,13 +52,13 @@ fn obligation_refusal(
 // An obligation's line of so many fields.
 pub fn obligation_line(
     file: &[u8],
-    st: State,
+    st: &mut State,
     end: usize,
     fields: usize,
     places: &mut [ElementPlaces],
-) -> Result<State, Refusal>
-    requires { InFile file.now st × EndedLine file.now st end × ObligationLine (cut tab (part file.now st.at end)) fields × AllObliged file.now places.old st.tree.len }
-    ensures { ObligationStep file.now places.old places.new st end result }
+) -> Result<(), Refusal>
+    requires { InFile file.now st.old × EndedLine file.now st.old end × ObligationLine (cut tab (part file.now st.old.at end)) fields × AllObliged file.now places.old st.old.tree.len }
+    ensures { ObligationStep file.now places.old places.new st.old end st.new result }
 {
     if fields != 3 {
         return Err(Refusal::BadLine);
@@ -74,12 +75,7 @@ pub fn obligation_line(
         end: start + fields::field(line, 1).len(),
     };
     layout::put_obligation(places, last, count, name);
-    let attributes = st.attributes;
-    Ok(State {
-        at: end + 1,
-        line: st.line + 1,
-        attributes,
-        space: st.space,
-        tree,
-    })
+    st.at = end + 1;
+    st.line += 1;
+    Ok(())
 }

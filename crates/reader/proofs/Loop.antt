@@ -123,16 +123,16 @@ module _ (f : List ℕ) (table₀ : List Row) (places₀ : List ElementPlaces) (
 
   -- a line that is refused, and one that is not
   module _ (inside : end < length f) {t : List Row} {p : List ElementPlaces} where
-    pub refused_here : {why : Refusal} → StepIs f table places t p st end (Err why) → ReadIs f table₀ places₀ t p (Err (record { why = why; second = st.line }))
+    pub refused_here : {why : Refusal} {after : State} → StepIs f table places t p st end after (Err why) → ReadIs f table₀ places₀ t p (Err (record { why = why; second = after.line }))
     refused_here {why} is-step =
         let s = read_sofar f table places st in
         let fs = cut tab (part f st.at end) in
         let other : (refusal_of s fs ≡ 0 → ⊥) = λ z. not_zero why (is-step.refusal ∙ z) in
         let reads = keeps.reads ∙ line_refused f st.at st.line s end ends inside other ∙ ap (λ k. refused k st.line) (sym is-step.refusal) in
         let same = is-step.stays in
-        rw (same.table_is, same.places_are) (told (refusal_told f table places _ (number_of why) st.line reads refl (omega (arith, is-step.refusal, refusal_low s fs)) few_lines) (keeps.lays ∙ stop_laid f st.at end (laid_at f table places st) ends inside other))
+        rw (same.table_is, same.places_are, same.state_is) (told (refusal_told f table places _ (number_of why) st.line reads refl (omega (arith, is-step.refusal, refusal_low s fs)) few_lines) (keeps.lays ∙ stop_laid f st.at end (laid_at f table places st) ends inside other))
 
-    pub keeps_next : {next : State} → StepIs f table places t p st end (Ok next) → Keeps f table₀ places₀ t p next
+    pub keeps_next : {after : State} → StepIs f table places t p st end after (Ok tt) → Keeps f table₀ places₀ t p after
     keeps_next is-step =
         let n = is-step.next in
         let none = sym is-step.refusal in

@@ -26,11 +26,11 @@ pub struct Policy {
 
 impl Policy {
     // Its shape.
-    pub fn shape(self) -> Shape
-        requires { (self.attributes.len ≤ 6) × FewValues self.attributes }
-        ensures { result ≡ policy_shape self }
+    pub fn shape(&self) -> Shape
+        requires { (self.now.attributes.len ≤ 6) × FewValues self.now.attributes }
+        ensures { result ≡ policy_shape self.now }
     {
-        let attributes = self.attributes;
+        let attributes = &self.attributes;
         Shape {
             n: self.elements,
             several: attributes.severals(),
@@ -56,17 +56,16 @@ fn line_at(file: &[u8], at: usize) -> Counted
 // (Table and places are lent to be written: a struct of both would have to promise at each step that it holds the same two.)
 fn read_line(
     file: &[u8],
-    st: State,
+    st: &mut State,
     end: usize,
     fields: usize,
     table: &mut [Row],
     places: &mut [ElementPlaces],
-) -> Result<State, Refusal>
-    requires { BeforeLine file.now table.old places.old st × EndedLine file.now st end × CountIs (cut tab (part file.now st.at end)) fields }
-    ensures { StepIs file.now table.old places.old table.new places.new st end result }
+) -> Result<(), Refusal>
+    requires { BeforeLine file.now table.old places.old st.old × EndedLine file.now st.old end × CountIs (cut tab (part file.now st.old.at end)) fields }
+    ensures { StepIs file.now table.old places.old table.new places.new st.old end st.new result }
 {
-    let at = st.at;
-    let shape = attribute_lines::shape_of(&file[at..end], fields);
+    let shape = attribute_lines::shape_of(&file[st.at..end], fields);
     let kind = shape.kind;
     let fields = shape.fields;
     match kind {
@@ -80,9 +79,9 @@ fn read_line(
 }
 
 // What stands behind the last newline, and the end of the file.
-fn finish(st: State, end: usize) -> Result<Policy, Refused>
-    requires { st.line ≤ 16385 }
-    ensures { result ≡ ended_at st end }
+fn finish(st: &State, end: usize) -> Result<Policy, Refused>
+    requires { st.now.line ≤ 16385 }
+    ensures { result ≡ ended_at st.now end }
 {
     if st.at != end {
         return Err(Refused {
@@ -97,16 +96,14 @@ fn finish(st: State, end: usize) -> Result<Policy, Refused>
             second: 0,
         });
     }
-    let attributes = st.attributes;
-    let space = st.space;
     Ok(Policy {
-        attributes,
-        space,
+        attributes: st.attributes,
+        space: st.space,
         elements,
     })
 }
 
-// (A `match` on the line's refusal: behind `map_err` a `?` says nothing of what the line gives.)
+// (`header::read_header` has this loop's head alone: its lines are other ones, of which nothing is laid down.)
 // Reads a file into the table and the places, which have no obligation before; a refused one up to the line that is refused.
 pub fn read(file: &[u8], table: &mut [Row], places: &mut [ElementPlaces]) -> Result<Policy, Refused>
     requires { Rows table.old 64 × (64 ≤ length places.old) × Clear places.old 0 }
@@ -123,16 +120,14 @@ pub fn read(file: &[u8], table: &mut [Row], places: &mut [ElementPlaces]) -> Res
         let found = line_at(file, st.at);
         let end = found.end;
         if end == file.len() {
-            return finish(st, end);
+            return finish(&st, end);
         }
-        match read_line(file, st, end, found.fields, table, places) {
-            Ok(next) => st = next,
-            Err(why) => {
-                return Err(Refused {
-                    why,
-                    second: st.line as u32,
-                });
-            }
+        // no `?` behind `map_err`, which no longer carries what the call ensures
+        if let Err(why) = read_line(file, &mut st, end, found.fields, table, places) {
+            return Err(Refused {
+                why,
+                second: st.line as u32,
+            });
         }
     }
 }

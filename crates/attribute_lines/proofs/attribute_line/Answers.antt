@@ -8,22 +8,22 @@ use Rattle.attribute_lines.proofs.attribute_line.Goals as goal
 pub overflow_add-first-2 : goal.overflow_add-first-2
 overflow_add-first-2 c =
     let a = c.args in
-    let parts = attribute_parts a.file.now a.st.at a.end c.field-name.result.now (omega (arith, c.requires.1.ends)) c.requires.2 c.field-name.ensures in
+    let parts = attribute_parts a.file.now a.st.now.at a.end c.field-name.result.now (omega (arith, c.requires.1.ends)) c.requires.2 c.field-name.ensures in
     omega arith
 
-pub with-attributes-requires : goal.with-attributes-requires
-with-attributes-requires c = c.in_ok-attribute_refusal.ensures.few refl
+pub push-requires : goal.push-requires
+push-requires c = c.in_ok-attribute_refusal.ensures.few refl
 
 pub choices-requires : goal.choices-requires
 choices-requires c = c.in_ok-attribute_refusal.ensures.few_values refl
 
-pub overflow_mul-result : goal.overflow_mul-result
-overflow_mul-result c =
+pub overflow_mul-st : goal.overflow_mul-st
+overflow_mul-st c =
     let small = c.in_ok-attribute_refusal.ensures.small_space refl in
     rw c.choices.ensures (omega arith)
 
 pub returns : goal.returns
 returns c =
     let a = c.args in
-    let attributes = c.with-attributes.ensures ∙ ap (λ name. added a.st.attributes (line_place a.st.at a.end a.several name a.fields)) c.field-name.ensures in
-    record { refusal = c.in_ok-attribute_refusal.ensures; state = rw (attributes, c.choices.ensures) }
+    let attributes = c.push.ensures ∙ ap (λ name. added a.st.now.attributes (line_place a.st.now.at a.end a.several name a.fields)) c.field-name.ensures in
+    record { refusal = c.in_ok-attribute_refusal.ensures; state = rw (attributes, c.choices.ensures); same_state = tt }

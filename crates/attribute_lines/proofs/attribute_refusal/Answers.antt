@@ -28,7 +28,7 @@ twice_told fs e r = sym (ap (λ vs. not (repeated vs)) e) ∙ sym r
 named : (c : Else-not-all_names) → all is_name (drop 1 (cut tab c.args.line.now)) ≡ true
 named c = all_told (cut tab c.args.line.now) c.from_field.ensures c.all_names.ensures ∙ c.if-not-all_names.false
 
-good : (c : Else-not-all_distinct) → GoodNames c.args.file.now c.args.st.attributes (cut tab c.args.line.now)
+good : (c : Else-not-all_distinct) → GoodNames c.args.file.now c.args.st.now.attributes (cut tab c.args.line.now)
 good c =
     record {
       named = all_told (cut tab c.args.line.now) c.from_field.ensures c.all_names.ensures ∙ c.if-not-all_names.false;
@@ -41,26 +41,26 @@ few_values c = omega (arith, c.most_values.ensures, c.if-most_values-values.fals
 
 pub returns-then-not-all_names : goal.returns-then-not-all_names
 returns-then-not-all_names c =
-    bad_name_lem c.args.st.tree.len c.args.several c.requires (all_told (cut tab c.args.line.now) c.from_field.ensures c.all_names.ensures ∙ c.if-not-all_names.true)
+    bad_name_lem c.args.st.now.tree.len c.args.several c.requires (all_told (cut tab c.args.line.now) c.from_field.ensures c.all_names.ensures ∙ c.if-not-all_names.true)
 
 pub returns-then-known_attribute : goal.returns-then-known_attribute
 returns-then-known_attribute c =
     let at = goal.at.returns-then-known_attribute c in
-    known_name c.args.st.tree.len c.args.several c.requires (named at.Else-not-all_names) (known_told _ c.field.ensures c.known_attribute.ensures ∙ c.if-known_attribute.true)
+    known_name c.args.st.now.tree.len c.args.several c.requires (named at.Else-not-all_names) (known_told _ c.field.ensures c.known_attribute.ensures ∙ c.if-known_attribute.true)
 
 pub returns-then-not-all_distinct : goal.returns-then-not-all_distinct
 returns-then-not-all_distinct c =
     let at = goal.at.returns-then-not-all_distinct c in
     let twice = not-false _ (twice_told (cut tab c.args.line.now) c.from_field-2.ensures c.all_distinct.ensures ∙ c.if-not-all_distinct.true) in
-    twice_value c.args.st.tree.len c.args.several c.requires (named at.Else-not-all_names) (known_told _ c.field.ensures c.known_attribute.ensures ∙ c.if-known_attribute.false) twice
+    twice_value c.args.st.now.tree.len c.args.several c.requires (named at.Else-not-all_names) (known_told _ c.field.ensures c.known_attribute.ensures ∙ c.if-known_attribute.false) twice
 
 pub returns-then-st-ge6 : goal.returns-then-st-ge6
-returns-then-st-ge6 c = many_attributes c.args.st.tree.len c.args.several c.requires (good (goal.at.returns-then-st-ge6 c).Else-not-all_distinct) c.if-st-ge6.true
+returns-then-st-ge6 c = many_attributes c.args.st.now.tree.len c.args.several c.requires (good (goal.at.returns-then-st-ge6 c).Else-not-all_distinct) c.if-st-ge6.true
 
 pub returns-then-most_values-values : goal.returns-then-most_values-values
 returns-then-most_values-values c =
     let at = goal.at.returns-then-most_values-values c in
-    many_values c.args.st.tree.len c.args.several c.requires (good at.Else-not-all_distinct) (omega arith) (omega (arith, c.most_values.ensures, c.if-most_values-values.true))
+    many_values c.args.st.now.tree.len c.args.several c.requires (good at.Else-not-all_distinct) (omega arith) (omega (arith, c.most_values.ensures, c.if-most_values-values.true))
 
 pub choices-requires : goal.choices-requires
 choices-requires c = omega (arith, few_values (goal.at.choices-requires c).Else-most_values-values, most_sixteen c.args.several [])
@@ -73,14 +73,14 @@ overflow_mul-st c =
 pub returns-then-st-choices-gt4096 : goal.returns-then-st-choices-gt4096
 returns-then-st-choices-gt4096 c =
     let at = goal.at.returns-then-st-choices-gt4096 c in
-    large_space c.args.st.tree.len c.args.several c.requires (good at.Else-not-all_distinct) (omega arith) (few_values at.Else-most_values-values) (rw (← c.choices.ensures) c.if-st-choices-gt4096.true)
+    large_space c.args.st.now.tree.len c.args.several c.requires (good at.Else-not-all_distinct) (omega arith) (few_values at.Else-most_values-values) (rw (← c.choices.ensures) c.if-st-choices-gt4096.true)
 
 pub returns-then-st-ne0 : goal.returns-then-st-ne0
 returns-then-st-ne0 c =
     let at = goal.at.returns-then-st-ne0 c in
-    behind_elements c.args.st.tree.len c.args.several c.requires (good at.Else-not-all_distinct) (omega arith) (few_values at.Else-most_values-values) (rw (← c.choices.ensures) (omega arith)) c.if-st-ne0.true
+    behind_elements c.args.st.now.tree.len c.args.several c.requires (good at.Else-not-all_distinct) (omega arith) (few_values at.Else-most_values-values) (rw (← c.choices.ensures) (omega arith)) c.if-st-ne0.true
 
 pub returns : goal.returns
 returns c =
     let at = goal.at.returns c in
-    good_attribute c.args.st.tree.len c.args.several c.requires (good at.Else-not-all_distinct) (omega arith) (few_values at.Else-most_values-values) (rw (← c.choices.ensures) (omega arith)) c.if-st-ne0.false
+    good_attribute c.args.st.now.tree.len c.args.several c.requires (good at.Else-not-all_distinct) (omega arith) (few_values at.Else-most_values-values) (rw (← c.choices.ensures) (omega arith)) c.if-st-ne0.false

@@ -34,4 +34,4 @@ returns-in-Obligation c = past_obligation _ _ _ _ c.obligation_refusal.ensures
 pub returns-in-Other : goal.returns-in-Other
 returns-in-Other c =
     let a = c.args in
-    past_other _ _ _ (of_kind (cut tab (part a.header.now a.st.at a.end)) c.line_shape-shape.ensures c.in-Other.is (sofar_at a.header.now a.st))
+    past_other _ _ _ (of_kind (cut tab (part a.header.now a.st.now.at a.end)) c.line_shape-shape.ensures c.in-Other.is (sofar_at a.header.now a.st.now))

@@ -28,8 +28,8 @@ returns-in-Err c = refused_here _ _ c.loop-st.invariant _ c.end_of-end.ensures.v
 
 pub loop-st-smaller : goal.loop-st-smaller
 loop-st-smaller c =
-    let next = c.in-Ok.ensures.next in
+    let next = c.in_default.ensures.next in
     omega (arith, next.at_next, next.ready.in_file.inside)
 
 pub loop-st-preserved : goal.loop-st-preserved
-loop-st-preserved c = keeps_next _ _ c.loop-st.invariant _ c.end_of-end.ensures.value (omega arith) c.in-Ok.next c.in-Ok.ensures
+loop-st-preserved c = keeps_next _ _ c.loop-st.invariant _ c.end_of-end.ensures.value (omega arith) _ c.in_default.ensures

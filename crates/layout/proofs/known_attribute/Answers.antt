@@ -8,5 +8,5 @@ use Rattle.layout.proofs.known_attribute.Goals as goal
 
 pub returns : goal.returns
 returns c =
-    let attrs = attributes_of c.args.file.now c.args.a in
+    let attrs = attributes_of c.args.file.now c.args.a.now in
     c.is_some.ensures ∙ ap is_some c.attribute_named.ensures.value ∙ place_told (declared attrs c.args.name.now) (place_in attrs c.args.name.now)

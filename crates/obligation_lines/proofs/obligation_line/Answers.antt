@@ -22,11 +22,11 @@ pub put_obligation-requires : goal.put_obligation-requires
 put_obligation-requires c =
     let passed = c.in_ok-obligation_refusal.ensures in
     let counted = c.obligation_count-count.ensures.value in
-    ((c.requires.3 (c.args.st.tree.len - 1) (omega (arith, passed.some refl))).room, omega (arith, counted, passed.free refl))
+    ((c.requires.3 (c.args.st.now.tree.len - 1) (omega (arith, passed.some refl))).room, omega (arith, counted, passed.free refl))
 
 pub returns : goal.returns
 returns c =
     let args = c.args in
     let counted = c.obligation_count-count.ensures.value in
     let named = c.field.ensures in
-    read_told _ _ _ _ _ c.requires.2 c.if-fields-ne3.false c.in_ok-obligation_refusal.ensures refl (c.put_obligation.ensures ∙ same_slot args.places.now (args.st.tree.len - 1) (args.st.at + 2) counted named)
+    read_told _ _ _ _ _ c.requires.2 c.if-fields-ne3.false c.in_ok-obligation_refusal.ensures refl (c.put_obligation.ensures ∙ same_slot args.places.now (args.st.now.tree.len - 1) (args.st.now.at + 2) counted named)

@@ -42,12 +42,12 @@ returns-in-Err c =
 
 pub loop-found-smaller : goal.loop-found-smaller
 loop-found-smaller c =
-    let next = c.in-Ok.ensures.next in
+    let next = c.in_default.ensures.next in
     omega (arith, next.at_next, next.ready.in_file.inside)
 
 pub loop-found-preserved : goal.loop-found-preserved
 loop-found-preserved c =
     let inv = c.loop-found.invariant in
     let here = c.line_at-found.ensures in
-    let step = c.in-Ok.ensures in
+    let step = c.in_default.ensures in
     (search rules, search rules, step.next.ready, inv.3, keeps_next _ _ _ _ _ _ inv.2 inv.3 inv.4 _ here.all_of_it (omega (arith, here.inside, c.if-end-file.false)) step)

@@ -33,4 +33,4 @@ returns-in-Obligation c =
 pub returns-in-Other : goal.returns-in-Other
 returns-in-Other c =
     let a = c.args in
-    refused_2 _ _ _ _ _ (of_kind (cut tab (part a.file.now a.st.at a.end)) c.shape_of-shape.ensures c.in-Other.is (read_sofar a.file.now a.table.now a.places.now a.st))
+    refused_2 _ _ _ _ _ (of_kind (cut tab (part a.file.now a.st.now.at a.end)) c.shape_of-shape.ensures c.in-Other.is (read_sofar a.file.now a.table.now a.places.now a.st.now))
