@@ -56,7 +56,7 @@ module _ (f : List ℕ) (table : List Row) (places : List ElementPlaces) (st : S
   s = read_sofar f table places st
 
   -- a wrong field count
-  pub count_told : (n ≡ 4 + st.attributes.len → ⊥) → StepIs f table places table places st end (Err BadLine)
+  pub count_told : (n ≡ 4 + st.attributes.len → ⊥) → StepIs f table places table places st end st (Err BadLine)
   count_told h = refused_2 f table places st end (wrong_count_lem s fs k n line (λ e. h (e ∙ ap (λ m. 4 + m) (attributes_length f st.attributes))))
 
   module _ (right : n ≡ 4 + st.attributes.len) where
@@ -64,7 +64,7 @@ module _ (f : List ℕ) (table : List Row) (places : List ElementPlaces) (st : S
     count = right ∙ ap (λ m. 4 + m) (sym (attributes_length f st.attributes))
 
     -- one of 3 to 7
-    pub earlier_told : (why : Refusal) → number_of why ≡ lowest (earlier s fs k n line) → StepIs f table places table places st end (Err why)
+    pub earlier_told : (why : Refusal) → number_of why ≡ lowest (earlier s fs k n line) → StepIs f table places table places st end st (Err why)
     earlier_told why is_lowest = stopped why (is_lowest ∙ sym (earlier_refused s fs k n line count (λ z. not_zero why (is_lowest ∙ z))))
 
     module _ (passed_earlier : lowest (earlier s fs k n line) ≡ 0) where
@@ -79,15 +79,15 @@ module _ (f : List ℕ) (table : List Row) (places : List ElementPlaces) (st : S
       room_there l = room f table places st end k n ready at line count passed_earlier l
 
       -- a bad target
-      pub targets_told : masks_in s.attributes (drop 4 fs) ≡ None → StepIs f table places table places st end (Err BadTarget)
+      pub targets_told : masks_in s.attributes (drop 4 fs) ≡ None → StepIs f table places table places st end st (Err BadTarget)
       targets_told none = stopped BadTarget (sym (earlier_passed s fs k n line count passed_earlier ∙ rw (masks_bad s.attributes (drop 4 fs) none)))
 
       -- the line is read
-      pub tree_told : (r : State) (word : Word) (masks : List ℕ) (t' : List Row) (p' : List ElementPlaces) → word_of k (get_or fs 3 []) ≡ some word → masks_in s.attributes (drop 4 fs) ≡ Some masks → r ≡ behind_tree st end k fs
+      pub tree_told : (after : State) (word : Word) (masks : List ℕ) (t' : List Row) (p' : List ElementPlaces) → word_of k (get_or fs 3 []) ≡ some word → masks_in s.attributes (drop 4 fs) ≡ Some masks → after ≡ behind_tree st end k fs
           → t' ≡ with_row table st.tree.len (row_of (some word) (depth_of (get_or fs 1 [])) masks)
           → p' ≡ with_name places st.tree.len st.at (st.at + 4 + length (get_or fs 2 []))
-          → StepIs f table places t' p' st end (Ok r)
-      tree_told r word masks t' p' named good is_state is-table is-places =
+          → StepIs f table places t' p' st end after (Ok tt)
+      tree_told after word masks t' p' named good is_state is-table is-places =
           let (fine, masks-are) = masks_good s.attributes (drop 4 fs) good in
           let numbered : number_of_word (some word) ≡ number_of_word (word_of k (get_or fs 3 [])) = ap number_of_word (sym named) in
           record {

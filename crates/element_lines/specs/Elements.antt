@@ -1,5 +1,5 @@
 -- A tree line's element: the tests before that of its targets, its masks, and where it goes.
-use Rattle.std.specs.Prelude.{ℕ, ◌≤◌, ◌<◌, ◌+◌, ◌≡◌, ◌||◌, not, List, [], ◌∷◌, map, leb, length, drop, get_or}
+use Rattle.std.specs.Prelude.{◌≤◌, ◌<◌, ◌+◌, ◌≡◌, ◌||◌, not, List, [], ◌∷◌, map, leb, length, drop, get_or}
 use Rattle.meaning.specs.declared.Kind.{Kind}
 use Rattle.meaning.specs.declared.Element.{Element}
 use Rattle.meaning.specs.Text.{Bytes, empty, is_none, among_names}

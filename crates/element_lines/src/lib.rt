@@ -9,7 +9,6 @@ ghost use Rattle.refusals.specs.Numbers.{number_in};
 ghost use Rattle.table.specs.Rows.{row_of, with_row};
 ghost use Rattle.layout.specs.Nearest.{grown};
 ghost use Rattle.layout.specs.Places.{part, with_name, Named};
-ghost use Rattle.tree_fields.specs.Headed.{Headed};
 ghost use Rattle.element_lines.specs.Elements.{element_from, Behind, earlier_tests, Fits};
 ghost use Rattle.attribute_lines.specs.Sofar.{TreeLine};
 ghost use Rattle.attribute_lines.specs.Steps.{BeforeLine, EndedLine, StepIs};
@@ -19,29 +18,28 @@ use layout::{ElementPlaces, Tree};
 use meaning::{Kind, Word};
 use refusals::Refusal;
 use table::Row;
-use tree_fields::FieldEnds;
+use tree_fields::HeadedLine;
 
-// A tree line of this kind, and where its fields end.
+// A tree line of this kind.
 #[derive(Clone, Copy)]
-struct TreeFields<'a> {
+struct KindLine<'a> {
     kind: Kind,
-    line: &'a [u8],
-    ends: FieldEnds,
+    line: HeadedLine<'a>,
 }
 
 // The word of a tree line, or the lowest of 3 to 7 that refuses the line.
 fn element_word(
     file: &[u8],
-    st: State,
+    st: &State,
     places: &[ElementPlaces],
-    l: TreeFields,
+    l: KindLine,
 ) -> Result<Word, Refusal>
-    requires { Named file.now places.now st.tree.len × (st.tree.depth ≤ 7) × Headed l.line.now l.ends × ((s : Sofar) × Behind file.now st.attributes places.now st.tree s) }
-    ensures refusal { let l = l.entry in (s : Sofar) → Behind file.now st.attributes places.now st.tree s
-        → number_in result ≡ lowest (earlier_tests s (get_or (cut tab l.line.now) 3 []) (element_from s.attributes l.kind (cut tab l.line.now))) }
-    ensures word { let l = l.entry in IfOk result (λ word. word_of l.kind (get_or (cut tab l.line.now) 3 []) ≡ some word) }
+    requires { Named file.now places.now st.now.tree.len × (st.now.tree.depth ≤ 7) × ((s : Sofar) × Behind file.now st.now.attributes places.now st.now.tree s) }
+    ensures refusal { let l = l.entry in (s : Sofar) → Behind file.now st.now.attributes places.now st.now.tree s
+        → number_in result ≡ lowest (earlier_tests s (get_or (cut tab l.line.text.now) 3 []) (element_from s.attributes l.kind (cut tab l.line.text.now))) }
+    ensures word { let l = l.entry in IfOk result (λ word. word_of l.kind (get_or (cut tab l.line.text.now) 3 []) ≡ some word) }
 {
-    let name = tree_fields::name_field(l.line, l.ends);
+    let name = l.line.name();
     if !names::is_name(name) {
         return Err(Refusal::BadName);
     }
@@ -54,66 +52,60 @@ fn element_word(
     if st.attributes.len == 0 {
         return Err(Refusal::Misplaced);
     }
-    let depth = syntax::depth_of(tree_fields::depth_field(l.line, l.ends));
+    let depth = syntax::depth_of(l.line.depth());
     if !layout::well_placed(l.kind, depth, st.tree) {
         return Err(Refusal::Misplaced);
     }
-    syntax::word_of(l.kind, tree_fields::word_field(l.line, l.ends)).ok_or(Refusal::BadWord)
+    syntax::word_of(l.kind, l.line.word()).ok_or(Refusal::BadWord)
 }
 
 // Lays the element of a tree line down behind the others; what is given is the tree with it.
 fn lay_element(
-    st: State,
-    l: TreeFields,
+    st: &State,
+    l: KindLine,
     word: Word,
     masks: [u16; 6],
     table: &mut [Row],
     places: &mut [ElementPlaces],
 ) -> Tree
-    requires { Fits table.old places.old st (cut tab l.line.now) × Headed l.line.now l.ends }
-    ensures value { let l = l.entry in result ≡ grown st.tree l.kind (depth_of (get_or (cut tab l.line.now) 1 [])) }
-    ensures table_after { let l = l.entry in table.new ≡ with_row table.old st.tree.len (row_of (some word) (depth_of (get_or (cut tab l.line.now) 1 [])) masks) }
-    ensures places_after { let l = l.entry in places.new ≡ with_name places.old st.tree.len st.at (st.at + 4 + length (get_or (cut tab l.line.now) 2 [])) }
+    requires { Fits table.old places.old st.now (cut tab l.line.text.now) }
+    ensures value { let l = l.entry in result ≡ grown st.now.tree l.kind (depth_of (get_or (cut tab l.line.text.now) 1 [])) }
+    ensures table_after { let l = l.entry in table.new ≡ with_row table.old st.now.tree.len (row_of (some word) (depth_of (get_or (cut tab l.line.text.now) 1 [])) masks) }
+    ensures places_after { let l = l.entry in places.new ≡ with_name places.old st.now.tree.len st.now.at (st.now.at + 4 + length (get_or (cut tab l.line.text.now) 2 [])) }
 {
     let at = st.at;
-    let depth = syntax::depth_of(tree_fields::depth_field(l.line, l.ends));
-    let name = tree_fields::name_field(l.line, l.ends);
+    let depth = syntax::depth_of(l.line.depth());
+    let name = l.line.name();
     let row = Row::new(word, depth as u16, masks);
     layout::put_element(table, places, st.tree.len, row, at, at + 4 + name.len());
     layout::with_element(st.tree, l.kind, depth)
 }
 
 // A tree line of this kind and of so many fields.
-// (Seven parameters: the state goes on by value, and what it is laid into is lent by the reader.)
+// (Seven parameters: the state, and what an element is laid into, are lent by the reader.)
 pub fn tree_line(
     file: &[u8],
-    st: State,
+    st: &mut State,
     end: usize,
     kind: Kind,
     fields: usize,
     table: &mut [Row],
     places: &mut [ElementPlaces],
-) -> Result<State, Refusal>
-    requires { BeforeLine file.now table.old places.old st × EndedLine file.now st end × TreeLine (cut tab (part file.now st.at end)) kind fields }
-    ensures { StepIs file.now table.old places.old table.new places.new st end result }
+) -> Result<(), Refusal>
+    requires { BeforeLine file.now table.old places.old st.old × EndedLine file.now st.old end × TreeLine (cut tab (part file.now st.old.at end)) kind fields }
+    ensures { StepIs file.now table.old places.old table.new places.new st.old end st.new result }
 {
-    let attributes = st.attributes;
-    let line = &file[st.at..end];
-    if fields != 4 + attributes.len {
+    if fields != 4 + st.attributes.len {
         return Err(Refusal::BadLine);
     }
-    let ends = tree_fields::field_ends(line);
-    let l = TreeFields { kind, line, ends };
+    let line = HeadedLine::of(&file[st.at..end]);
+    let l = KindLine { kind, line };
     let word = element_word(file, st, places, l)?;
-    let Some(masks) = tree_fields::line_masks(file, attributes, line, ends) else {
+    let Some(masks) = line.masks(file, &st.attributes) else {
         return Err(Refusal::BadTarget);
     };
-    let tree = lay_element(st, l, word, masks, table, places);
-    Ok(State {
-        at: end + 1,
-        line: st.line + 1,
-        attributes,
-        space: st.space,
-        tree,
-    })
+    st.tree = lay_element(st, l, word, masks, table, places);
+    st.at = end + 1;
+    st.line += 1;
+    Ok(())
 }

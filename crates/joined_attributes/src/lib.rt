@@ -19,7 +19,7 @@ pub struct Part<'a> {
 }
 
 // For each attribute of the joined file its place among those of one file, or their count where that file lacks it; zeros behind the last. An
-// array and a length, since it is handed on by copying, as an `ArrayVec` can't be.
+// array and a length, without a heap; the definition `listed` goes over these two.
 #[derive(Clone, Copy)]
 pub struct Placing {
     pub places: [usize; 12],
@@ -31,8 +31,8 @@ fn differ(first: &Part, i: usize, second: &Part, j: usize) -> bool
     requires { (i < 6) × Standing first.now.file.now first.now.attributes i × (j < 6) × Standing second.now.file.now second.now.attributes j }
     ensures { result ≡ differs (attribute_at second.now.file.now second.now.attributes j) (attribute_at first.now.file.now first.now.attributes i) }
 {
-    let a = first.attributes;
-    let b = second.attributes;
+    let a = &first.attributes;
+    let b = &second.attributes;
     if !layout::has_name(first.file, a, i, b.name(second.file, j)) {
         return false;
     }
@@ -70,26 +70,22 @@ pub fn first_differing(first: &Part, second: &Part) -> Option<usize>
     None
 }
 
-// With one place more.
-fn with_place(p: Placing, place: usize) -> Placing
-    requires { p.len < 12 }
-    ensures { result ≡ record { places = set p.places p.len place; len = p.len + 1 } }
+// One place more.
+fn put_place(p: &mut Placing, place: usize)
+    requires { p.old.len < 12 }
+    ensures { p.new ≡ record { places = set p.old.places p.old.len place; len = p.old.len + 1 } }
 {
-    let len = p.len;
-    let mut places = p.places;
-    places[len] = place;
-    Placing {
-        places,
-        len: len + 1,
-    }
+    p.places[p.len] = place;
+    p.len += 1;
 }
 
-// The place of the attribute of this name among those of a file, or their count.
+// The place of the attribute of this name among those of a file, or their count: a number, since the definition `place_in` gives that
+// number too.
 fn place_in(own: &Part, name: &[u8]) -> usize
     requires { AllStanding own.now.file.now own.now.attributes }
     ensures { result ≡ place_in (attributes_of own.now.file.now own.now.attributes) name.now }
 {
-    layout::attribute_named(own.file, own.attributes, name).unwrap_or(own.attributes.len)
+    layout::attribute_named(own.file, &own.attributes, name).unwrap_or(own.attributes.len)
 }
 
 // Where the attributes of the first file stand among those of a file.
@@ -97,13 +93,13 @@ fn of_first(first: &Part, own: &Part) -> Placing
     requires { AllStanding first.now.file.now first.now.attributes × AllStanding own.now.file.now own.now.attributes }
     ensures { result ≡ listed (places_in (attributes_of own.now.file.now own.now.attributes) (attributes_of first.now.file.now first.now.attributes)) }
 {
-    let a = first.attributes;
+    let a = &first.attributes;
     let mut p = Placing {
         places: [0; 12],
         len: 0,
     };
     for i in 0..a.len {
-        p = with_place(p, place_in(own, a.name(first.file, i)));
+        put_place(&mut p, place_in(own, a.name(first.file, i)));
     }
     p
 }
@@ -114,14 +110,14 @@ pub fn places_in<'a>(first: &Part<'a>, second: &Part<'a>, own: &Part<'a>) -> Pla
     ensures value { result ≡ listed (places_in (attributes_of own.now.file.now own.now.attributes) (both (attributes_of first.now.file.now first.now.attributes) (attributes_of second.now.file.now second.now.attributes))) }
     ensures within { result.len ≤ 12 }
 {
-    let b = second.attributes;
+    let b = &second.attributes;
     let mut p = of_first(first, own);
     for j in 0..b.len {
         let name = b.name(second.file, j);
-        if layout::known_attribute(first.file, first.attributes, name) {
+        if layout::known_attribute(first.file, &first.attributes, name) {
             continue;
         }
-        p = with_place(p, place_in(own, name));
+        put_place(&mut p, place_in(own, name));
     }
     p
 }

@@ -24,7 +24,7 @@ fn put_attribute(part: &Part, i: usize, sink: &mut Sink)
     requires { let p = part.now in (i < 6) × Standing p.file.now p.attributes i × (length p.file.now ≤ 16384) × (sink.old.at ≤ 900000) }
     ensures { Puts sink.old (line (attribute_fields (attribute_at part.now.file.now part.now.attributes i))) sink.new × (sink.new.at ≤ sink.old.at + 16388) }
 {
-    let a = part.attributes;
+    let a = &part.attributes;
     put_letter(a.all[i].several, sink);
     sink.put_field(a.name(part.file, i), b'\t');
     sink.put_field(a.values(part.file, i), b'\n');
@@ -45,9 +45,9 @@ pub(crate) fn put_alone(first: &Part, second: &Part, sink: &mut Sink)
     requires { Headed first.now.file.now first.now.attributes × Headed second.now.file.now second.now.attributes × (sink.old.at ≤ 100000) }
     ensures { Puts sink.old (gathered (λ c. line (attribute_fields c)) (keep (λ c. not (declared (attributes_of first.now.file.now first.now.attributes) c.name)) (attributes_of second.now.file.now second.now.attributes))) sink.new × (sink.new.at ≤ sink.old.at + 98328) }
 {
-    let b = second.attributes;
+    let b = &second.attributes;
     for j in 0..b.len {
-        if layout::known_attribute(first.file, first.attributes, b.name(second.file, j)) {
+        if layout::known_attribute(first.file, &first.attributes, b.name(second.file, j)) {
             continue;
         }
         put_attribute(second, j, sink);

@@ -1,4 +1,5 @@
 // The text of two files that are joined. Each function puts a part into a sink; what does not fit is counted alone.
+// (The places of the joined attributes and a file's own count go on as two: `put_targets` alone looks at them, and a struct of both would say nothing more.)
 #![tactic(auto)]
 
 mod attributes;
@@ -16,9 +17,9 @@ use joined_attributes::{Part, Placing};
 use printing::Sink;
 
 // The lines of a file from `from` on, each one deeper, by the places of the joined attributes among its own `n`.
-fn put_tree(file: &[u8], from: usize, p: Placing, n: usize, sink: &mut Sink)
-    requires { Behind file.now from × (p.len ≤ 12) × (sink.old.at ≤ 1000000) }
-    ensures { Puts sink.old (gathered (deeper_placed (places_of p) n) (file_lines (drop from file.now))) sink.new × (sink.new.at ≤ sink.old.at + 524288) }
+fn put_tree(file: &[u8], from: usize, p: &Placing, n: usize, sink: &mut Sink)
+    requires { Behind file.now from × (p.now.len ≤ 12) × (sink.old.at ≤ 1000000) }
+    ensures { Puts sink.old (gathered (deeper_placed (places_of p.now) n) (file_lines (drop from file.now))) sink.new × (sink.new.at ≤ sink.old.at + 524288) }
 {
     let mut start = from;
     while start < file.len() {
@@ -38,6 +39,6 @@ pub fn put_joined<'a>(first: &Part<'a>, second: &Part<'a>, word: &[u8], sink: &m
     attributes::put_attributes(first, sink);
     attributes::put_alone(first, second, sink);
     attributes::put_set(word, p.len, sink);
-    put_tree(first.file, first.from, p, first.attributes.len, sink);
-    put_tree(second.file, second.from, q, second.attributes.len, sink);
+    put_tree(first.file, first.from, &p, first.attributes.len, sink);
+    put_tree(second.file, second.from, &q, second.attributes.len, sink);
 }

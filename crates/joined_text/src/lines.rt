@@ -1,13 +1,12 @@
 // A line of a file in the joined one: a tree line is one deeper, with a target at each of the joined attributes.
-ghost use Rattle.std.specs.Prelude.{◌∷◌, ◌≡◌, ◌+◌, ◌*◌, ◌≤◌, length};
+ghost use Rattle.std.specs.Prelude.{◌∷◌, ◌+◌, ◌*◌, ◌≤◌, length};
 ghost use Rattle.meaning.specs.Text.{gathered, cut, tab, line};
-ghost use Rattle.tree_fields.specs.Headed.{field_end, Headed};
 ghost use Rattle.printing.specs.Puts.{Puts};
 ghost use Rattle.joined_text.specs.Lines.{places_of, placed_target, head_text, deepened, deeper_placed, Fits};
 
 use joined_attributes::Placing;
 use printing::Sink;
-use tree_fields::FieldEnds;
+use tree_fields::HeadedLine;
 
 // The target at place k of a file's own n, with a tab before it; `*` where k is none of them.
 fn put_target(targets: &[u8], k: usize, n: usize, sink: &mut Sink)
@@ -23,46 +22,42 @@ fn put_target(targets: &[u8], k: usize, n: usize, sink: &mut Sink)
 }
 
 // The targets of a line, by the places of the joined attributes among a file's own n.
-fn put_targets(targets: &[u8], p: Placing, n: usize, sink: &mut Sink)
-    requires { (length targets.now ≤ 16384) × (p.len ≤ 12) × (sink.old.at ≤ 2000000) }
-    ensures { Puts sink.old (gathered (λ k. tab ∷ placed_target n (cut tab targets.now) k) (places_of p)) sink.new × (sink.new.at ≤ sink.old.at + 12 * (length targets.now + 2)) }
+fn put_targets(targets: &[u8], p: &Placing, n: usize, sink: &mut Sink)
+    requires { (length targets.now ≤ 16384) × (p.now.len ≤ 12) × (sink.old.at ≤ 2000000) }
+    ensures { Puts sink.old (gathered (λ k. tab ∷ placed_target n (cut tab targets.now) k) (places_of p.now)) sink.new × (sink.new.at ≤ sink.old.at + 12 * (length targets.now + 2)) }
 {
-    let places = p.places;
-    let len = p.len;
-    for i in 0..len {
-        put_target(targets, places[i], n, sink);
+    for i in 0..p.len {
+        put_target(targets, p.places[i], n, sink);
     }
 }
 
 // The fields before the targets of a tree line, one deeper.
-fn put_head(row: &[u8], e: FieldEnds, sink: &mut Sink)
-    requires { Headed row.now e × (e.letter ≡ field_end row.now 0) × (length row.now ≤ 16384) × (sink.old.at ≤ 1600000) }
-    ensures { Puts sink.old (head_text (cut tab row.now)) sink.new × (sink.new.at ≤ sink.old.at + 3 * length row.now + 5) }
+fn put_head(l: &HeadedLine, sink: &mut Sink)
+    requires { (length l.now.text.now ≤ 16384) × (sink.old.at ≤ 1600000) }
+    ensures { Puts sink.old (head_text (cut tab l.now.text.now)) sink.new × (sink.new.at ≤ sink.old.at + 3 * length l.now.text.now + 5) }
 {
-    let letter = e.letter;
-    let depth = syntax::depth_of(tree_fields::depth_field(row, e));
-    sink.put_field(&row[0..letter], b'\t');
+    let depth = syntax::depth_of(l.depth());
+    sink.put_field(l.letter(), b'\t');
     sink.put_number(depth + 1, b'\t');
-    sink.put_field(tree_fields::name_field(row, e), b'\t');
-    sink.put_bytes(tree_fields::word_field(row, e));
+    sink.put_field(l.name(), b'\t');
+    sink.put_bytes(l.word());
 }
 
 // A tree line, one deeper.
-fn put_deeper(row: &[u8], p: Placing, n: usize, sink: &mut Sink)
-    requires { (5 ≤ length (cut tab row.now)) × (length row.now ≤ 16384) × (p.len ≤ 12) × (sink.old.at ≤ 1600000) }
-    ensures { Puts sink.old (line (deepened (places_of p) n (cut tab row.now))) sink.new × (sink.new.at ≤ sink.old.at + 16 * (length row.now + 2)) }
+fn put_deeper(row: &[u8], p: &Placing, n: usize, sink: &mut Sink)
+    requires { (5 ≤ length (cut tab row.now)) × (length row.now ≤ 16384) × (p.now.len ≤ 12) × (sink.old.at ≤ 1600000) }
+    ensures { Puts sink.old (line (deepened (places_of p.now) n (cut tab row.now))) sink.new × (sink.new.at ≤ sink.old.at + 16 * (length row.now + 2)) }
 {
-    let e = tree_fields::field_ends(row);
-    let targets = e.word + 1;
-    put_head(row, e, sink);
-    put_targets(&row[targets..], p, n, sink);
+    let l = HeadedLine::of(row);
+    put_head(&l, sink);
+    put_targets(l.targets(), p, n, sink);
     sink.put(b'\n');
 }
 
 // A line behind a file's attribute lines: that of an obligation stays as it is.
-pub(crate) fn put_line(row: &[u8], p: Placing, n: usize, sink: &mut Sink)
-    requires { Fits row.now × (length row.now ≤ 16384) × (p.len ≤ 12) × (sink.old.at ≤ 1600000) }
-    ensures { Puts sink.old (deeper_placed (places_of p) n row.now) sink.new × (sink.new.at ≤ sink.old.at + 16 * (length row.now + 2)) }
+pub(crate) fn put_line(row: &[u8], p: &Placing, n: usize, sink: &mut Sink)
+    requires { Fits row.now × (length row.now ≤ 16384) × (p.now.len ≤ 12) × (sink.old.at ≤ 1600000) }
+    ensures { Puts sink.old (deeper_placed (places_of p.now) n row.now) sink.new × (sink.new.at ≤ sink.old.at + 16 * (length row.now + 2)) }
 {
     let to = text::end_of(row, 0, b'\t');
     if comparing::same(&row[0..to], b"O") {

@@ -43,6 +43,7 @@ module _ (line : Bytes) (four : 4 ≤ length (cut tab line)) {letter : ℕ} (let
         pub headed : Headed line (ends letter depth name word)
         headed =
             record {
+              letter = field_here (first_starts line) letter_ends;
               depth = field_here depth_starts depth_ends;
               name = field_here name_starts name_ends;
               word = field_here word_starts word_ends;

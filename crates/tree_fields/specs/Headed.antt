@@ -18,6 +18,7 @@ pub record FieldIs (line : Bytes) (k from to : ℕ) : Type 0 where
   pub is : take (to - from) (drop from line) ≡ get_or (cut tab line) k []
 
 pub record Headed (line : Bytes) (e : FieldEnds) : Type 0 where
+  pub letter : FieldIs line 0 0 e.letter
   pub depth : FieldIs line 1 (e.letter + 1) e.depth
   pub name : FieldIs line 2 (e.depth + 1) e.name
   pub word : FieldIs line 3 (e.name + 1) e.word

@@ -1,4 +1,4 @@
-// The fields of a tree line: where those before the targets end, found once, and the masks of its targets.
+// A tree line: where the fields before its targets end, found once; those fields; and the masks of its targets.
 #![tactic(auto)]
 
 ghost use Rattle.std.specs.Prelude.{◌≡◌, [], ◌+◌, ◌≤◌, length, drop, get_or};
@@ -18,64 +18,79 @@ pub struct FieldEnds {
     pub word: usize,
 }
 
-pub fn field_ends(line: &[u8]) -> FieldEnds
-    requires { 4 ≤ length (cut tab line.now) }
-    ensures value { result ≡ ends_of line.now }
-    ensures headed { Headed line.now result }
-{
-    let letter = text::end_of(line, 0, b'\t');
-    let depth = text::end_of(line, letter + 1, b'\t');
-    let name = text::end_of(line, depth + 1, b'\t');
-    let word = text::end_of(line, name + 1, b'\t');
-    FieldEnds {
-        letter,
-        depth,
-        name,
-        word,
+// A line of four fields or more, and where the first four end.
+#[derive(Clone, Copy)]
+pub struct HeadedLine<'a> {
+    pub text: &'a [u8],
+    pub ends: FieldEnds,
+    pub ghost headed: { Headed text.now ends },
+}
+
+impl<'a> HeadedLine<'a> {
+    pub fn of(line: &'a [u8]) -> HeadedLine<'a>
+        requires { 4 ≤ length (cut tab line.now) }
+        ensures text { result.text.now ≡ line.now }
+        ensures ends { result.ends ≡ ends_of line.now }
+    {
+        let letter = text::end_of(line, 0, b'\t');
+        let depth = text::end_of(line, letter + 1, b'\t');
+        let name = text::end_of(line, depth + 1, b'\t');
+        let word = text::end_of(line, name + 1, b'\t');
+        let ends = FieldEnds {
+            letter,
+            depth,
+            name,
+            word,
+        };
+        HeadedLine { text: line, ends }
     }
-}
 
-pub fn depth_field(line: &[u8], e: FieldEnds) -> &[u8]
-    requires { Headed line.now e }
-    ensures { result.now ≡ get_or (cut tab line.now) 1 [] }
-{
-    &line[e.letter + 1..e.depth]
-}
-
-pub fn name_field(line: &[u8], e: FieldEnds) -> &[u8]
-    requires { Headed line.now e }
-    ensures { result.now ≡ get_or (cut tab line.now) 2 [] }
-{
-    &line[e.depth + 1..e.name]
-}
-
-pub fn word_field(line: &[u8], e: FieldEnds) -> &[u8]
-    requires { Headed line.now e }
-    ensures { result.now ≡ get_or (cut tab line.now) 3 [] }
-{
-    &line[e.name + 1..e.word]
-}
-
-// The fields behind the word.
-pub fn target_fields(line: &[u8], e: FieldEnds) -> &[u8]
-    requires { Headed line.now e × (5 ≤ length (cut tab line.now)) }
-    ensures { cut tab result.now ≡ drop 4 (cut tab line.now) }
-{
-    &line[e.word + 1..]
-}
-
-// The masks of a tree line, one for each attribute, where all its targets are good.
-pub fn line_masks(file: &[u8], a: Attributes, line: &[u8], e: FieldEnds) -> Option<[u16; 6]>
-    requires { AllStanding file.now a × FewValues a × (1 ≤ a.len) × (length (cut tab line.now) ≡ 4 + a.len) × Headed line.now e }
-    ensures { result ≡ masks_in (attributes_of file.now a) (drop 4 (cut tab line.now)) }
-{
-    let targets = target_fields(line, e);
-    let mut masks = [0u16; 6];
-    let mut at = 0;
-    for i in 0..a.len {
-        let end = text::end_of(targets, at, b'\t');
-        masks[i] = syntax::target_mask(a.values(file, i), a.all[i].count, &targets[at..end])?;
-        at = end + 1;
+    pub fn letter(&self) -> &'a [u8]
+        ensures { result.now ≡ get_or (cut tab self.now.text.now) 0 [] }
+    {
+        &self.text[..self.ends.letter]
     }
-    Some(masks)
+
+    pub fn depth(&self) -> &'a [u8]
+        ensures { result.now ≡ get_or (cut tab self.now.text.now) 1 [] }
+    {
+        &self.text[self.ends.letter + 1..self.ends.depth]
+    }
+
+    pub fn name(&self) -> &'a [u8]
+        ensures { result.now ≡ get_or (cut tab self.now.text.now) 2 [] }
+    {
+        &self.text[self.ends.depth + 1..self.ends.name]
+    }
+
+    pub fn word(&self) -> &'a [u8]
+        ensures { result.now ≡ get_or (cut tab self.now.text.now) 3 [] }
+    {
+        &self.text[self.ends.name + 1..self.ends.word]
+    }
+
+    // The fields behind the word.
+    pub fn targets(&self) -> &'a [u8]
+        requires { 5 ≤ length (cut tab self.now.text.now) }
+        ensures fields { cut tab result.now ≡ drop 4 (cut tab self.now.text.now) }
+        ensures short { length result.now ≤ length self.now.text.now }
+    {
+        &self.text[self.ends.word + 1..]
+    }
+
+    // The masks of the targets, one for each attribute, where all of them are good.
+    pub fn masks(&self, file: &[u8], a: &Attributes) -> Option<[u16; 6]>
+        requires { AllStanding file.now a.now × FewValues a.now × (1 ≤ a.now.len) × (length (cut tab self.now.text.now) ≡ 4 + a.now.len) }
+        ensures { result ≡ masks_in (attributes_of file.now a.now) (drop 4 (cut tab self.now.text.now)) }
+    {
+        let targets = self.targets();
+        let mut masks = [0u16; 6];
+        let mut at = 0;
+        for i in 0..a.len {
+            let end = text::end_of(targets, at, b'\t');
+            masks[i] = syntax::target_mask(a.values(file, i), a.all[i].count, &targets[at..end])?;
+            at = end + 1;
+        }
+        Some(masks)
+    }
 }

@@ -75,62 +75,62 @@ word_given none e = rw e tt
 word_given (some w) e = rw e refl
 
 -- what is known once a test has passed
-name : (c : Else-not-is_name) → is_name (get_or (cut tab c.args.l.line.now) 2 []) ≡ true
-name c = of_name c.name_field-name.ensures c.is_name.ensures ∙ c.if-not-is_name.false
+name : (c : Else-not-is_name) → is_name (get_or (cut tab c.args.l.line.text.now) 2 []) ≡ true
+name c = of_name c.name-name.ensures c.is_name.ensures ∙ c.if-not-is_name.false
 
-place_left : (c : Else-st-eq0) (before : List Element) → let g = c.args in judged g.file.now g.st.attributes g.places.now g.st.tree g.l.kind (cut tab g.l.line.now) before
-    ≡ lowest ((6, not (well_placed g.l.kind (depth_of (get_or (cut tab g.l.line.now) 1 [])) before)) ∷ (7, is_none (word_of g.l.kind (get_or (cut tab g.l.line.now) 3 []))) ∷ [])
+place_left : (c : Else-st-eq0) (before : List Element) → let g = c.args in judged g.file.now g.st.now.attributes g.places.now g.st.now.tree g.l.kind (cut tab g.l.line.text.now) before
+    ≡ lowest ((6, not (well_placed g.l.kind (depth_of (get_or (cut tab g.l.line.text.now) 1 [])) before)) ∷ (7, is_none (word_of g.l.kind (get_or (cut tab g.l.line.text.now) 3 []))) ∷ [])
 place_left c before =
     let g = c.args in
-    let name = of_name c.name_field-name.ensures c.is_name.ensures ∙ c.if-not-is_name.false in
-    let fresh = of_known (names_to g.file.now g.places.now g.st.tree.len) c.name_field-name.ensures c.known_element.ensures ∙ c.if-known_element.false in
-    from_place g.file.now g.st.attributes g.places.now g.st.tree g.l.kind (cut tab g.l.line.now) name fresh c.if-st-ge64.false c.if-st-eq0.false before
+    let name = of_name c.name-name.ensures c.is_name.ensures ∙ c.if-not-is_name.false in
+    let fresh = of_known (names_to g.file.now g.places.now g.st.now.tree.len) c.name-name.ensures c.known_element.ensures ∙ c.if-known_element.false in
+    from_place g.file.now g.st.now.attributes g.places.now g.st.now.tree g.l.kind (cut tab g.l.line.text.now) name fresh c.if-st-ge64.false c.if-st-eq0.false before
 
 pub returns-then-not-is_name-clause-refusal : goal.returns-then-not-is_name-clause-refusal
 returns-then-not-is_name-clause-refusal c =
     let g = c.args in
-    let unnamed = of_name c.name_field-name.ensures c.is_name.ensures ∙ c.if-not-is_name.true in
-    answer g.file.now g.st.attributes g.places.now g.st.tree g.l.kind (cut tab g.l.line.now) 3 (λ before stands. rw unnamed)
+    let unnamed = of_name c.name-name.ensures c.is_name.ensures ∙ c.if-not-is_name.true in
+    answer g.file.now g.st.now.attributes g.places.now g.st.now.tree g.l.kind (cut tab g.l.line.text.now) 3 (λ before stands. rw unnamed)
 
 pub returns-then-known_element-clause-refusal : goal.returns-then-known_element-clause-refusal
 returns-then-known_element-clause-refusal c =
     let g = c.args in
     let at = goal.at.returns-then-known_element-clause-refusal c in
-    let known = of_known (names_to g.file.now g.places.now g.st.tree.len) c.name_field-name.ensures c.known_element.ensures ∙ c.if-known_element.true in
-    answer g.file.now g.st.attributes g.places.now g.st.tree g.l.kind (cut tab g.l.line.now) 4 (λ before stands. rw (name at.Else-not-is_name, known))
+    let known = of_known (names_to g.file.now g.places.now g.st.now.tree.len) c.name-name.ensures c.known_element.ensures ∙ c.if-known_element.true in
+    answer g.file.now g.st.now.attributes g.places.now g.st.now.tree g.l.kind (cut tab g.l.line.text.now) 4 (λ before stands. rw (name at.Else-not-is_name, known))
 
 pub returns-then-st-ge64-clause-refusal : goal.returns-then-st-ge64-clause-refusal
 returns-then-st-ge64-clause-refusal c =
     let g = c.args in
     let at = goal.at.returns-then-st-ge64-clause-refusal c in
-    let fresh = of_known (names_to g.file.now g.places.now g.st.tree.len) c.name_field-name.ensures c.known_element.ensures ∙ c.if-known_element.false in
-    answer g.file.now g.st.attributes g.places.now g.st.tree g.l.kind (cut tab g.l.line.now) 5 (λ before stands. rw (name at.Else-not-is_name, fresh, le-leb 64 _ c.if-st-ge64.true))
+    let fresh = of_known (names_to g.file.now g.places.now g.st.now.tree.len) c.name-name.ensures c.known_element.ensures ∙ c.if-known_element.false in
+    answer g.file.now g.st.now.attributes g.places.now g.st.now.tree g.l.kind (cut tab g.l.line.text.now) 5 (λ before stands. rw (name at.Else-not-is_name, fresh, le-leb 64 _ c.if-st-ge64.true))
 
 pub returns-then-st-eq0-clause-refusal : goal.returns-then-st-eq0-clause-refusal
 returns-then-st-eq0-clause-refusal c =
     let g = c.args in
     let at = goal.at.returns-then-st-eq0-clause-refusal c in
-    let fresh = of_known (names_to g.file.now g.places.now g.st.tree.len) c.name_field-name.ensures c.known_element.ensures ∙ c.if-known_element.false in
-    answer g.file.now g.st.attributes g.places.now g.st.tree g.l.kind (cut tab g.l.line.now) 6 (λ before stands. rw (name at.Else-not-is_name, fresh, lt-leb 64 _ c.if-st-ge64.false, eq-eqb _ 0 c.if-st-eq0.true))
+    let fresh = of_known (names_to g.file.now g.places.now g.st.now.tree.len) c.name-name.ensures c.known_element.ensures ∙ c.if-known_element.false in
+    answer g.file.now g.st.now.attributes g.places.now g.st.now.tree g.l.kind (cut tab g.l.line.text.now) 6 (λ before stands. rw (name at.Else-not-is_name, fresh, lt-leb 64 _ c.if-st-ge64.false, eq-eqb _ 0 c.if-st-eq0.true))
 
 pub returns-then-not-well_placed-clause-refusal : goal.returns-then-not-well_placed-clause-refusal
 returns-then-not-well_placed-clause-refusal c =
     let g = c.args in
     let at = goal.at.returns-then-not-well_placed-clause-refusal c in
-    answer g.file.now g.st.attributes g.places.now g.st.tree g.l.kind (cut tab g.l.line.now) 6
+    answer g.file.now g.st.now.attributes g.places.now g.st.now.tree g.l.kind (cut tab g.l.line.text.now) 6
     (λ before stands.
-    let misplaced = of_place g.l.kind before c.depth_field.ensures c.depth_of-depth.ensures.value (c.well_placed.ensures before stands) ∙ c.if-not-well_placed.true in
+    let misplaced = of_place g.l.kind before c.depth.ensures c.depth_of-depth.ensures.value (c.well_placed.ensures before stands) ∙ c.if-not-well_placed.true in
     place_left at.Else-st-eq0 before ∙ rw misplaced)
 
 pub returns : goal.returns
 returns c =
     let g = c.args in
     let at = goal.at.returns c in
-    let word = of_word g.l.kind c.word_field.ensures c.word_of.ensures in
+    let word = of_word g.l.kind c.word.ensures c.word_of.ensures in
     record {
-      refusal = rw c.ok_or.ensures.value (answer g.file.now g.st.attributes g.places.now g.st.tree g.l.kind (cut tab g.l.line.now) _
+      refusal = rw c.ok_or.ensures.value (answer g.file.now g.st.now.attributes g.places.now g.st.now.tree g.l.kind (cut tab g.l.line.text.now) _
           (λ before stands.
-          let placed = of_place g.l.kind before c.depth_field.ensures c.depth_of-depth.ensures.value (c.well_placed.ensures before stands) ∙ c.if-not-well_placed.false in
-          place_left at.Else-st-eq0 before ∙ rw placed (sym (word_tested (word_of g.l.kind (get_or (cut tab g.l.line.now) 3 [])) word))));
-      word = rw c.ok_or.ensures.value (word_given (word_of g.l.kind (get_or (cut tab g.l.line.now) 3 [])) word);
+          let placed = of_place g.l.kind before c.depth.ensures c.depth_of-depth.ensures.value (c.well_placed.ensures before stands) ∙ c.if-not-well_placed.false in
+          place_left at.Else-st-eq0 before ∙ rw placed (sym (word_tested (word_of g.l.kind (get_or (cut tab g.l.line.text.now) 3 [])) word))));
+      word = rw c.ok_or.ensures.value (word_given (word_of g.l.kind (get_or (cut tab g.l.line.text.now) 3 [])) word);
     }

@@ -18,48 +18,52 @@ use Rattle.element_lines.proofs.tree_line.Goals as goal
 behind : {f : List ℕ} {table : List Row} {places : List ElementPlaces} {st : State} → BeforeLine f table places st → Behind f st.attributes places st.tree (read_sofar f table places st)
 behind ready = record { attributes = refl; stands = ready.tree; names = element_names _ _ _ _ }
 
-pub returns-then-fields-attributes : goal.returns-then-fields-attributes
-returns-then-fields-attributes c =
+pub returns-then-fields-st : goal.returns-then-fields-st
+returns-then-fields-st c =
     let pre = c.requires in
-    count_told _ _ _ _ _ _ _ pre.0 pre.1 pre.2 c.if-fields-attributes.true
+    count_told _ _ _ _ _ _ _ pre.0 pre.1 pre.2 c.if-fields-st.true
 
-pub field_ends-ends-requires : goal.field_ends-ends-requires
-field_ends-ends-requires c =
+pub of-line-requires : goal.of-line-requires
+of-line-requires c =
     omega (arith, c.requires.2.count)
 
 pub element_word-requires : goal.element_word-requires
 element_word-requires c =
     let pre = c.requires in
-    (pre.0.rooms.named, pre.0.in_file.shallow, c.field_ends-ends.ensures.headed, (_, behind pre.0))
+    (pre.0.rooms.named, pre.0.in_file.shallow, (_, behind pre.0))
 
 pub returns-in_err-word : goal.returns-in_err-word
 returns-in_err-word c =
     let pre = c.requires in
     let same : c.from_residual.result ≡ Err c.in_err-word.field-0.0 = search rules in
-    rw same (earlier_told _ _ _ _ _ _ _ pre.0 pre.1 pre.2 c.if-fields-attributes.false _ (c.in_err-word.ensures.refusal _ (behind pre.0)))
+    let refused = rw c.of-line.ensures.text at (c.in_err-word.ensures.refusal _ (behind pre.0)) in
+    rw same (earlier_told _ _ _ _ _ _ _ pre.0 pre.1 pre.2 c.if-fields-st.false _ refused)
 
-pub line_masks-requires : goal.line_masks-requires
-line_masks-requires c =
+pub masks-requires : goal.masks-requires
+masks-requires c =
     let pre = c.requires in
-    let passed = sym (c.in_ok-word.ensures.refusal _ (behind pre.0)) in
+    let passed = rw c.of-line.ensures.text at (sym (c.in_ok-word.ensures.refusal _ (behind pre.0))) in
     let attributes = pre.0.in_file.attributes in
-    (attributes.standing, attributes.few_values, some_attribute _ _ _ _ _ _ _ pre.0 pre.1 pre.2 c.if-fields-attributes.false passed, sym pre.2.count ∙ c.if-fields-attributes.false, c.field_ends-ends.ensures.headed)
+    (attributes.standing, attributes.few_values, some_attribute _ _ _ _ _ _ _ pre.0 pre.1 pre.2 c.if-fields-st.false passed, rw c.of-line.ensures.text (sym pre.2.count ∙ c.if-fields-st.false))
 
 pub returns-in_default : goal.returns-in_default
 returns-in_default c =
     let pre = c.requires in
-    let passed = sym (c.in_ok-word.ensures.refusal _ (behind pre.0)) in
-    targets_told _ _ _ _ _ _ _ pre.0 pre.1 pre.2 c.if-fields-attributes.false passed (sym c.in_default.ensures)
+    let is = c.of-line.ensures.text in
+    let passed = rw is at (sym (c.in_ok-word.ensures.refusal _ (behind pre.0))) in
+    targets_told _ _ _ _ _ _ _ pre.0 pre.1 pre.2 c.if-fields-st.false passed (rw is at (sym c.in_default.ensures))
 
-pub lay_element-tree-requires : goal.lay_element-tree-requires
-lay_element-tree-requires c =
+pub lay_element-st-requires : goal.lay_element-st-requires
+lay_element-st-requires c =
     let pre = c.requires in
-    let passed = sym (c.in_ok-word.ensures.refusal _ (behind pre.0)) in
-    (room_there _ _ _ _ _ _ _ pre.0 pre.1 pre.2 c.if-fields-attributes.false passed (omega (arith, pre.1.ends)), c.field_ends-ends.ensures.headed)
+    let is = c.of-line.ensures.text in
+    let passed = rw is at (sym (c.in_ok-word.ensures.refusal _ (behind pre.0))) in
+    rw is (room_there _ _ _ _ _ _ _ pre.0 pre.1 pre.2 c.if-fields-st.false passed (omega (arith, pre.1.ends)))
 
 pub returns : goal.returns
 returns c =
     let pre = c.requires in
-    let passed = sym (c.in_ok-word.ensures.refusal _ (behind pre.0)) in
-    let put = c.lay_element-tree.ensures in
-    tree_told _ _ _ _ _ _ _ pre.0 pre.1 pre.2 c.if-fields-attributes.false passed _ _ _ _ _ c.in_ok-word.ensures.word (sym c.in-Some.ensures) (rw put.value) put.table_after put.places_after
+    let is = c.of-line.ensures.text in
+    let passed = rw is at (sym (c.in_ok-word.ensures.refusal _ (behind pre.0))) in
+    let put = c.lay_element-st.ensures in
+    tree_told _ _ _ _ _ _ _ pre.0 pre.1 pre.2 c.if-fields-st.false passed _ _ _ _ _ (rw is at c.in_ok-word.ensures.word) (rw is at (sym c.in-Some.ensures)) (rw (put.value, is)) (rw is at put.table_after) (rw is at put.places_after)

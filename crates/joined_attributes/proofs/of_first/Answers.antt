@@ -17,8 +17,8 @@ name-requires c =
 pub place_in-requires : goal.place_in-requires
 place_in-requires c = c.requires.1
 
-pub with_place-p-requires : goal.with_place-p-requires
-with_place-p-requires c =
+pub put_place-requires : goal.put_place-requires
+put_place-requires c =
     let l = c.loop-i in
     omega (arith, c.requires.0.few, ap (λ p. p.len) l.invariant, places_count c.args.first.now.file.now c.args.first.now.attributes (attributes_of c.args.own.now.file.now c.args.own.now.attributes) l.i)
 
@@ -27,7 +27,7 @@ loop-i-preserved c =
     let l = c.loop-i in
     let own = attributes_of c.args.own.now.file.now c.args.own.now.attributes in
     let place = c.place_in.ensures ∙ ap (place_in own) c.name.ensures in
-    c.with_place-p.ensures ∙ attribute_listed c.args.first.now.file.now c.args.first.now.attributes own (omega (arith, c.requires.0.few)) place l.invariant
+    c.put_place.ensures ∙ attribute_listed c.args.first.now.file.now c.args.first.now.attributes own (omega (arith, c.requires.0.few)) place l.invariant
 
 pub returns : goal.returns
 returns c =

@@ -24,8 +24,8 @@ loop-j-preserved-then-known_attribute c =
     let known = sym (c.known_attribute.ensures ∙ ap (declared first) c.name-name.ensures) ∙ c.if-known_attribute.true in
     known_passed c.args.second.now.file.now c.args.second.now.attributes (attributes_of c.args.own.now.file.now c.args.own.now.attributes) first l.j known l.invariant
 
-pub with_place-p-requires : goal.with_place-p-requires
-with_place-p-requires c =
+pub put_place-requires : goal.put_place-requires
+put_place-requires c =
     let l = c.loop-j in
     omega (
       arith,
@@ -44,7 +44,7 @@ loop-j-preserved c =
     let own = attributes_of c.args.own.now.file.now c.args.own.now.attributes in
     let alone = sym (c.known_attribute.ensures ∙ ap (declared first) name) ∙ c.if-known_attribute.false in
     let place = c.place_in.ensures ∙ ap (place_in own) name in
-    c.with_place-p.ensures ∙ alone_listed c.args.second.now.file.now c.args.second.now.attributes own first l.j (omega (arith, c.requires.0.few, c.requires.1.few, attributes_length c.args.first.now.file.now c.args.first.now.attributes)) alone place l.invariant
+    c.put_place.ensures ∙ alone_listed c.args.second.now.file.now c.args.second.now.attributes own first l.j (omega (arith, c.requires.0.few, c.requires.1.few, attributes_length c.args.first.now.file.now c.args.first.now.attributes)) alone place l.invariant
 
 pub returns : goal.returns
 returns c =

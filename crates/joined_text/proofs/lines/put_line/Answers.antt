@@ -10,7 +10,7 @@ pub returns-then-same : goal.returns-then-same
 returns-then-same c =
     let row = c.args.row.now in
     let letter = c.same.ensures ∙ ap (λ t. same t (bytes "O")) (first_field row c.end_of-to.result (omega (arith, c.end_of-to.ensures.value))) in
-    kept_row_lem row (places_of c.args.p) c.args.n (sym letter ∙ c.if-same.true) c.put_field.ensures
+    kept_row_lem row (places_of c.args.p.now) c.args.n (sym letter ∙ c.if-same.true) c.put_field.ensures
 
 pub put_deeper-requires : goal.put_deeper-requires
 put_deeper-requires c =
@@ -22,4 +22,4 @@ pub returns-else-same : goal.returns-else-same
 returns-else-same c =
     let row = c.args.row.now in
     let letter = c.same.ensures ∙ ap (λ t. same t (bytes "O")) (first_field row c.end_of-to.result (omega (arith, c.end_of-to.ensures.value))) in
-    other_row row (places_of c.args.p) c.args.n (sym letter ∙ c.if-same.false) c.put_deeper.ensures
+    other_row row (places_of c.args.p.now) c.args.n (sym letter ∙ c.if-same.false) c.put_deeper.ensures

@@ -30,7 +30,7 @@ returns c =
     let args = c.args in
     let l = c.loop-i in
     let each : ℕ → Bytes = λ k. tab ∷ placed_target args.n (cut tab args.targets.now) k in (
-      same_text (sym (gathered_map each (λ i. get_or args.p.places i 0) (counting 0 args.p.len)))
-          (ended_all l.invariant args.p.len (omega arith)),
+      same_text (sym (gathered_map each (λ i. get_or args.p.now.places i 0) (counting 0 args.p.now.len)))
+          (ended_all l.invariant args.p.now.len (omega arith)),
       omega (arith, l.invariant.within, room_for (length args.targets.now + 2) (l.i - 0) (omega (arith, c.requires))),
     )

@@ -3,7 +3,7 @@ use Prim.Native.Nat.{◌<◌}
 use Rattle.meaning.specs.Text.{cut, tab}
 use Rattle.text.proofs.Fields.{Starts}
 use Rattle.tree_fields.proofs.TargetWalk.{Walked}
-use Rattle.tree_fields.proofs.line_masks.Given as goal
+use Rattle.tree_fields.proofs.HeadedLine.masks.Given as goal
 
 abbrev pub invariant-loop-i : goal.invariant-loop-i
 invariant-loop-i l = Walked l.file l.a (cut tab l.targets) l.masks l.i × (l.i < l.a.len → Starts l.targets l.i l.at)
