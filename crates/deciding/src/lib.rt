@@ -22,7 +22,7 @@ use table::Row;
 fn bit_of(told: bool) -> u64
     ensures { bit result 0 ≡ told }
 {
-    if told { 1 } else { 0 }
+    u64::from(told)
 }
 
 // Lays down for each element whether the request matches its own target: in bit 0 of its first word.

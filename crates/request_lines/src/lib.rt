@@ -25,9 +25,9 @@ fn choose(several: bool, values: &[u8], field: &[u8]) -> Option<usize>
 }
 
 // The request of a line that has a field for each attribute, or the place of the first field that is no value and no set.
-fn read_fields(file: &[u8], a: Attributes, line: &[u8]) -> Result<Request, Refused>
-    requires { AllStanding file.now a × FewValues a × (length (cut tab line.now) ≡ a.len) }
-    ensures { AskedAs a result (values_of 1 (attributes_of file.now a) (cut tab line.now)) }
+fn read_fields(file: &[u8], a: &Attributes, line: &[u8]) -> Result<Request, Refused>
+    requires { AllStanding file.now a.now × FewValues a.now × (length (cut tab line.now) ≡ a.now.len) }
+    ensures { AskedAs a.now result (values_of 1 (attributes_of file.now a.now) (cut tab line.now)) }
 {
     let mut values = [0usize; 6];
     let mut at = 0;
@@ -51,9 +51,9 @@ fn read_fields(file: &[u8], a: Attributes, line: &[u8]) -> Result<Request, Refus
 
 // What a request line asks of a file with these attributes; or the place of the field that refuses it, 0 for a wrong count
 // of fields. The fields are counted first.
-pub fn request_line(file: &[u8], a: Attributes, line: &[u8]) -> Result<Request, Refused>
-    requires { AllStanding file.now a × FewValues a }
-    ensures { AskedAs a result (request_line (attributes_of file.now a) line.now) }
+pub fn request_line(file: &[u8], a: &Attributes, line: &[u8]) -> Result<Request, Refused>
+    requires { AllStanding file.now a.now × FewValues a.now }
+    ensures { AskedAs a.now result (request_line (attributes_of file.now a.now) line.now) }
 {
     if text::count_pieces(line, b'\t') != a.len {
         return Err(Refused {

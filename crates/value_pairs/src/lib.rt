@@ -18,9 +18,9 @@ use printing::{Sink, Text};
 use refusals::{Refusal, Refused};
 
 // The place of the attribute of an `M` line that has this name.
-fn several_at(file: &[u8], a: Attributes, name: &[u8]) -> Option<usize>
-    requires { AllStanding file.now a }
-    ensures { several_at 0 name.now (attributes_of file.now a) ≡ place_or13 result }
+fn several_at(file: &[u8], a: &Attributes, name: &[u8]) -> Option<usize>
+    requires { AllStanding file.now a.now }
+    ensures { several_at 0 name.now (attributes_of file.now a.now) ≡ place_or13 result }
 {
     let len = a.len;
     for i in 0..len {
@@ -130,8 +130,8 @@ impl Text for Pairs<'_> {
 }
 
 // The lines of the attribute that has the name, in a lent buffer, for a policy file that was read.
-pub fn tell(policy: PolicyFile, attributes: Attributes, name: &[u8], out: &mut [u8]) -> Answer
-    requires { PolicyDecided policy.file.now attributes policy.table.now policy.shape }
+pub fn tell(policy: PolicyFile, attributes: &Attributes, name: &[u8], out: &mut [u8]) -> Answer
+    requires { PolicyDecided policy.file.now attributes.now policy.table.now policy.shape }
     ensures value { result ≡ value_pairs_answer policy.entry.file.now name.now out.old }
     ensures out_after { out.new ≡ value_pairs_lent policy.entry.file.now name.now out.old }
 {
