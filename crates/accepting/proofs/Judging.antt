@@ -8,6 +8,7 @@ use mathlib.Core.List.{List}
 use mathlib.Core.Option.{Option, none, some, map}
 use lib.ListN.{length, get_or}
 use borrow.Author.Tests.{not-false}
+use Rattle.std.specs.Prelude.{Option as Found, Some}
 use Rattle.meaning.specs.Text.{Bytes, first_from}
 use Rattle.meaning.specs.Model.{Policy, given, unless_found}
 use Rattle.meaning.specs.Reading.{read}
@@ -15,6 +16,7 @@ use Rattle.meaning.specs.Deciding.{same_outcome, outcome}
 use Rattle.meaning.specs.Trimming.{lines, first_changed, needless, file_lines}
 use Rattle.meaning.specs.Accepting.{first_other, first_needless, judged, accept_file}
 use Rattle.meaning.specs.Operations.{answered, accept_answer}
+use Rattle.laws.specs.Found.{found}
 use Rattle.laws.proofs.Search.{first_some, first_none}
 use Rattle.laws.proofs.Outcomes.{same_outcome_lem}
 use Rattle.laws.proofs.OtherLines.{none_other}
@@ -69,6 +71,14 @@ module _ (f : Bytes) (places : List ElementPlaces) (table : List Row) (s : Shape
 
   pub rule_below : (i : ℕ) → rules ≡ some i → i < s.n
   rule_below i e = omega (arith, (first_some (table-level.needless_at f places table s.n (hit_of s) s.space struck) 0 s.n i e).high)
+
+  -- no request differs where none was found among them
+  pub no_request : {first : Found ℕ} → first ≡ found requests → ((m : ℕ) → first ≡ Some m → m < s.space → ⊥) → requests ≡ none
+  no_request is never_found = go requests refl
+    where
+      go : (o : Option ℕ) → requests ≡ o → requests ≡ none
+      go none e = e
+      go (some m) e = absurd (never_found m (is ∙ ap found e) (request_below m e))
 
   -- where no request differs, the decisions laid down are those under the flags too
   pub same_laid : requests ≡ none → (outcomes : List Effects) → OutcomesLaid table none_struck outcomes s → OutcomesLaid table struck outcomes s

@@ -44,9 +44,8 @@ fn first_needless(o: &PolicyOutcomes, struck: &mut [u8]) -> Option<usize>
     requires { let p = o.now.policy in Laid p.file.now p.places.now p.table.now struck.old o.now.hits.now o.now.outcomes.now p.shape }
     ensures { let p = o.now.policy in (result ≡ found (first_from (needless_at p.file.now p.places.now p.table.now p.shape.n (hit_of p.shape) p.shape.space struck.old) 0 p.shape.n)) × (struck.new ≡ struck.old) }
 {
-    let space = o.policy.shape.space;
     for i in 0..o.policy.shape.n {
-        match trials::try_rule(o, struck, i, space) {
+        match trials::try_rule(o, struck, i, None) {
             Tried::Needless => return Some(i),
             Tried::Needed(_) => continue,
             Tried::Other => continue,

@@ -199,6 +199,7 @@ impl<'a> PolicyOutcomes<'a> {
 }
 
 // The first request of all that gets another decision under `struck` than under `before`, or other obligations; the outcomes are those under `before`. Only requests that match an element struck can.
+// (With `trials::first_change` it shares the `for` over blocks alone.)
 pub fn first_difference(
     policy: PolicyFile,
     hits: &[[u64; 64]],

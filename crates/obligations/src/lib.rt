@@ -21,37 +21,6 @@ fn spells(byte: u8, permit: bool) -> bool
     !permit
 }
 
-// Stores the name in place k of element i's obligations, if there is one and its effect is that one.
-fn put_obligation(
-    file: &[u8],
-    places: &[ElementPlaces],
-    i: usize,
-    k: usize,
-    permit: bool,
-    sink: &mut Sink,
-)
-    requires { Obliged file.now places.now i × (k < 2) × (sink.old.at + 17 < 2 ^ 64) }
-    ensures { Puts sink.old (slot_text (effect permit) file.now places.now i k) sink.new × (sink.new.at ≤ sink.old.at + 17) }
-{
-    let name = places[i].obligation(k);
-    if name.is_none() {
-        return;
-    }
-    if !spells(file[name.end + 1], permit) {
-        return;
-    }
-    sink.put_field(&file[name.start..name.end], 10);
-}
-
-// Stores those of element i.
-fn put_own(file: &[u8], places: &[ElementPlaces], i: usize, permit: bool, sink: &mut Sink)
-    requires { Obliged file.now places.now i × (sink.old.at + 34 < 2 ^ 64) }
-    ensures { Puts sink.old (spelling (effect permit) (obligations_in file.now places.now i)) sink.new × (sink.new.at ≤ sink.old.at + 34) }
-{
-    put_obligation(file, places, i, 0, permit, sink);
-    put_obligation(file, places, i, 1, permit, sink);
-}
-
 // A word of 64 requests for each of n elements, whose obligations lie in a file: bit v marks those that come with request v.
 #[derive(Clone, Copy)]
 pub struct Marks<'a> {
@@ -62,6 +31,30 @@ pub struct Marks<'a> {
 }
 
 impl<'a> Marks<'a> {
+    // Stores the name in place k of element i's obligations, if there is one and its effect is that one.
+    fn put_obligation(&self, i: usize, k: usize, permit: bool, sink: &mut Sink)
+        requires { Obliged self.now.file.now self.now.places.now i × (k < 2) × (sink.old.at + 17 < 2 ^ 64) }
+        ensures { Puts sink.old (slot_text (effect permit) self.now.file.now self.now.places.now i k) sink.new × (sink.new.at ≤ sink.old.at + 17) }
+    {
+        let name = self.places[i].obligation(k);
+        if name.is_none() {
+            return;
+        }
+        if !spells(self.file[name.end + 1], permit) {
+            return;
+        }
+        sink.put_field(&self.file[name.start..name.end], 10);
+    }
+
+    // Stores those of element i.
+    fn put_own(&self, i: usize, permit: bool, sink: &mut Sink)
+        requires { Obliged self.now.file.now self.now.places.now i × (sink.old.at + 34 < 2 ^ 64) }
+        ensures { Puts sink.old (spelling (effect permit) (obligations_in self.now.file.now self.now.places.now i)) sink.new × (sink.new.at ≤ sink.old.at + 34) }
+    {
+        self.put_obligation(i, 0, permit, sink);
+        self.put_obligation(i, 1, permit, sink);
+    }
+
     // Stores the obligations of the elements in whose word bit v is set.
     pub fn put(&self, v: usize, permit: bool, sink: &mut Sink)
         requires { Giving self.now.file.now self.now.places.now self.now.words.now self.now.n v × (sink.old.at + 2176 < 2 ^ 64) }
@@ -69,7 +62,7 @@ impl<'a> Marks<'a> {
     {
         for i in 0..self.n {
             if (self.words[i] >> v) % 2 == 1 {
-                put_own(self.file, self.places, i, permit, sink);
+                self.put_own(i, permit, sink);
             }
         }
     }

@@ -1,5 +1,5 @@
 -- What is asked where a rule is tried.
-use Rattle.std.specs.Prelude.{ℕ, ◌≤◌, ◌<◌, ◌≡◌, Bool, true, false, List, get_or, Option, Some, None}
+use Rattle.std.specs.Prelude.{ℕ, ◌<◌, ◌≡◌, Bool, true, false, List, get_or, Option, Some, None, IfSome}
 use Rattle.std.proofs.Math.Option.{none}
 use Rattle.meaning.specs.Text.{Bytes, first_from}
 use Rattle.meaning.specs.declared.Element.{Element}
@@ -20,10 +20,9 @@ use Rattle.trials.specs.Decided.{changes_at, needless_at}
 use Rattle.trials.specs.Steady.{Aside, Steady}
 use Rattle.layout.specs.declared.ElementPlaces.{ElementPlaces}
 
--- element `up`, unless it is n, has the rule as a child and looks at its children's decisions alone
-pub record Grouped (t : List Row) (n rule up : ℕ) : Type 0 where
-  pub within : up ≤ n
-  pub under : up < n → Under t up rule
+-- element `up`, if there is one, has the rule as a child and looks at its children's decisions alone
+abbrev pub Grouped : List Row → ℕ → Option ℕ → Type 0
+Grouped t rule up = IfSome up (λ i. Under t i rule)
 
 -- a file, its table and the flags, which requests match, and the decisions laid down: what is asked where rules are tried
 pub record Laid (f : Bytes) (places : List ElementPlaces) (t : List Row) (struck : List ℕ) (hits : List (List ℕ)) (outcomes : List Effects) (s : Shape) : Type 0 where
@@ -40,9 +39,9 @@ pub record Trial (f : Bytes) (places : List ElementPlaces) (t : List Row) (struc
   pub holds : OutcomesLaid t (kept struck rule) outcomes s
 
 -- each bit of the word says whether the rule moves what `up` decides; where there is no such element, whether it matches
-pub record Reached (t : List Row) (struck : List ℕ) (hits : List (List ℕ)) (n block up rule word : ℕ) : Type 0 where
-  pub moves : up < n → (v : ℕ) (hit : Element → Bool) → Answers t hits n block v hit → bit word v ≡ moved_at hit t struck n up rule
-  pub matches : n ≤ up → word ≡ word_in hits rule block
+abbrev pub Reached : (t : List Row) (struck : List ℕ) (hits : List (List ℕ)) (n block : ℕ) → Option ℕ → (rule word : ℕ) → Type 0
+Reached t struck hits n block (Some up) rule word = (v : ℕ) (hit : Element → Bool) → Answers t hits n block v hit → bit word v ≡ moved_at hit t struck n up rule
+Reached t struck hits n block None rule word = word ≡ word_in hits rule block
 
 -- a request that passes the test, if one does
 abbrev pub Tries : (test : ℕ → Bool) → ℕ → Option ℕ → Type 0

@@ -1,9 +1,10 @@
 // Whether a rule does work: what requests get with it and without it, over a policy's file, a lent table of its elements and a flag for each. One that is not 0 strikes its element.
+// (Flags and a rule go on beside the outcomes: the flags are lent to be changed, and changed back, around each try.)
 #![tactic(auto)]
 
 mod trial;
 
-ghost use Rattle.std.specs.Prelude.{◌≡◌, true, false, ◌++◌, map, ◌≤◌, ◌<◌, length, drop};
+ghost use Rattle.std.specs.Prelude.{◌≡◌, true, false, ◌++◌, map, ◌+◌, ◌≤◌, ◌<◌, length, drop};
 ghost use Rattle.meaning.specs.Text.{counting, first_from};
 ghost use Rattle.table.specs.Rows.{Rows};
 ghost use Rattle.laws.specs.Found.{found};
@@ -28,24 +29,25 @@ pub enum Tried {
     Needed(usize),
 }
 
-// The element whose child a rule is, if it looks at its children's decisions alone; n for any other rule.
-fn group_over(table: &[Row], n: usize, rule: usize) -> usize
-    requires { Rows table.now n × (rule < n) }
-    ensures { Grouped table.now n rule result }
+// The element whose child a rule is, if it looks at its children's decisions alone.
+fn group_over(table: &[Row], rule: usize) -> Option<usize>
+    requires { Rows table.now (rule + 1) }
+    ensures { Grouped table.now rule result }
 {
     let up = table::over(table, rule);
     if table::depth_at(table, up) + 1 != table::depth_at(table, rule) {
-        return n;
+        return None;
     }
     match table::word_at(table, up) {
-        Word::DenyOverrides | Word::PermitOverrides | Word::FirstApplicable => up,
-        _ => n,
+        Word::DenyOverrides | Word::PermitOverrides | Word::FirstApplicable => Some(up),
+        _ => None,
     }
 }
 
 // The first request that gets another decision than the one laid down, or other obligations. Only requests that match the rule can.
-fn first_change(o: &PolicyOutcomes, struck: &[u8], up: usize, rule: usize) -> Option<usize>
-    requires { let p = o.now.policy in Trial p.file.now p.places.now p.table.now struck.now o.now.hits.now o.now.outcomes.now p.shape rule × Grouped p.table.now p.shape.n rule up }
+// (With `differences::first_difference` it shares the `for` over blocks alone.)
+fn first_change(o: &PolicyOutcomes, struck: &[u8], up: Option<usize>, rule: usize) -> Option<usize>
+    requires { let p = o.now.policy in Trial p.file.now p.places.now p.table.now struck.now o.now.hits.now o.now.outcomes.now p.shape rule × Grouped p.table.now rule up }
     ensures { let p = o.now.policy in result ≡ found (first_from (apart_at p.file.now p.places.now p.table.now p.shape.n (hit_of p.shape) struck.now rule) 0 p.shape.space) }
 {
     for block in 0..(o.policy.shape.space + 63) / 64 {
@@ -59,23 +61,25 @@ fn first_change(o: &PolicyOutcomes, struck: &[u8], up: usize, rule: usize) -> Op
     None
 }
 
-// A request that gets another decision than the one laid down, or other obligations, without the rule: one of the hint's block, else the first of all.
-fn some_change(o: &PolicyOutcomes, struck: &[u8], rule: usize, hint: usize) -> Option<usize>
+// A request that gets another decision than the one laid down, or other obligations, without the rule: one of the hint's block, else the first of all. A hint may be no request.
+fn some_change(o: &PolicyOutcomes, struck: &[u8], rule: usize, hint: Option<usize>) -> Option<usize>
     requires { let p = o.now.policy in Trial p.file.now p.places.now p.table.now struck.now o.now.hits.now o.now.outcomes.now p.shape rule }
     ensures { let p = o.now.policy in Tries (apart_at p.file.now p.places.now p.table.now p.shape.n (hit_of p.shape) struck.now rule) p.shape.space result }
 {
     let shape = o.policy.shape;
-    let up = group_over(o.policy.table, shape.n, rule);
-    if hint < shape.space {
-        if let Some(near) = trial::change_at(o, struck, up, rule, hint / 64) {
-            return Some(near);
+    let up = group_over(o.policy.table, rule);
+    if let Some(hint) = hint {
+        if hint < shape.space {
+            if let Some(near) = trial::change_at(o, struck, up, rule, hint / 64) {
+                return Some(near);
+            }
         }
     }
     first_change(o, struck, up, rule)
 }
 
 // Tries element i: whether it is a rule without which every request gets the same decision and the same obligations; the decisions with it are laid down.
-pub fn try_rule(o: &PolicyOutcomes, struck: &mut [u8], i: usize, hint: usize) -> Tried
+pub fn try_rule(o: &PolicyOutcomes, struck: &mut [u8], i: usize, hint: Option<usize>) -> Tried
     requires { let p = o.now.policy in Laid p.file.now p.places.now p.table.now struck.old o.now.hits.now o.now.outcomes.now p.shape × (i < p.shape.n) }
     ensures { let p = o.now.policy in Tells p.file.now p.places.now p.table.now struck.old p.shape i result × (struck.new ≡ struck.old) }
 {
@@ -107,7 +111,7 @@ pub fn is_needless(policy: PolicyFile, struck: &mut [u8], i: usize) -> bool
         outcomes: &outcomes,
         obliged,
     };
-    match try_rule(&o, struck, i, shape.space) {
+    match try_rule(&o, struck, i, None) {
         Tried::Needless => true,
         Tried::Needed(_) => false,
         Tried::Other => false,
@@ -119,7 +123,7 @@ fn needed_by(o: &PolicyOutcomes, struck: &mut [u8], rule: usize) -> Option<usize
     requires { let p = o.now.policy in Laid p.file.now p.places.now p.table.now struck.old o.now.hits.now o.now.outcomes.now p.shape × (rule < p.shape.n) × (rule_left p.table.now struck.old rule ≡ true) }
     ensures { let p = o.now.policy in (result ≡ found (first_change_at p.file.now p.places.now p.table.now p.shape.n (hit_of p.shape) p.shape.space struck.old rule)) × (struck.new ≡ struck.old) }
 {
-    let up = group_over(o.policy.table, o.policy.shape.n, rule);
+    let up = group_over(o.policy.table, rule);
     struck[rule] = 1;
     let shown = first_change(o, struck, up, rule);
     struck[rule] = 0;

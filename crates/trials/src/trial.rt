@@ -1,5 +1,5 @@
 // One rule tried on the requests of one block: the first that gets another decision, or other obligations, without it.
-ghost use Rattle.std.specs.Prelude.{◌≡◌, ◌*◌, ◌≤◌, ◌<◌, length};
+ghost use Rattle.std.specs.Prelude.{◌≡◌, ◌*◌, ◌≤◌, ◌<◌, length, IfSome};
 ghost use Rattle.table.specs.Shape.{hit_of};
 ghost use Rattle.moves.specs.Moved.{kept, Child};
 ghost use Rattle.outcomes.specs.Changes.{InBlock};
@@ -40,25 +40,25 @@ fn change_among(
 }
 
 // The requests of the block that may get something else without the rule: those on which it moves what the element over it decides; where there is none, those that match it.
-fn reached(b: &Block, up: usize, rule: usize) -> u64
-    requires { (rule < b.now.n) × (up < b.now.n → Child b.now.table.now b.now.struck.now b.now.n up rule) }
+fn reached(b: &Block, up: Option<usize>, rule: usize) -> u64
+    requires { (rule < b.now.n) × IfSome up (λ i. Child b.now.table.now b.now.struck.now b.now.n i rule) }
     ensures { Reached b.now.table.now b.now.struck.now b.now.hits.now b.now.n b.now.block up rule result }
 {
-    if up < b.n {
-        return moves::moved(b, up, rule);
+    match up {
+        Some(group) => moves::moved(b, group, rule),
+        None => b.matched(rule),
     }
-    b.matched(rule)
 }
 
 // The first request of the block that gets another decision than the one laid down, or other obligations. The first element is asked only where the rule moves what the element over it decides.
 pub(crate) fn change_at(
     o: &PolicyOutcomes,
     struck: &[u8],
-    up: usize,
+    up: Option<usize>,
     rule: usize,
     block: usize,
 ) -> Option<usize>
-    requires { let p = o.now.policy in Trial p.file.now p.places.now p.table.now struck.now o.now.hits.now o.now.outcomes.now p.shape rule × Grouped p.table.now p.shape.n rule up × (64 * block < p.shape.space) }
+    requires { let p = o.now.policy in Trial p.file.now p.places.now p.table.now struck.now o.now.hits.now o.now.outcomes.now p.shape rule × Grouped p.table.now rule up × (64 * block < p.shape.space) }
     ensures { let p = o.now.policy in InBlock (apart_at p.file.now p.places.now p.table.now p.shape.n (hit_of p.shape) struck.now rule) p.shape.space block result }
 {
     let shape = o.policy.shape;
@@ -73,7 +73,7 @@ pub(crate) fn change_at(
     if moved == 0 {
         return None;
     }
-    if up == 0 {
+    if up == Some(0) {
         return Some(64 * block + blocks::lowest(moved) as usize);
     }
     change_among(o, struck, rule, block, moved)

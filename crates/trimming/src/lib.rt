@@ -41,7 +41,7 @@ fn next_rule(o: &PolicyOutcomes, struck: &mut [u8], hints: &mut [Hint]) -> Optio
         if hint.known {
             continue;
         }
-        match trials::try_rule(o, struck, i, hint.request as usize) {
+        match trials::try_rule(o, struck, i, Some(hint.request as usize)) {
             Tried::Needless => return Some(i),
             Tried::Needed(m) => {
                 hints[i] = Hint {

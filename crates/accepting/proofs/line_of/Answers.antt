@@ -15,7 +15,7 @@ pub loop-j-preserved-then-struck-j-ne0 : goal.loop-j-preserved-then-struck-j-ne0
 loop-j-preserved-then-struck-j-ne0 c =
     let a = c.args in
     let turn = c.loop-j in
-    (omega (arith, turn.invariant.0), omega (arith, turn.invariant.1, line_struck a.places.now a.struck.now a.i turn.j c.loop-j-test.true c.if-struck-j-ne0.true))
+    (omega (arith, turn.invariant.0), omega (arith, turn.invariant.1, line_struck a.places.now a.struck.now a.i turn.j c.loop-j-test.true (omega (arith, c.if-struck-j-ne0.true))))
 
 pub obligation_count-requires : goal.obligation_count-requires
 obligation_count-requires c = omega (arith, c.requires.0, c.loop-j-test.true)
@@ -30,7 +30,7 @@ loop-j-preserved c =
     let a = c.args in
     let turn = c.loop-j in
     let count = c.obligation_count.ensures in
-    (omega (arith, turn.invariant.0, count.within), omega (arith, turn.invariant.1, count.value, lines_left_lem a.places.now a.struck.now a.i turn.j c.loop-j-test.true c.if-struck-j-ne0.false))
+    (omega (arith, turn.invariant.0, count.within), omega (arith, turn.invariant.1, count.value, lines_left_lem a.places.now a.struck.now a.i turn.j c.loop-j-test.true (omega (arith, c.if-struck-j-ne0.false))))
 
 pub returns : goal.returns
 returns c =

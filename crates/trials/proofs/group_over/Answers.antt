@@ -43,12 +43,9 @@ returns-in-DenyOverrides c =
     let deep : depth_of args.table.now args.rule ≡ depth_of args.table.now up + 1 = omega (arith, c.depth_at-2.ensures.0, c.depth_at.ensures.0, c.if-depth_at.false) in
     let same : (up ≡ args.rule → ⊥) = λ e. let no : ⊥ = omega (arith, ap (depth_of args.table.now) e) in absurd no in
     record {
-      within = omega (arith, over.ensures.above.within);
-      under = λ inside. record {
-        above = over.ensures.above;
-        earlier = omega (arith, over.ensures.above.within, same);
-        one_deeper = omega arith;
-        group = group;
-        decisive = decisive;
-      };
+      above = over.ensures.above;
+      earlier = omega (arith, over.ensures.above.within, same);
+      one_deeper = omega arith;
+      group = group;
+      decisive = decisive;
     }

@@ -5,7 +5,7 @@ use Rattle.trials.proofs.Trying.{set_back, first_change_is, rule_flag, trial}
 use Rattle.trials.proofs.needed_by.Goals as goal
 
 pub group_over-up-requires : goal.group_over-up-requires
-group_over-up-requires c = let pre = c.requires in (pre.0.ready.rows, pre.1)
+group_over-up-requires c = let pre = c.requires in omega (arith, pre.0.ready.rows, pre.1)
 
 pub first_change-shown-requires : goal.first_change-shown-requires
 first_change-shown-requires c =

@@ -6,7 +6,7 @@ use Rattle.trials.proofs.Trying.{tries_first}
 use Rattle.trials.proofs.some_change.Goals as goal
 
 pub group_over-up-requires : goal.group_over-up-requires
-group_over-up-requires c = let aside = c.requires.aside in (aside.ready.rows, aside.element)
+group_over-up-requires c = let aside = c.requires.aside in omega (arith, aside.ready.rows, aside.element)
 
 pub change_at-requires : goal.change_at-requires
 change_at-requires c = (c.requires, c.group_over-up.ensures, omega arith)
