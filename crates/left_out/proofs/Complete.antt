@@ -1,6 +1,6 @@
 -- A proposal whose lines are the file's with only rule lines left out is matched to its end.
 use mathlib.Core.Path.{◌≡◌, refl, sym, ap, ap₂, ◌∙◌, subst}
-use Prim.Native.Nat.{ℕ, zero, suc, ◌+◌, ◌-◌, ◌≤◌, ◌<◌}
+use Prim.Native.Nat.{ℕ, suc, ◌+◌, ◌-◌, ◌≤◌, ◌<◌}
 use native.Mathlib.Nat.{add-zero, zero-add}
 use native.Mathlib.Omega.{arith}
 use mathlib.Core.Bool.{true, false}
@@ -9,6 +9,7 @@ use lib.Dec.{ltb}
 use lib.ListN.{length, get_or, take, drop, set, take-append-drop, length-drop, length-append, length-map, drop_of_length-le}
 use lib.Seq.{drop-drop, take-append_seam, length-take-le, take_at, drop_at}
 use borrow.Author.Tests.{eq-eqb}
+use Rattle.std.proofs.lemmas.List.{drop-map, take-map}
 use Rattle.meaning.specs.Text.{Bytes, keep, same, newline}
 use Rattle.meaning.specs.Model.{obligations_of, Policy}
 use Rattle.meaning.specs.Trimming.{lines, rule_line, file_lines}
@@ -50,16 +51,6 @@ plain_marked (x ∷ xs) (y ∷ ys) e = (cc, plain_marked xs ys cc)
 frees_part : (xs ys : List Bytes) → Frees newline (xs ++ ys) → Frees newline xs × Frees newline ys
 frees_part [] ys f = (tt, f)
 frees_part (x ∷ xs) ys f = let (a, b) = frees_part xs ys f.1 in ((f.0, a), b)
-
-map_drop : {A B : Type 0} (F : A → B) (k : ℕ) (xs : List A) → map F (drop k xs) ≡ drop k (map F xs)
-map_drop F zero xs = refl
-map_drop F (suc k) [] = refl
-map_drop F (suc k) (x ∷ xs) = map_drop F k xs
-
-map_take : {A B : Type 0} (F : A → B) (k : ℕ) (xs : List A) → map F (take k xs) ≡ take k (map F xs)
-map_take F zero xs = refl
-map_take F (suc k) [] = refl
-map_take F (suc k) (x ∷ xs) = ap (λ ys. F x ∷ ys) (map_take F k xs)
 
 -- The proposal's bytes from a place on are the text of some lines
 module _ (f : Bytes) (places : List ElementPlaces) (t : List Row) (n : ℕ) (g : Bytes) (at : ℕ) (inside : at ≤ length g) (ls : List Bytes) (text : drop at g ≡ unlines ls) (free : Frees newline ls)
@@ -150,14 +141,14 @@ module _ (f : List ℕ) (table : List Row) (places : List ElementPlaces) (s : Sh
       each = λ j l. b.each (suc j) (omega arith) ∙ ap (λ k. suc (obligation_count places k)) (moved j);
       effects = λ j l. ap (λ k. ltb (word_number table k) 2) (sym (moved j)) ∙ b.effects (suc j) (omega arith);
       bare = λ j. b.bare (suc j);
-      marked = ap (map rule_line) behind_drop ∙ map_drop rule_line (line_count e) (drop (before i) own) ∙ ap (drop (line_count e)) b.marked ∙ drop_at (own_marks e) (marks es) (line_count e) mark_count;
+      marked = ap (map rule_line) behind_drop ∙ sym (drop-map rule_line (line_count e) (drop (before i) own)) ∙ ap (drop (line_count e)) b.marked ∙ drop_at (own_marks e) (marks es) (line_count e) mark_count;
     }
       where
         moved : (j : ℕ) → i + suc j ≡ i + 1 + j
         moved j = omega arith
 
     own_marked : map rule_line own_lines ≡ own_marks e
-    own_marked = map_take rule_line (line_count e) (drop (before i) own) ∙ ap (take (line_count e)) b.marked ∙ take_at (own_marks e) (marks es) (line_count e) mark_count
+    own_marked = sym (take-map rule_line (line_count e) (drop (before i) own)) ∙ ap (take (line_count e)) b.marked ∙ take_at (own_marks e) (marks es) (line_count e) mark_count
 
     lines_parted : drop (before i) own ≡ own_lines ++ drop (before (i + 1)) own
     lines_parted = sym (take-append-drop (line_count e) (drop (before i) own)) ∙ ap (λ x. own_lines ++ x) (sym behind_drop)
@@ -236,7 +227,7 @@ module _ (f : List ℕ) (table : List Row) (places : List ElementPlaces) (s : Sh
         each = λ j l. lines_here f p h table places none_struck a s.n refl held.elements size held.lined j (omega (arith, size)) ∙ ap (λ k. suc (obligation_count places k)) (same_place j);
         effects = λ j l. ap (λ k. ltb (word_number table k) 2) (zero-add j) ∙ effect_is f p h table places s.n held.elements j (omega (arith, size));
         bare = rule_lines_lem p.attributes p.elements (bounded f p h).elements_good;
-        marked = ap (λ k. map rule_line (drop k own)) (add-zero a) ∙ map_drop rule_line a own ∙ elements_marked f p h;
+        marked = ap (λ k. map rule_line (drop k own)) (add-zero a) ∙ sym (drop-map rule_line a own) ∙ elements_marked f p h;
       }
 
   -- and the bytes before them
@@ -251,7 +242,7 @@ module _ (f : List ℕ) (table : List Row) (places : List ElementPlaces) (s : Sh
       let text : drop 0 g ≡ unlines ls = text_unlines g ls ended in
       let free-lines : Frees newline ls = frees_front newline (lines g) (cut_frees newline g) in
       let xs = take a own in
-      let plain-header : Plain xs = plain_marked xs (keep attribute_line own) (map_take rule_line a own ∙ attributes_marked f p h) in
+      let plain-header : Plain xs = plain_marked xs (keep attribute_line own) (sym (take-map rule_line a own) ∙ attributes_marked f p h) in
       let parted : own ≡ xs ++ drop a own = sym (take-append-drop a own) in
       let ahead : LeavesOut (xs ++ drop a own) ls [] = subst (λ ys. LeavesOut ys ls []) parted x in
       let bytes-before : part f 0 first ≡ unlines xs = lines_before f p h table places none_struck a s.n refl held.elements size held.lined held.ready.some in

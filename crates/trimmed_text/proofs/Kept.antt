@@ -1,33 +1,24 @@
 -- The rules that are left are the rule lines of the text left, and their `K` lines are the same.
-use mathlib.Core.Path.{◌≡◌, refl, ap, ◌∙◌}
+use mathlib.Core.Path.{◌≡◌, ap, ◌∙◌}
 use Prim.Native.Nat.{ℕ, ◌<◌, zero-le}
 use native.Mathlib.Nat.{zero-add}
-use mathlib.Core.Bool.{Bool, true}
+use mathlib.Core.Bool.{true}
 use mathlib.Core.List.Memᴰ
-use mathlib.Core.List.{List, [], ◌∷◌, map, Memᴰ}
+use mathlib.Core.List.{List, map, Memᴰ}
 use lib.ListN.{length}
-use Rattle.meaning.specs.Text.{Bytes, keep, gathered, counting}
+use Rattle.meaning.specs.Text.{Bytes, gathered, counting}
 use Rattle.meaning.specs.Model.{Policy, given}
 use Rattle.meaning.specs.Reading.{read}
 use Rattle.meaning.specs.Trimming.{lines, is_rule_line, rule_lines}
 use Rattle.meaning.specs.Report.{kept_line}
 use Rattle.meaning.specs.Claims.Texts.{Rising}
-use Rattle.laws.proofs.Bools.{Test, passed, failed, test}
 use Rattle.laws.proofs.Search.{counting_has, keep_has, keep_only, counting_rising, keep_rising, rising_map, rising_same}
+use Rattle.laws.proofs.Lists.{gathered_alike}
 use Rattle.laws.proofs.Rewritten.{gathered_map}
 use Rattle.laws.proofs.Trimming.{rule_within}
 use Rattle.trimmed_text.specs.Flags.{text_left, kept_at, kept_places, kept_line_at}
 use Rattle.trimmed_text.proofs.Steps.{Stands, line_at, line_rises, kept_left, kept_below, kept_line_lem, rule_name, change_flag}
 use Rattle.trimmed_text.proofs.Next.{rule_place}
-
--- functions that agree where a test passes
-gathered_same : {A B : Type 0} (t : A → Bool) (F G : A → List B) → ((x : A) → t x ≡ true → F x ≡ G x) → (xs : List A) → gathered F (keep t xs) ≡ gathered G (keep t xs)
-gathered_same t F G h [] = refl
-gathered_same t F G h (x ∷ xs) = go (test (t x)) (gathered_same t F G h xs)
-  where
-    go : Test (t x) → gathered F (keep t xs) ≡ gathered G (keep t xs) → gathered F (keep t (x ∷ xs)) ≡ gathered G (keep t (x ∷ xs))
-    go (passed e) later = rw (e, h x e, later)
-    go (failed e) later = rw (e, later)
 
 module _ (f : Bytes) (p : Policy) (h : read f ≡ given p) (struck : List ℕ) (s : Stands f p struck) where
   abbrev text : Bytes
@@ -40,12 +31,12 @@ module _ (f : Bytes) (p : Policy) (h : read f ≡ given p) (struck : List ℕ) (
   is_kept : (i : ℕ) → kept_at p struck i ≡ true → Memᴰ i (kept_places p struck)
   is_kept i e = keep_has (kept_at p struck) i (counting_has 0 (length p.elements) i zero-le (rw zero-add (kept_below p struck i e))) e
 
+  kept : (i : ℕ) → Memᴰ i (kept_places p struck) → kept_at p struck i ≡ true
+  kept i m = (keep_only (kept_at p struck) i (counting 0 (length p.elements)) m).1
+
   pub rule_lines_kept : rule_lines text ≡ map (line_at p struck) (kept_places p struck)
   rule_lines_kept = rising_same (rule_lines text) (map (line_at p struck) (kept_places p struck)) (keep_rising (is_rule_line text) (counting 0 (length (lines text))) (counting_rising 0 (length (lines text)))) rising to back
     where
-      kept : (i : ℕ) → Memᴰ i (kept_places p struck) → kept_at p struck i ≡ true
-      kept i m = (keep_only (kept_at p struck) i (counting 0 (length p.elements)) m).1
-
       rises : (i j : ℕ) → Memᴰ i (kept_places p struck) → Memᴰ j (kept_places p struck) → i < j → line_at p struck i < line_at p struck j
       rises i j m n l = line_rises p struck i j (kept_below p struck i (kept i m)) (kept_left p struck i (kept i m)) l
 
@@ -70,4 +61,4 @@ module _ (f : Bytes) (p : Policy) (h : read f ≡ given p) (struck : List ℕ) (
   kept_lines =
       ap (gathered (kept_line text)) rule_lines_kept
       ∙ gathered_map (kept_line text) (line_at p struck) (kept_places p struck)
-      ∙ gathered_same (kept_at p struck) (λ i. kept_line text (line_at p struck i)) (kept_line_at p struck) kept_line_at_lem (counting 0 (length p.elements))
+      ∙ gathered_alike (λ i. kept_line text (line_at p struck i)) (kept_line_at p struck) (kept_places p struck) (λ i m. kept_line_at_lem i (kept i m))

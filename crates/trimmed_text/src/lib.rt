@@ -21,9 +21,7 @@ impl Text for KeptText<'_> {
     ghost text = { λ t. copied t.policy.file.now t.policy.places.now t.struck.now t.policy.shape.n };
 
     fn put(&self, sink: &mut Sink) {
-        let policy = self.policy;
-        let n = policy.shape.n;
-        put_text(policy.file, policy.places, self.struck, n, sink);
+        put_text(&self.policy, self.struck, sink);
     }
 }
 
@@ -39,26 +37,28 @@ pub fn lines_end(file: &[u8], places: &[ElementPlaces], n: usize, i: usize) -> u
 }
 
 // Where what is left of element i's lines ends: where they start if it is struck, else where they end.
-fn piece_end(file: &[u8], places: &[ElementPlaces], struck: &[u8], n: usize, i: usize) -> usize
-    requires { Copies file.now places.now struck.now n × (i < n) }
-    ensures { Piece file.now places.now struck.now n i result }
+fn piece_end(policy: &PolicyFile, struck: &[u8], i: usize) -> usize
+    requires { Copies policy.now.file.now policy.now.places.now struck.now policy.now.shape.n × (i < policy.now.shape.n) }
+    ensures { Piece policy.now.file.now policy.now.places.now struck.now policy.now.shape.n i result }
 {
+    let places = policy.places;
     if struck[i] != 0 {
         return places[i].start;
     }
-    lines_end(file, places, n, i)
+    lines_end(policy.file, places, policy.shape.n, i)
 }
 
-// Puts the bytes before the first element's line, and the lines left.
-pub fn put_text(file: &[u8], places: &[ElementPlaces], struck: &[u8], n: usize, sink: &mut Sink)
-    requires { Copies file.now places.now struck.now n × (sink.old.at + length file.now < 2 ^ 64) }
-    ensures { Puts sink.old (copied file.now places.now struck.now n) sink.new × (sink.new.at ≤ sink.old.at + length file.now) }
+// Puts the bytes before the first element's line, and the lines left. (Of any file, so not of a `KeptText`, whose file is short.)
+pub fn put_text(policy: &PolicyFile, struck: &[u8], sink: &mut Sink)
+    requires { Copies policy.now.file.now policy.now.places.now struck.now policy.now.shape.n × (sink.old.at + length policy.now.file.now < 2 ^ 64) }
+    ensures { Puts sink.old (copied policy.now.file.now policy.now.places.now struck.now policy.now.shape.n) sink.new × (sink.new.at ≤ sink.old.at + length policy.now.file.now) }
 {
-    let first = places[0].start;
+    let file = policy.file;
+    let first = policy.places[0].start;
     sink.put_bytes(&file[0..first]);
-    for i in 0..n {
-        let start = places[i].start;
-        let end = piece_end(file, places, struck, n, i);
+    for i in 0..policy.shape.n {
+        let start = policy.places[i].start;
+        let end = piece_end(policy, struck, i);
         sink.put_bytes(&file[start..end]);
     }
 }

@@ -7,7 +7,7 @@ pub next_struck-next-requires : goal.next_struck-next-requires
 next_struck-next-requires c = let held = c.requires in (steady_held _ _ _ _ held, held.ready)
 
 pub invariant_of-answer : goal.invariant_of-answer
-invariant_of-answer c = record { named = named_found _ _ _ _ c.requires c.next_struck-next.ensures.0 }
+invariant_of-answer c = record { named = λ i is. named_found _ _ _ _ c.requires c.next_struck-next.ensures.0 i cc }
 
 pub returns : goal.returns
 returns c =

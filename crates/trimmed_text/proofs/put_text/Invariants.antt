@@ -7,4 +7,4 @@ use Rattle.trimmed_text.proofs.Copying.{reached}
 use Rattle.trimmed_text.proofs.put_text.Given as goal
 
 abbrev pub invariant-loop-i : goal.invariant-loop-i
-invariant-loop-i l = (l.sink.at ≤ l.fn.sink.at + reached l.file l.places l.n l.i) × Sofar (piece_at l.file l.places l.struck l.n) (length l.file) 0 l.initial.sink l.i l.sink
+invariant-loop-i l = (l.sink.at ≤ l.fn.sink.at + reached l.policy.file.now l.policy.places.now l.policy.shape.n l.i) × Sofar (piece_at l.policy.file.now l.policy.places.now l.struck l.policy.shape.n) (length l.policy.file.now) 0 l.initial.sink l.i l.sink
