@@ -103,7 +103,7 @@ module _ (t : List Row) (struck : List ℕ) (n : ℕ) (hit : ℕ → Element →
   unfolding shown_by shows_at
   shown_alike i j k m a b c l = λ x. applying i m a l x && ((permitting j m b l x && denying k m c l x) || (denying j m b l x && permitting k m c l x))
 
-  pub pairs_by_table : (parents : List (Found ℕ)) (pairs : List ℕ) → Pairs parents (shown_by applied permits denies) n space pairs → Pairs parents (shows_at t struck n hit) n space pairs
+  pub pairs_by_table : (parents : List (Found ℕ)) (pairs : List (List ℕ)) → Pairs parents (shown_by applied permits denies) n space pairs → Pairs parents (shows_at t struck n hit) n space pairs
   unfolding shown_for
   pairs_by_table parents pairs paired j k i child =
       paired j k i child

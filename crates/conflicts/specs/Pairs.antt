@@ -1,10 +1,11 @@
 -- Conflicts of pairs: by the elements' parents and rows, the request that shows each.
-use Rattle.std.specs.Prelude.{ℕ, ◌+◌, ◌*◌, ◌/◌, ◌%◌, ◌≤◌, ◌<◌, ◌≡◌, Bool, ◌&&◌, ◌||◌, Option, Some, None, List, length, get_or}
+use Rattle.std.specs.Prelude.{ℕ, ◌≤◌, ◌<◌, ◌≡◌, Bool, ◌&&◌, ◌||◌, Option, Some, None, List, length, get_or}
 use Rattle.meaning.specs.declared.Decision.{Decision}
 use Rattle.meaning.specs.Text.{first_from}
 use Rattle.meaning.specs.declared.Element.{Element}
 use Rattle.table.specs.declared.Row.{Row}
 use Rattle.table.specs.Tree.{place_or}
+use Rattle.table.specs.Words.{word_in}
 use Rattle.matching.specs.Hits.{bit_of}
 use Rattle.rows.specs.Words.{applies_at, gives_at}
 
@@ -27,8 +28,8 @@ pub record Later (parents : List (Option ℕ)) (n i j k : ℕ) : Type 0 where
   pub sibling : get_or parents k None ≡ Some i
 
 -- the places that are of no such pair are as they were
-abbrev pub OthersStay : List (Option ℕ) → ℕ → List ℕ → List ℕ → Type 0
-OthersStay parents n old new = (m : ℕ) → ((i : ℕ) → Later parents n i (m / 64) (m % 64) → ⊥) → get_or new m 0 ≡ get_or old m 0
+abbrev pub OthersStay : List (Option ℕ) → ℕ → List (List ℕ) → List (List ℕ) → Type 0
+OthersStay parents n old new = (j k : ℕ) → ((i : ℕ) → Later parents n i j k → ⊥) → word_in new j k ≡ word_in old j k
 
 -- A policy's parents, and whether i, j and k show a conflict on request m
 module _ (parents : List (Option ℕ)) (shows : ℕ → ℕ → ℕ → ℕ → Bool) (n space : ℕ) where
@@ -36,14 +37,14 @@ module _ (parents : List (Option ℕ)) (shows : ℕ → ℕ → ℕ → ℕ → 
   unfoldable pub shown_for : ℕ → ℕ → ℕ → ℕ
   shown_for i j k = place_or space (first_from (shows i j k) 0 space)
 
-  -- that request stands at 64 j + k if k is a later child of j's parent i
-  abbrev pub PairIs : List ℕ → ℕ → ℕ → Type 0
-  PairIs pairs j k = (i : ℕ) → Later parents n i j k → get_or pairs (64 * j + k) 0 ≡ shown_for i j k
+  -- that request stands at place k of row j if k is a later child of j's parent i
+  abbrev pub PairIs : List (List ℕ) → ℕ → ℕ → Type 0
+  PairIs pairs j k = (i : ℕ) → Later parents n i j k → word_in pairs j k ≡ shown_for i j k
 
-  abbrev pub PairsOf : List ℕ → ℕ → Type 0
+  abbrev pub PairsOf : List (List ℕ) → ℕ → Type 0
   PairsOf pairs j = (k : ℕ) → PairIs pairs j k
 
-  abbrev pub Pairs : List ℕ → Type 0
+  abbrev pub Pairs : List (List ℕ) → Type 0
   Pairs pairs = (j : ℕ) → PairsOf pairs j
 
 -- rows of 64 words for 64 elements, and at most 4,096 requests
@@ -53,9 +54,9 @@ pub record Laid (applied permits denies : List (List ℕ)) (space : ℕ) : Type 
   pub permits_room : 64 ≤ length permits
   pub denies_room : 64 ≤ length denies
 
--- parents of at most 64 elements, their rows, and room for 64 times 64 pairs
-pub record Pairing (parents : List (Option ℕ)) (applied permits denies : List (List ℕ)) (n space : ℕ) (pairs : List ℕ) : Type 0 where
+-- parents of at most 64 elements, their rows, and 64 rows of pairs
+pub record Pairing (parents : List (Option ℕ)) (applied permits denies : List (List ℕ)) (n space : ℕ) (pairs : List (List ℕ)) : Type 0 where
   pub few : n ≤ 64
   pub parents_room : n ≤ length parents
   pub rows : Laid applied permits denies space
-  pub pairs_room : 4096 ≤ length pairs
+  pub pairs_room : 64 ≤ length pairs

@@ -1,9 +1,10 @@
 // Conflicts: the first request that shows each, by the rows of a parent and two of its children.
 #![tactic(auto)]
 
-ghost use Rattle.std.specs.Prelude.{◌≡◌, ℕ, ◌*◌, ◌/◌, ◌%◌, ◌≤◌, ◌<◌, get_or};
+ghost use Rattle.std.specs.Prelude.{◌≡◌, ℕ, ◌<◌};
 ghost use Rattle.meaning.specs.Text.{first_from};
 ghost use Rattle.laws.specs.Found.{found};
+ghost use Rattle.table.specs.Words.{word_in};
 ghost use Rattle.conflicts.specs.Pairs.{shown_by, Later, PairsOf, Pairs, OthersStay, Laid, Pairing};
 
 // On which of so many requests each element applies, permits and denies: a row of bits for each.
@@ -37,11 +38,11 @@ impl Rows<'_> {
         None
     }
 
-    // Lays down at 64 j + k, for each later child k of j's parent, the first request that shows a conflict of j and k, or the number of requests. All other places stay.
-    // (The number stands for none: 64 times 64 options would take twice the controller's memory. One list, as definitions and `report_lines` read it.)
-    fn pair_later(&self, parents: &[Option<usize>], n: usize, j: usize, pairs: &mut [u16])
+    // Lays down in row j, for each later child k of j's parent, the first request that shows a conflict of j and k, or the number of requests. All other places stay.
+    // (The number stands for none: 64 times 64 options would take twice the controller's memory.)
+    fn pair_later(&self, parents: &[Option<usize>], n: usize, j: usize, pairs: &mut [[u16; 64]])
         requires { let r = self.now in Pairing parents.now r.applied.now r.permits.now r.denies.now n r.space pairs.old × (j < n) }
-        ensures { let r = self.now in PairsOf parents.now (shown_by r.applied.now r.permits.now r.denies.now) n r.space pairs.new j × ((m : ℕ) → (m / 64 ≡ j → (i : ℕ) → Later parents.now n i j (m % 64) → ⊥) → get_or pairs.new m 0 ≡ get_or pairs.old m 0) }
+        ensures { let r = self.now in PairsOf parents.now (shown_by r.applied.now r.permits.now r.denies.now) n r.space pairs.new j × ((l k : ℕ) → (l ≡ j → (i : ℕ) → Later parents.now n i j k → ⊥) → word_in pairs.new l k ≡ word_in pairs.old l k) }
     {
         let parent = match parents[j] {
             Some(parent) if parent < n => parent,
@@ -52,12 +53,12 @@ impl Rows<'_> {
                 continue;
             }
             let shown = self.first_shown(parent, j, k);
-            pairs[64 * j + k] = shown.unwrap_or(self.space) as u16;
+            pairs[j][k] = shown.unwrap_or(self.space) as u16;
         }
     }
 
     // The same for each j. Only places of later children are set.
-    pub fn pair_all(&self, parents: &[Option<usize>], n: usize, pairs: &mut [u16])
+    pub fn pair_all(&self, parents: &[Option<usize>], n: usize, pairs: &mut [[u16; 64]])
         requires { let r = self.now in Pairing parents.now r.applied.now r.permits.now r.denies.now n r.space pairs.old }
         ensures { let r = self.now in Pairs parents.now (shown_by r.applied.now r.permits.now r.denies.now) n r.space pairs.new × OthersStay parents.now n pairs.old pairs.new }
     {

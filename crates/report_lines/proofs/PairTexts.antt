@@ -11,7 +11,7 @@ use Rattle.printing.specs.Puts.{Puts}
 use Rattle.report_lines.specs.Lines.{is_parent, pair_at, conflict_row, conflict_line, later_line, later_lines}
 use Rattle.layout.specs.declared.ElementPlaces.{ElementPlaces}
 
-module _ (f : Bytes) (places : List ElementPlaces) (n : ℕ) (parents : List (Option ℕ)) (pairs : List ℕ) (space i j : ℕ) where
+module _ (f : Bytes) (places : List ElementPlaces) (n : ℕ) (parents : List (Option ℕ)) (pairs : List (List ℕ)) (space i j : ℕ) where
   -- k is no child of i, or a child that is in no conflict with j, or in one
   pub not_child : (k : ℕ) → is_parent parents k i ≡ false → later_line f places n parents pairs space i j k ≡ []
   unfolding later_line

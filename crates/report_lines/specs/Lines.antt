@@ -1,11 +1,12 @@
 -- The report's text, from what was found of a policy: its names stand in the file, at their places.
-use Rattle.std.specs.Prelude.{ℕ, ◌+◌, ◌-◌, ◌*◌, Bool, cond, Option, None, Some, List, [], ◌∷◌, map, eqb, ltb, get_or}
+use Rattle.std.specs.Prelude.{ℕ, ◌+◌, ◌-◌, Bool, cond, Option, None, Some, List, [], ◌∷◌, map, eqb, ltb, get_or}
 use Rattle.std.specs.Option.{option_eq}
 use Rattle.meaning.specs.declared.Decision.{Decision}
 use Rattle.meaning.specs.Text.{Bytes, bytes, keep, gathered, counting, comma, line, decimal}
 use Rattle.meaning.specs.Model.{decision_text}
 use Rattle.meaning.specs.Deciding.{bit}
 use Rattle.meaning.specs.Report.{or_dash}
+use Rattle.table.specs.Words.{word_in}
 use Rattle.layout.specs.declared.ElementPlaces.{ElementPlaces}
 use Rattle.layout.specs.Places.{name_in}
 use Rattle.report_lines.specs.declared.segment_lines.Segment.{Segment}
@@ -17,14 +18,14 @@ is_parent parents j i = option_eq eqb (get_or parents j None) (Some i)
 
 -- A file, and the places of its elements' names
 module _ (f : Bytes) (places : List ElementPlaces) where
-  -- `C`: for a pair j and k of children of i; at 64 j + k stands the request that shows their conflict, or the number of requests
-  abbrev pub pair_at : List ℕ → ℕ → ℕ → ℕ
-  pair_at pairs j k = get_or pairs (64 * j + k) 0
+  -- `C`: for a pair j and k of children of i; at place k of row j stands the request that shows their conflict, or the number of requests
+  abbrev pub pair_at : List (List ℕ) → ℕ → ℕ → ℕ
+  pair_at = word_in
 
   abbrev pub conflict_row : Conflict → Bytes
   conflict_row c = line (bytes "C" ∷ name_in f places c.parent ∷ name_in f places c.earlier ∷ name_in f places c.later ∷ decimal c.request ∷ [])
 
-  unfoldable pub conflict_line : (pairs : List ℕ) (space : ℕ) → ℕ → ℕ → ℕ → Bytes
+  unfoldable pub conflict_line : (pairs : List (List ℕ)) (space : ℕ) → ℕ → ℕ → ℕ → Bytes
   conflict_line pairs space i j k =
       cond (ltb (pair_at pairs j k) space) (conflict_row (record { parent = i; earlier = j; later = k; request = pair_at pairs j k })) []
 
@@ -32,8 +33,8 @@ module _ (f : Bytes) (places : List ElementPlaces) where
   unfoldable pub struck_line : ℕ → Bytes
   struck_line i = line (bytes "X" ∷ name_in f places i ∷ [])
 
-  unfoldable pub struck_text : (order : List ℕ) (count : ℕ) → Bytes
-  struck_text order count = gathered (λ k. struck_line (get_or order k 0)) (counting 0 count)
+  unfoldable pub struck_text : (order : List ℕ) → Bytes
+  struck_text order = gathered struck_line order
 
   -- `K`: for an element with a request in the space
   abbrev pub kept_for : (space : ℕ) → ℕ → Option ℕ → Bytes
@@ -72,7 +73,7 @@ module _ (f : Bytes) (places : List ElementPlaces) where
     segment_text words sizes decided space = gathered (segment_line words sizes decided) (counting 0 space)
 
     -- by the elements' parents
-    module _ (parents : List (Option ℕ)) (pairs : List ℕ) (space : ℕ) where
+    module _ (parents : List (Option ℕ)) (pairs : List (List ℕ)) (space : ℕ) where
       abbrev pub is_child : ℕ → ℕ → Bool
       is_child i j = is_parent parents j i
 

@@ -32,7 +32,7 @@ fn put_conflict(policy: &PolicyFile, c: Conflict, sink: &mut Sink)
 fn put_later(
     policy: &PolicyFile,
     parents: &[Option<usize>; 64],
-    pairs: &[u16; 4096],
+    pairs: &[[u16; 64]; 64],
     i: usize,
     j: usize,
     sink: &mut Sink,
@@ -46,7 +46,7 @@ fn put_later(
         if parents[k] != Some(i) {
             continue;
         }
-        let request = pairs[64 * j + k] as usize;
+        let request = pairs[j][k] as usize;
         if shape.space <= request {
             continue;
         }
@@ -64,7 +64,7 @@ fn put_later(
 pub(crate) fn put_pairs(
     policy: &PolicyFile,
     parents: &[Option<usize>; 64],
-    pairs: &[u16; 4096],
+    pairs: &[[u16; 64]; 64],
     i: usize,
     sink: &mut Sink,
 )

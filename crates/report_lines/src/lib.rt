@@ -1,4 +1,5 @@
 // The report's lines, from what was found of a policy. Each function puts a text into a sink; over an empty buffer it counts.
+// (What was found goes on as `reporting` laid it down, list by list: every kind of line takes others.)
 #![tactic(auto)]
 
 mod conflict_lines;
@@ -48,7 +49,7 @@ pub fn put_segments(
 pub fn put_conflicts(
     policy: &PolicyFile,
     parents: &[Option<usize>; 64],
-    pairs: &[u16; 4096],
+    pairs: &[[u16; 64]; 64],
     sink: &mut Sink,
 )
     requires { Naming policy.now.file.now policy.now.places.now policy.now.shape.n × (policy.now.shape.space ≤ 4096) × (sink.old.at ≤ 1200000000) }
@@ -61,12 +62,12 @@ pub fn put_conflicts(
 }
 
 // The lines of the rules struck, `X`, in the order of their places.
-pub fn put_struck(policy: &PolicyFile, order: &[u8; 64], count: usize, sink: &mut Sink)
-    requires { Ordered policy.now.file.now policy.now.places.now order.now count × (sink.old.at ≤ 2000000000) }
-    ensures { Puts sink.old (struck_text policy.now.file.now policy.now.places.now order.now count) sink.new × (sink.new.at ≤ sink.old.at + 32000) }
+pub fn put_struck(policy: &PolicyFile, order: &[u8], sink: &mut Sink)
+    requires { Ordered policy.now.file.now policy.now.places.now order.now × (sink.old.at ≤ 2000000000) }
+    ensures { Puts sink.old (struck_text policy.now.file.now policy.now.places.now order.now) sink.new × (sink.new.at ≤ sink.old.at + 32000) }
 {
-    for k in 0..count {
-        rule_lines::put_struck_rule(policy, order[k], sink);
+    for i in order {
+        rule_lines::put_struck_rule(policy, *i, sink);
     }
 }
 

@@ -6,11 +6,9 @@ use mathlib.Core.List.{List, reverse}
 use mathlib.Core.Option.{Option, none, some}
 use lib.Dec.{eqb}
 use lib.ListN.{get_or}
-use borrow.Author.Tests.{eqb-true, eqb-false, eq-eqb, ne_eqb}
 use Rattle.meaning.specs.Text.{Bytes, keep, counting}
 use Rattle.meaning.specs.Model.{Policy}
 use Rattle.meaning.specs.Segments.{depth_at, parent_of, is_place, children_of}
-use Rattle.laws.proofs.Bools.{Test, passed, failed, test}
 use Rattle.laws.proofs.Search.{counting_only}
 use Rattle.laws.proofs.Lists.{keep_alike}
 use Rattle.table.specs.declared.Row.{Row}
@@ -23,20 +21,13 @@ use Rattle.layout.specs.declared.ElementPlaces.{ElementPlaces}
 use Rattle.layout.specs.Places.{element_in, elements_to}
 use Rattle.trimmed_text.proofs.Table.{count_is, element_at_lem}
 use Rattle.trimmed_text.proofs.Tabled.{last_alike}
+use Rattle.rows.proofs.Making.{eqb_swap}
 use Rattle.report_lines.specs.Lines.{is_parent}
-
--- a test of two numbers, either way round
-eqb_turned : (a b : ℕ) → eqb a b ≡ eqb b a
-eqb_turned a b = go (test (eqb a b))
-  where
-    go : Test (eqb a b) → eqb a b ≡ eqb b a
-    go (passed e) = e ∙ sym (eq-eqb b a (sym (eqb-true a b e)))
-    go (failed e) = e ∙ sym (ne_eqb b a (λ h. eqb-false a b e (sym h)))
 
 -- a place, or none
 place_test : (i : ℕ) (o : Option ℕ) → option_eq eqb (found o) (Some i) ≡ is_place i o
 place_test i none = refl
-place_test i (some j) = eqb_turned j i
+place_test i (some j) = eqb_swap j i
 
 module _ (f : Bytes) (table : List Row) (places : List ElementPlaces) (n : ℕ) (p : Policy) (is : p.elements ≡ reverse (elements_to f table places n)) where
   -- the elements' depths and their parents

@@ -1,6 +1,6 @@
 -- The `C` lines, from the pairs of a table, are those of the policy that was read into it.
 use mathlib.Core.Path.{◌≡◌, refl, sym, ap, ap₂, ◌∙◌}
-use Prim.Native.Nat.{ℕ, zero, suc, ◌+◌, ◌-◌, ◌*◌, ◌<◌}
+use Prim.Native.Nat.{ℕ, zero, suc, ◌+◌, ◌-◌, ◌<◌}
 use native.Mathlib.Numerals.{add-one}
 use native.Mathlib.Omega.{arith}
 use mathlib.Core.Bool.{Bool, true, cond, ◌&&◌, ◌||◌}
@@ -19,6 +19,7 @@ use Rattle.laws.proofs.Search.{counting_only, counting_rising, keep_only, keep_r
 use Rattle.laws.proofs.Lists.{gathered_alike, gathered_keep, gathered_twice, gathered_one, pairs_first, pairs_alike}
 use Rattle.table.specs.declared.Row.{Row}
 use Rattle.table.specs.Tree.{parent_of, place_or}
+use Rattle.table.specs.Words.{word_in}
 use Rattle.std.specs.Prelude.{Option as Found, None}
 use Rattle.laws.specs.Found.{found}
 use Rattle.outcomes.proofs.Searching.{first_alike}
@@ -35,7 +36,7 @@ use Rattle.reporting.proofs.ChildPlaces.{children_are}
 use Rattle.reporting.proofs.Giving.{gives_is}
 
 -- the line of a pair, the children among c places from j on, and the lines of their pairs
-module _ (f : Bytes) (places : List ElementPlaces) (n : ℕ) (parents : List (Found ℕ)) (pairs : List ℕ) (s i : ℕ) where
+module _ (f : Bytes) (places : List ElementPlaces) (n : ℕ) (parents : List (Found ℕ)) (pairs : List (List ℕ)) (s i : ℕ) where
   abbrev line_of : ℕ × ℕ → Bytes
   line_of q = conflict_line f places pairs s i q.0 q.1
 
@@ -70,8 +71,8 @@ module _ (f : Bytes) (table : List Row) (places : List ElementPlaces) (n : ℕ) 
 
   module _ (parents : List (Found ℕ)) (struck : List ℕ) (clear : (k : ℕ) → get_or struck k 0 ≡ 0)
       (parented : (j : ℕ) → j < n → get_or parents j None ≡ found (parent_of table j))
-      (pairs : List ℕ)
-      (paired : (j k i : ℕ) → Later parents n i j k → get_or pairs (64 * j + k) 0 ≡ place_or space (first_from (shows_at table struck n hit i j k) 0 space)) where
+      (pairs : List (List ℕ))
+      (paired : (j k i : ℕ) → Later parents n i j k → word_in pairs j k ≡ place_or space (first_from (shows_at table struck n hit i j k) 0 space)) where
     gives : (d : Decision) (m j : ℕ) → j < n → gives_at d table struck n (hit m) j ≡ is_of d (decision_at p m j)
     gives = gives_is f table places n p is hit hits_are struck clear
 
@@ -85,7 +86,7 @@ module _ (f : Bytes) (table : List Row) (places : List ElementPlaces) (n : ℕ) 
     first_is i j k a b c = first_alike (shows_at table struck n hit i j k) (shows p i j k) 0 space (λ m low high. shows_is i j k m a b c)
 
     -- the request of a pair of children
-    pair_is : (i j k : ℕ) → i < n → j < k → k < n → is_parent parents j i ≡ true → is_parent parents k i ≡ true → get_or pairs (64 * j + k) 0 ≡ place_or space (first_from (shows p i j k) 0 space)
+    pair_is : (i j k : ℕ) → i < n → j < k → k < n → is_parent parents j i ≡ true → is_parent parents k i ≡ true → word_in pairs j k ≡ place_or space (first_from (shows p i j k) 0 space)
     pair_is i j k a b c x y =
         paired j k i record { after = b; within = c; some = a; child = some_eq _ _ x; sibling = some_eq _ _ y }
         ∙ ap (place_or space) (first_is i j k a (omega arith) c)

@@ -1,11 +1,11 @@
 -- What was found, from what the functions that find it lay down.
 use mathlib.Core.Path.{◌≡◌, sym, ap, ◌∙◌, subst}
-use Prim.Native.Nat.{ℕ, zero, suc, ◌≤◌, ◌<◌}
+use Prim.Native.Nat.{ℕ, zero, suc, ◌≤◌}
 use native.Mathlib.Omega.{arith}
 use mathlib.Core.List.{List, ◌++◌, map}
 use mathlib.Core.Option.{Option, none, some}
-use lib.ListN.{length, take, drop, get_or, set}
-use lib.Seq.{take_at, get_or-take}
+use lib.ListN.{length, take, drop, get_or, set, length-take}
+use lib.Seq.{take_at}
 use mathlib.Core.Bool.{Bool}
 use Rattle.meaning.specs.declared.Decision.{Decision}
 use Rattle.meaning.specs.Text.{Bytes, counting}
@@ -73,7 +73,7 @@ module _ (t : List Row) (s : Shape) where
       }
 
   -- conflicts, from the rows
-  pub conflicts_found : (rows permits denies : List (List ℕ)) (parents : List (Found ℕ)) (pairs : List ℕ) (x : List (Found ℕ)) → Applied t s.n (hit_of s) s.space rows → Given Decision.Permit t none_struck s.n (hit_of s) s.space permits → Given Decision.Deny t none_struck s.n (hit_of s) s.space denies
+  pub conflicts_found : (rows permits denies : List (List ℕ)) (parents : List (Found ℕ)) (pairs : List (List ℕ)) (x : List (Found ℕ)) → Applied t s.n (hit_of s) s.space rows → Given Decision.Permit t none_struck s.n (hit_of s) s.space permits → Given Decision.Deny t none_struck s.n (hit_of s) s.space denies
       → parents ≡ map (λ i. found (parent_of t i)) (counting 0 s.n) ++ x → Pairs parents (shown_by rows permits denies) s.n s.space pairs → ConflictsFound t s.n (hit_of s) s.space parents pairs
   conflicts_found rows permits denies parents pairs x applied permitted denied above paired =
       record {
@@ -86,10 +86,12 @@ pub laid : (f : List ℕ) (table : List Row) (places : List ElementPlaces) (hits
 laid f table places hits outcomes s held matched holds = record { steady = steady f held.policy held.is_read table places s held.elements held.obliged; ready = held.ready; matched = matched; holds = holds }
 
 -- each place struck has a name
-pub struck_named : (f : Bytes) (places : List ElementPlaces) (t : List Row) (n : ℕ) (hit : ℕ → Element → Bool) (space : ℕ) (order : List ℕ) (shown : List (Found ℕ)) (count : ℕ) → Naming f places n → RulesFound f places t n hit space order shown count → Ordered f places order count
+pub struck_named : (f : Bytes) (places : List ElementPlaces) (t : List Row) (n : ℕ) (hit : ℕ → Element → Bool) (space : ℕ) (order : List ℕ) (shown : List (Found ℕ)) (count : ℕ) → Naming f places n → RulesFound f places t n hit space order shown count → Ordered f places (take count order)
 struck_named f places t n hit space order shown count naming rules =
-    record {
-      few = omega (arith, naming.few, rules.few);
-      each = λ k l. naming.each (get_or order k 0)
-          (subst (λ m. m < n) (sym (ap (λ xs. get_or xs k 0) rules.struck) ∙ get_or-take count order k 0 l) (order_below f places t n hit space k (omega (arith, rules.counted))));
-    }
+    let struck = (trimmed_at f places t n hit space).order in
+    subst (Ordered f places) (sym rules.struck)
+    (record { few = omega (arith, naming.few, rules.few, rules.counted); each = λ k l. naming.each (get_or struck k 0) (order_below f places t n hit space k l) })
+
+-- and they are in the list
+pub struck_counted : (f : Bytes) (places : List ElementPlaces) (t : List Row) (n : ℕ) (hit : ℕ → Element → Bool) (space : ℕ) (order : List ℕ) (shown : List (Found ℕ)) (count : ℕ) → RulesFound f places t n hit space order shown count → count ≤ length order
+struck_counted f places t n hit space order shown count rules = omega (arith, ap length rules.struck, length-take count order, rules.counted)

@@ -1,11 +1,12 @@
 -- Where nothing is struck, an element of the table gives what the policy's element decides.
-use mathlib.Core.Path.{◌≡◌, refl, sym, ap, ◌∙◌}
+use mathlib.Core.Path.{◌≡◌, sym, ap, ◌∙◌}
 use Prim.Native.Nat.{ℕ, zero, suc, ◌+◌, ◌-◌, ◌<◌}
 use native.Mathlib.Omega.{arith}
-use mathlib.Core.List.{List, [], ◌∷◌, map, reverse}
+use mathlib.Core.List.{List, map, reverse}
 use lib.ListN.{drop, get_or}
 use lib.Seq.{drop-nil}
 use borrow.Author.Tests.{eq-eqb}
+use Rattle.std.proofs.lemmas.List.{drop-map}
 use mathlib.Core.Bool.{Bool}
 use Rattle.meaning.specs.declared.Decision.{Decision}
 use Rattle.meaning.specs.Text.{Bytes}
@@ -21,12 +22,6 @@ use Rattle.layout.specs.Places.{elements_to}
 use Rattle.layout.proofs.Laws.{bare, decision_bare}
 use Rattle.trimmed_text.proofs.Table.{whole_left}
 use Rattle.rows.specs.Words.{gives_at}
-
--- what is behind so many of a mapped list
-drop_map : {A B : Type 0} (F : A → B) (j : ℕ) (xs : List A) → drop j (map F xs) ≡ map F (drop j xs)
-drop_map F zero xs = refl
-drop_map F (suc j) [] = refl
-drop_map F (suc j) (x ∷ xs) = drop_map F j xs
 
 module _ (table : List Row) (struck : List ℕ) (clear : (k : ℕ) → get_or struck k 0 ≡ 0) where
   -- what is left from a place on is what is left behind so many
@@ -51,7 +46,7 @@ module _ (f : Bytes) (table : List Row) (places : List ElementPlaces) (n : ℕ) 
       ap (λ i. left table struck i (n - j)) (sym here)
       ∙ sym (left_behind table struck clear 0 n j)
       ∙ ap (drop j) (whole_left f table places n p is struck (λ k l. clear k))
-      ∙ drop_map bare j p.elements
+      ∙ drop-map bare j p.elements
 
   -- what one of them gives
   pub gives_is : (d : Decision) (m j : ℕ) → j < n → gives_at d table struck n (hit m) j ≡ is_of d (decision_at p m j)

@@ -1,9 +1,8 @@
 -- The report, from what was found of the policy that was read.
 use mathlib.Core.Path.{◌≡◌, ap, ap₂, ◌∙◌, subst}
-use Prim.Native.Nat.{ℕ, ◌≤◌}
-use native.Mathlib.Omega.{arith}
+use Prim.Native.Nat.{ℕ}
 use mathlib.Core.List.{List, ◌++◌}
-use lib.ListN.{length, length-take}
+use lib.ListN.{take}
 use Rattle.std.specs.Prelude.{Option}
 use Rattle.meaning.specs.declared.Answer.{Answer}
 use Rattle.meaning.specs.declared.Decision.{Decision}
@@ -15,7 +14,6 @@ use Rattle.table.specs.declared.Shape.{Shape}
 use Rattle.table.specs.Shape.{hit_of}
 use Rattle.conflicts.specs.Pairs.{shown_for}
 use Rattle.printing.specs.Fitted.{Fitted}
-use Rattle.printing.proofs.Walks.{taken}
 use Rattle.report_lines.specs.Lines.{segment_text, conflict_text, struck_line, struck_text, kept_text}
 use Rattle.outcomes.specs.Decided.{none_struck}
 use Rattle.reporting.specs.Found.{trimmed_at, SegmentsFound, ConflictsFound, RulesFound}
@@ -26,18 +24,16 @@ use Rattle.reporting.proofs.ConflictText.{conflicts_are}
 use Rattle.reporting.proofs.StruckText.{struck_are, kept_are}
 use Rattle.layout.specs.declared.ElementPlaces.{ElementPlaces}
 
-module _ (f : List ℕ) (table : List Row) (places : List ElementPlaces) (s : Shape) (held : PolicyHeld f table places s) (words lengths : List ℕ) (decided : List Decision) (parents : List (Option ℕ)) (pairs order : List ℕ) (shown : List (Option ℕ)) (count : ℕ)
+module _ (f : List ℕ) (table : List Row) (places : List ElementPlaces) (s : Shape) (held : PolicyHeld f table places s) (words lengths : List ℕ) (decided : List Decision) (parents : List (Option ℕ)) (pairs : List (List ℕ)) (order : List ℕ) (shown : List (Option ℕ)) (count : ℕ)
     (found : SegmentsFound table s.n (hit_of s) s.space words lengths decided) (shown-pairs : ConflictsFound table s.n (hit_of s) s.space parents pairs) (rules : RulesFound f places table s.n (hit_of s) s.space order shown count) where
   -- the four kinds of lines, one behind the other
   abbrev text : Bytes
-  text = segment_text f places s.n words lengths decided s.space ++ (conflict_text f places s.n parents pairs s.space ++ (struck_text f places order count ++ kept_text f places s.n shown s.space))
+  text = segment_text f places s.n words lengths decided s.space ++ (conflict_text f places s.n parents pairs s.space ++ (struck_text f places (take count order) ++ kept_text f places s.n shown s.space))
 
   -- those of the rules struck
-  struck_lines : struck_text f places order count ≡ gathered (struck_line f places) (trimmed_at f places table s.n (hit_of s) s.space).order
+  struck_lines : struck_text f places (take count order) ≡ gathered (struck_line f places) (trimmed_at f places table s.n (hit_of s) s.space).order
   unfolding struck_text
-  struck_lines =
-      let room : count ≤ length order = omega (arith, ap length rules.struck, length-take count order, rules.counted) in
-      taken 0 (struck_line f places) order count room ∙ ap (gathered (struck_line f places)) rules.struck
+  struck_lines = ap (gathered (struck_line f places)) rules.struck
 
   report_is : text ≡ report f held.policy
   unfolding report shown_for

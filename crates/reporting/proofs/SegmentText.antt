@@ -13,11 +13,12 @@ use Rattle.meaning.specs.declared.Decision.{Decision}
 use Rattle.meaning.specs.Text.{Bytes, any, keep, gathered, counting, line}
 use Rattle.meaning.specs.Model.{name_of, Policy, sizes, space as space_of}
 use Rattle.meaning.specs.Deciding.{request_of, bit, hits, decision_on, first_decision}
-use Rattle.meaning.specs.Segments.{applying, applying_to, together, segments, segment_size}
+use Rattle.meaning.specs.Segments.{applying_to, together, segments, segment_size}
 use Rattle.meaning.specs.Report.{marked, segment_fields}
 use Rattle.laws.proofs.Bools.{Test, passed, failed, test, contradiction}
 use Rattle.laws.proofs.Search.{counting_has, counting_only, keep_has}
 use Rattle.laws.proofs.Segments.{together_same, same_together}
+use Rattle.laws.proofs.Parents.{each_applies}
 use Rattle.table.specs.declared.Row.{Row}
 use Rattle.outcomes.specs.Decided.{decided_at}
 use Rattle.layout.specs.declared.ElementPlaces.{ElementPlaces}
@@ -31,11 +32,6 @@ use Rattle.rows.proofs.Marks.{bit_mark, same_marks}
 use Rattle.segments.specs.Sizes.{alike, opens_at, size_at}
 use Rattle.report_lines.specs.Lines.{names_of, segment_line, segment_text}
 use Rattle.reporting.proofs.Applying.{word_is}
-
--- as many tests as elements
-tests_length : (hit : Element → Bool) (front es : List Element) → length (applying hit front es) ≡ length es
-tests_length hit front [] = refl
-tests_length hit front (e ∷ es) = ap suc (tests_length hit (e ∷ front) es)
 
 -- The names of marked elements, that stand from place i on
 marked_from : (F : ℕ → Bytes) (t : ℕ → Bool) (i : ℕ) (bs : List Bool) (es : List Element) → length bs ≡ length es
@@ -61,7 +57,7 @@ module _ (f : Bytes) (table : List Row) (places : List ElementPlaces) (n : ℕ) 
       word = word_is f table places n p is hit hits_are
 
       size : (m : ℕ) → length (applying_to p m) ≡ length p.elements
-      size m = tests_length (hits p m) [] p.elements
+      size m = each_applies (hits p m) [] p.elements
 
       go : Test (eqb (marks (applying_to p k)) (marks (applying_to p m))) → Test (together p m k) → eqb (marks (applying_to p k)) (marks (applying_to p m)) ≡ together p m k
       go (passed x) t =
@@ -77,7 +73,7 @@ module _ (f : Bytes) (table : List Row) (places : List ElementPlaces) (n : ℕ) 
       let size : length p.elements ≡ n = count_is f table places n p is in
       ap (λ w. map (name_in f places) (keep (bit w) (counting 0 n))) (word_is f table places n p is hit hits_are m)
       ∙ ap (λ k. map (name_in f places) (keep (bit (marks (applying_to p m))) (counting 0 k))) (sym size)
-      ∙ marked_from (name_in f places) (bit (marks (applying_to p m))) 0 (applying_to p m) p.elements (tests_length (hits p m) [] p.elements)
+      ∙ marked_from (name_in f places) (bit (marks (applying_to p m))) 0 (applying_to p m) p.elements (each_applies (hits p m) [] p.elements)
       (λ k l. rw zero-add (sym (name_at_lem f table places n p is k (omega arith))))
       (λ k. rw zero-add (bit_mark (applying_to p m) k))
 

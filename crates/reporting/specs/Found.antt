@@ -27,10 +27,10 @@ pub record SegmentsFound (table : List Row) (n : ℕ) (hit : ℕ → Element →
   pub told : (m : ℕ) → m < space → get_or decided m Decision.Permit ≡ decided_at table n hit none_struck m
 
 -- and of each pair of children
-pub record ConflictsFound (table : List Row) (n : ℕ) (hit : ℕ → Element → Bool) (space : ℕ) (parents : List (Option ℕ)) (pairs : List ℕ) : Type 0 where
+pub record ConflictsFound (table : List Row) (n : ℕ) (hit : ℕ → Element → Bool) (space : ℕ) (parents : List (Option ℕ)) (pairs : List (List ℕ)) : Type 0 where
   -- an element's parent
   pub parented : (j : ℕ) → j < n → get_or parents j None ≡ found (parent_of table j)
-  -- the first request that shows the conflict of two children, at 64 j + k, or the number of requests
+  -- the first request that shows the conflict of two children, at place k of row j, or the number of requests
   pub paired : Pairs parents (shows_at table none_struck n hit) n space pairs
 
 -- the rules: those struck, in order, and the first request that needs each one kept; the first element is left

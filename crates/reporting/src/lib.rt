@@ -1,7 +1,7 @@
 // The report of a policy that was read: everything is found once, then the same code counts the text and writes it.
 #![tactic(auto)]
 
-ghost use Rattle.std.specs.Prelude.{◌++◌, ◌≡◌, ◌+◌, ◌≤◌, ◌<◌, length};
+ghost use Rattle.std.specs.Prelude.{◌++◌, ◌≡◌, ◌+◌, ◌≤◌, ◌<◌, length, take};
 ghost use Rattle.meaning.specs.Operations.{report_answer, report_lent};
 ghost use Rattle.table.specs.Shape.{hit_of};
 ghost use Rattle.layout.specs.Places.{Naming};
@@ -32,6 +32,7 @@ fn find_decisions(table: &[Row], shape: Shape, hits: &mut [[u64; 64]], outcomes:
 }
 
 // What is found of each request: the word of the elements that apply to it, the size of the segment that it starts, else 0, and its decision.
+// (Three lists, which three crates lay down, each one whole: as one list of structs they would take more of the controller's memory, by the padding.)
 #[derive(Drop)]
 struct Segments {
     words: [u64; 4096],
@@ -55,11 +56,11 @@ impl Segments {
     }
 }
 
-// Each element's parent, and for each pair of siblings the request that shows their conflict.
+// Each element's parent, and for each pair of siblings the request that shows their conflict, in the row of the earlier one.
 #[derive(Drop)]
 struct Conflicts {
     parents: [Option<usize>; 64],
-    pairs: [u16; 4096],
+    pairs: [[u16; 64]; 64],
 }
 
 impl Conflicts {
@@ -121,11 +122,12 @@ struct Lines<'a> {
     rules: &'a Rules,
     ghost naming: { Naming policy.file.now policy.places.now policy.shape.n },
     ghost small: { policy.shape.space ≤ 4096 },
-    ghost ordered: { Ordered policy.file.now policy.places.now rules.now.order rules.now.count },
+    ghost counted: { rules.now.count ≤ length rules.now.order },
+    ghost ordered: { Ordered policy.file.now policy.places.now (take rules.now.count rules.now.order) },
 }
 
 impl Text for Lines<'_> {
-    ghost text = { λ t. let f = t.policy.file.now in let places = t.policy.places.now in let n = t.policy.shape.n in let space = t.policy.shape.space in segment_text f places n t.segments.now.words t.segments.now.sizes t.segments.now.decided space ++ (conflict_text f places n t.conflicts.now.parents t.conflicts.now.pairs space ++ (struck_text f places t.rules.now.order t.rules.now.count ++ kept_text f places n t.rules.now.shown space)) };
+    ghost text = { λ t. let f = t.policy.file.now in let places = t.policy.places.now in let n = t.policy.shape.n in let space = t.policy.shape.space in segment_text f places n t.segments.now.words t.segments.now.sizes t.segments.now.decided space ++ (conflict_text f places n t.conflicts.now.parents t.conflicts.now.pairs space ++ (struck_text f places (take t.rules.now.count t.rules.now.order) ++ kept_text f places n t.rules.now.shown space)) };
 
     fn put(&self, sink: &mut Sink) {
         let policy = &self.policy;
@@ -138,7 +140,7 @@ impl Text for Lines<'_> {
             sink,
         );
         put_conflicts(policy, &self.conflicts.parents, &self.conflicts.pairs, sink);
-        put_struck(policy, &self.rules.order, self.rules.count, sink);
+        put_struck(policy, &self.rules.order[..self.rules.count], sink);
         put_kept(policy, &self.rules.shown, sink);
     }
 }
@@ -188,7 +190,7 @@ pub fn report(policy: PolicyFile, out: &mut [u8]) -> Answer
     // Their rows are gone from the stack before the segments' words lie on it.
     let mut conflicts = Conflicts {
         parents: [None; 64],
-        pairs: [0; 4096],
+        pairs: [[0; 64]; 64],
     };
     conflicts.find(&o);
     write_lines(&o, &conflicts, out)

@@ -8,6 +8,7 @@ use lib.Dec.{eqb}
 use lib.ListN.{length, get_or}
 use Rattle.meaning.specs.Text.{counting}
 use Rattle.meaning.specs.Deciding.{bit}
+use Rattle.laws.proofs.Bits.{bit_zero}
 use Rattle.blocks.proofs.LowBits.{bit_lowest, bit_higher}
 use Rattle.rows.specs.Words.{marks, word_from}
 
@@ -25,12 +26,8 @@ lowest false m = let even : (0 + 2 * m) % 2 ≡ 0 = omega arith in rw even
 halved : (b : Bool) (m : ℕ) → (one_if b + 2 * m) / 2 ≡ m
 halved b m = let l = small b in omega arith
 
-none_set : (i : ℕ) → bit 0 i ≡ false
-none_set zero = refl
-none_set (suc i) = bit_higher 0 i ∙ none_set i
-
 pub bit_mark : (bs : List Bool) (i : ℕ) → bit (marks bs) i ≡ get_or bs i false
-bit_mark [] i = none_set i
+bit_mark [] i = bit_zero i
 bit_mark (b ∷ bs) zero = bit_lowest (one_if b + 2 * marks bs) ∙ lowest b (marks bs)
 bit_mark (b ∷ bs) (suc i) = bit_higher (one_if b + 2 * marks bs) i ∙ ap (λ y. bit y i) (halved b (marks bs)) ∙ bit_mark bs i
 

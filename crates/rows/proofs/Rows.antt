@@ -9,7 +9,7 @@ use lib.Dec.{leb, eqb}
 use lib.Bits.{bit_and}
 use lib.ListN.{length, get_or, set, length-set, replicate, get_or-replicate}
 use lib.Seq.{get_or-set_same, get_or-set_other}
-use borrow.Author.Tests.{leb-true, leb-false, eqb-true, eqb-false}
+use borrow.Author.Tests.{leb-true, leb-false, eqb-true, eqb-false, not-false}
 use Rattle.meaning.specs.declared.Decision.{Decision}
 use Rattle.meaning.specs.declared.Decision.TheVariants.{NotApplicable}
 use Rattle.meaning.specs.declared.Element.{Element}
@@ -79,11 +79,7 @@ module _ (t : List Row) (hits : List (List ℕ)) (n blocks i : ℕ) (inside : i 
 
 -- a word of ones has every bit
 full : (v : ℕ) → v < 64 → bit 18446744073709551615 v ≡ true
-full v l = set_bit (bit 18446744073709551615 v) (first_none (λ k. not (bit 18446744073709551615 k)) 0 64 refl v zero-le (omega arith))
-  where
-    set_bit : (b : Bool) → not b ≡ false → b ≡ true
-    set_bit true e = refl
-    set_bit false e = sym e
+full v l = not-false (bit 18446744073709551615 v) (first_none (λ k. not (bit 18446744073709551615 k)) 0 64 refl v zero-le (omega arith))
 
 -- a row narrowed from ones
 pub row_applied : (t : List Row) (hits : List (List ℕ)) (n blocks i : ℕ) (row : List ℕ) → blocks ≤ 64 → Narrowed t hits n blocks i (replicate 64 18446744073709551615) row → AppliedRow t hits n blocks i row

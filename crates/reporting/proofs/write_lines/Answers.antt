@@ -1,5 +1,5 @@
 -- `write_lines`: the lines of what was found, as an answer. Assumes nothing.
-use Rattle.reporting.proofs.Finding.{laid, struck_named}
+use Rattle.reporting.proofs.Finding.{laid, struck_named, struck_counted}
 use Rattle.reporting.proofs.ReportText.{reported}
 use Rattle.reporting.proofs.write_lines.Goals as goal
 
@@ -14,6 +14,9 @@ invariant_of-lines-clause-naming c = c.requires.0.naming
 
 pub invariant_of-lines-clause-small : goal.invariant_of-lines-clause-small
 invariant_of-lines-clause-small c = c.requires.0.ready.small
+
+pub invariant_of-lines-clause-counted : goal.invariant_of-lines-clause-counted
+invariant_of-lines-clause-counted c = struck_counted _ _ _ _ _ _ _ _ _ c.find-2.ensures
 
 pub invariant_of-lines-clause-ordered : goal.invariant_of-lines-clause-ordered
 invariant_of-lines-clause-ordered c = struck_named _ _ _ _ _ _ _ _ _ c.requires.0.naming c.find-2.ensures

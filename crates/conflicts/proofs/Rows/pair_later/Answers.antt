@@ -1,25 +1,27 @@
 use mathlib.Core.Path.{refl, sym, ◌∙◌}
-use Prim.Native.Nat.{◌+◌, ◌*◌, ◌<◌}
+use Prim.Native.Nat.{◌<◌}
+use mathlib.Core.List.{[]}
 use native.Mathlib.Omega.{arith}
-use lib.ListN.{length}
+use lib.ListN.{length, get_or}
 use borrow.Author.Tests.{not-true, not-false}
 use Rattle.conflicts.specs.Pairs.{shown_by, Later}
 use Rattle.conflicts.proofs.Showing.{first_or, first_within}
-use Rattle.conflicts.proofs.PairSteps.{some_eq, some_ne, some_same, none_some, pairs_begun, pair_skipped, pair_laid, pairs_ended, no_pair}
+use Rattle.std.proofs.lemmas.Option.{same_Some, none-some}
+use Rattle.conflicts.proofs.PairSteps.{some_eq, some_ne, pairs_begun, pair_skipped, pair_laid, pairs_ended, no_pair}
 use Rattle.conflicts.proofs.Rows.pair_later.Goals as goal
 
 pub returns-in_default : goal.returns-in_default
 returns-in_default c =
     let args = c.args in (
       no_pair args.parents.now (shown_by args.self.now.applied.now args.self.now.permits.now args.self.now.denies.now) args.n args.self.now.space args.pairs.now args.j args.pairs.now
-          (λ i inside e. let same = some_same (sym e ∙ c.in-Some.is) in omega (arith, c.if-parent-n.false)),
-      λ m h. refl,
+          (λ i inside e. let same = same_Some _ _ (sym e ∙ c.in-Some.is) in omega (arith, c.if-parent-n.false)),
+      λ l k h. refl,
     )
 
 pub returns-in_default-2 : goal.returns-in_default-2
 returns-in_default-2 c =
     let args = c.args in
-    (no_pair args.parents.now (shown_by args.self.now.applied.now args.self.now.permits.now args.self.now.denies.now) args.n args.self.now.space args.pairs.now args.j args.pairs.now (λ i inside e. none_some (sym c.in_default.is ∙ e)), λ m h. refl)
+    (no_pair args.parents.now (shown_by args.self.now.applied.now args.self.now.permits.now args.self.now.denies.now) args.n args.self.now.space args.pairs.now args.j args.pairs.now (λ i inside e. none-some _ (sym c.in_default.is ∙ e)), λ l k h. refl)
 
 pub loop-k-init : goal.loop-k-init
 loop-k-init c =
@@ -50,10 +52,11 @@ loop-k-preserved c =
     let l = c.loop-k in
     let pre = c.requires in
     let parent = c.in-Some.parent in
-    let room : 64 * args.j + l.k < length l.pairs = omega (arith, pre.0.few, pre.0.pairs_room, l.invariant.1) in
+    let inside : args.j < length l.pairs = omega (arith, pre.0.few, pre.0.pairs_room, l.invariant.1) in
+    let room : l.k < length (get_or l.pairs args.j []) = omega (arith, l.invariant.0.widths args.j, c.told-pairs args.j (omega (arith, inside, l.invariant.1)), pre.0.few) in
     let later : Later args.parents.now args.n parent args.j l.k =
     record { after = omega arith; within = omega arith; some = c.if-parent-n.true; child = c.in-Some.is; sibling = some_eq _ _ (not-false _ (sym c.ne.ensures ∙ c.if-ne.false)) } in
-    let laid = pair_laid args.parents.now (shown_by args.self.now.applied.now args.self.now.permits.now args.self.now.denies.now) args.n args.self.now.space args.pairs.now args.j parent c.in-Some.is l.k l.pairs l.invariant.0 _ pre.0.few later room (first_or _ _ c.first_shown-shown.ensures c.unwrap_or.ensures) in
+    let laid = pair_laid args.parents.now (shown_by args.self.now.applied.now args.self.now.permits.now args.self.now.denies.now) args.n args.self.now.space args.pairs.now args.j parent c.in-Some.is l.k l.pairs l.invariant.0 _ later inside room (first_or _ _ c.first_shown-shown.ensures c.unwrap_or.ensures) in
     (laid, laid.same_length)
 
 pub returns : goal.returns
