@@ -19,6 +19,32 @@ use layout::Tree;
 use meaning::Element;
 use refusals::{Refusal, Refused};
 
+// How many values each of so many attributes has.
+#[derive(Clone, Copy)]
+pub struct ValueCounts {
+    pub counts: [usize; 6],
+    pub len: usize,
+    pub ghost few: { FewValues counts len },
+}
+
+impl ValueCounts {
+    // 8: whether a mask is empty or has a bit too high, or one behind the last attribute is not zero.
+    fn bad_masks(&self, masks: [u16; 6]) -> bool
+        ensures { (attrs : List Attribute) → take self.now.len self.now.counts ≡ value_counts attrs → result ≡ bad_masks attrs masks }
+    {
+        for i in 0..self.len {
+            let mask = masks[i];
+            if mask == 0 {
+                return true;
+            }
+            if elements::full_mask(self.counts[i]) < mask {
+                return true;
+            }
+        }
+        masks[self.len..].iter().any(|mask| *mask != 0)
+    }
+}
+
 // 3 of an element.
 fn bad_record(e: Element) -> bool
     ensures { result ≡ (bad_name e || bad_unused e) }
@@ -43,33 +69,15 @@ fn known(before: &[Element], e: Element) -> bool
     false
 }
 
-// 8: whether a mask is empty or has a bit too high, or one behind the last attribute is not zero.
-fn bad_masks(counts: [usize; 6], attributes: usize, masks: [u16; 6]) -> bool
-    requires { FewValues counts attributes }
-    ensures { (attrs : List Attribute) → take attributes counts ≡ value_counts attrs → result ≡ bad_masks attrs masks }
-{
-    for i in 0..attributes {
-        let mask = masks[i];
-        if mask == 0 {
-            return true;
-        }
-        if elements::full_mask(counts[i]) < mask {
-            return true;
-        }
-    }
-    masks[attributes..].iter().any(|mask| *mask != 0)
-}
-
 // The lowest of 3 to 8 that refuses the element e behind those that the tree stands for.
 fn test_element(
-    counts: [usize; 6],
-    attributes: usize,
+    values: &ValueCounts,
     all: &[Element],
     tree: Tree,
     e: Element,
 ) -> Result<(), Refusal>
-    requires { FewValues counts attributes × Begun all.now tree }
-    ensures { (attrs : List Attribute) → take attributes counts ≡ value_counts attrs → number_in result ≡ lowest (element_tests (behind attrs all.now tree.len) (word_text e.word) e) }
+    requires { Begun all.now tree }
+    ensures { (attrs : List Attribute) → take values.now.len values.now.counts ≡ value_counts attrs → number_in result ≡ lowest (element_tests (behind attrs all.now tree.len) (word_text e.word) e) }
 {
     if bad_record(e) {
         return Err(Refusal::BadName);
@@ -80,7 +88,7 @@ fn test_element(
     if 64 <= tree.len {
         return Err(Refusal::TooMany);
     }
-    if attributes == 0 {
+    if values.len == 0 {
         return Err(Refusal::Misplaced);
     }
     if !layout::well_placed(e.kind, e.depth as usize, tree) {
@@ -89,7 +97,7 @@ fn test_element(
     if !parts::word_fits(e.kind, e.word) {
         return Err(Refusal::BadWord);
     }
-    if bad_masks(counts, attributes, e.masks) {
+    if values.bad_masks(e.masks) {
         return Err(Refusal::BadTarget);
     }
     Ok(())
@@ -97,39 +105,33 @@ fn test_element(
 
 // Tests the element e on its line, and its obligations on the lines behind it.
 fn check_element(
-    counts: [usize; 6],
-    attributes: usize,
+    values: &ValueCounts,
     all: &[Element],
     tree: Tree,
     e: Element,
     line: u32,
 ) -> Result<(), Refused>
-    requires { FewValues counts attributes × Begun all.now tree × (line ≤ 7 + 3 * tree.len) }
+    requires { Begun all.now tree × (line ≤ 7 + 3 * tree.len) }
     ensures shaped { Shaped e }
-    ensures told { (attrs : List Attribute) → take attributes counts ≡ value_counts attrs → CheckedAs result (read_element line (behind attrs all.now tree.len) e) }
+    ensures told { (attrs : List Attribute) → take values.now.len values.now.counts ≡ value_counts attrs → CheckedAs result (read_element line (behind attrs all.now tree.len) e) }
 {
-    parts::on_line(test_element(counts, attributes, all, tree, e), line)?;
+    parts::on_line(test_element(values, all, tree, e), line)?;
     obligations::check_obligations(e, line)
 }
 
-// Tests the elements of a list in order, behind so many attributes of these value counts. What their Rattle type says of good ones, their sizes, is told, too.
-pub fn check_elements(
-    counts: [usize; 6],
-    attributes: usize,
-    list: &[Element],
-) -> Result<(), Refused>
-    requires { FewValues counts attributes }
+// Tests the elements of a list in order, behind attributes of these value counts. What their Rattle type says of good ones, their sizes, is told, too.
+pub fn check_elements(values: &ValueCounts, list: &[Element]) -> Result<(), Refused>
     ensures shaped { IsOk result → All Shaped list.now }
-    ensures told { (attrs : List Attribute) → take attributes counts ≡ value_counts attrs → CheckedAs result (read_elements (suc attributes) (record { attributes = attrs; before = [] }) list.now) }
+    ensures told { (attrs : List Attribute) → take values.now.len values.now.counts ≡ value_counts attrs → CheckedAs result (read_elements (suc values.now.len) (record { attributes = attrs; before = [] }) list.now) }
 {
     let mut tree = Tree {
         len: 0,
         depth: 0,
         kinds: [None; 8],
     };
-    let mut line = attributes as u32 + 1;
+    let mut line = values.len as u32 + 1;
     for e in list {
-        check_element(counts, attributes, list, tree, *e, line)?;
+        check_element(values, list, tree, *e, line)?;
         tree = layout::with_element(tree, e.kind, e.depth as usize);
         line += 1 + u32::from(e.obligations);
     }

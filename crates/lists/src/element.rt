@@ -1,4 +1,5 @@
 // One element by value, from where it and its obligations stand in a file and in the table.
+// (File, table and places go on as reading filled them: a `PolicyFile` has the policy's shape besides, which nothing here looks at.)
 ghost use Rattle.std.specs.Prelude.{◌≡◌, ◌+◌, ◌≤◌, ◌<◌, length};
 ghost use Rattle.meaning.specs.Model.{padded};
 ghost use Rattle.table.specs.Rows.{depth_of, Rows};

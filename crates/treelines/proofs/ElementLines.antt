@@ -5,12 +5,12 @@ use native.Mathlib.Omega.{arith}
 use mathlib.Core.List.{List, [], ◌∷◌, ◌++◌}
 use lib.ListN.{length, get_or}
 use lib.Seq.{take_all}
+use Rattle.std.proofs.lemmas.List.{get_or_default}
 use Rattle.meaning.specs.Text.{Bytes, gathered, counting, newline, tab, line, decimal}
 use Rattle.meaning.specs.Writing.{element_lines}
 use Rattle.layout.specs.declared.Attributes.{Attributes}
 use Rattle.layout.specs.Places.{attributes_of}
 use Rattle.elements.specs.Listed.{blank}
-use Rattle.elements.proofs.Listing.{any_default}
 use Rattle.laws.proofs.Types.{set, Word, Obligation, Element}
 use Rattle.printing.specs.declared.Sink.{Sink}
 use Rattle.printing.specs.Puts.{Puts}
@@ -55,8 +55,8 @@ unread = record { kind = set; depth = 0; name = []; len = 0; word = Word.Permit;
 abbrev pub lines_at : Bytes → Attributes → List Element → ℕ → Bytes
 lines_at header a all i = element_lines (attributes_of header a) (get_or all i unread)
 
-pub small_at : (header : Bytes) (a : Attributes) (list : List Element) (i : ℕ) → Writable header a list → i < length list → Small (get_or list i unread)
-small_at header a list i w l = rw (any_default list unread blank i l) (w.each i l)
+pub small_at : (list : List Element) (i : ℕ) → Writable list → i < length list → Small (get_or list i unread)
+small_at list i w l = rw (get_or_default list i unread blank l) (w.each i l)
 
 -- the attribute lines, and the lines of all elements
 pub file_text : {x y z : Sink} (header : Bytes) (a : Attributes) (list : List Element)

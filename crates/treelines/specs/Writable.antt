@@ -22,7 +22,6 @@ pub record Small (e : Element) : Type 0 where
   pub obligations : All (λ o. o.len ≤ 16) (obligations_of e)
 
 -- at most 64 such elements
-pub record Writable (header : Bytes) (a : Attributes) (list : List Element) : Type 0 where
-  pub headed : Headed header a
+pub record Writable (list : List Element) : Type 0 where
   pub few : length list ≤ 64
   pub each : (i : ℕ) → i < length list → Small (get_or list i blank)

@@ -4,9 +4,8 @@ ghost use Rattle.meaning.specs.Text.{gathered, cut, join, tab, comma};
 ghost use Rattle.meaning.specs.Writing.{value_names, target_text, target_texts};
 ghost use Rattle.layout.specs.Places.{attributes_of};
 ghost use Rattle.printing.specs.Puts.{Puts};
-ghost use Rattle.treelines.specs.Writable.{Headed};
 
-use layout::Attributes;
+use crate::AttributeLines;
 use meaning::Element;
 use printing::Sink;
 
@@ -56,13 +55,14 @@ fn put_target(values: &[u8], count: usize, mask: u16, sink: &mut Sink)
 }
 
 // The target of each attribute, with a tab before it.
-pub(crate) fn put_targets(header: &[u8], a: Attributes, e: Element, sink: &mut Sink)
-    requires { Headed header.now a × (sink.old.at ≤ 2000000000) }
-    ensures { Puts sink.old (gathered (λ t. tab ∷ t) (target_texts (attributes_of header.now a) e.masks)) sink.new × (sink.new.at ≤ sink.old.at + 98316) }
+pub(crate) fn put_targets(lines: &AttributeLines, e: Element, sink: &mut Sink)
+    requires { sink.old.at ≤ 2000000000 }
+    ensures { Puts sink.old (gathered (λ t. tab ∷ t) (target_texts (attributes_of lines.now.text.now lines.now.attributes) e.masks)) sink.new × (sink.new.at ≤ sink.old.at + 98316) }
 {
+    let a = &lines.attributes;
     let masks = e.masks;
     for i in 0..a.len {
         sink.put(b'\t');
-        put_target(a.values(header, i), a.all[i].count, masks[i], sink);
+        put_target(a.values(lines.text, i), a.all[i].count, masks[i], sink);
     }
 }

@@ -5,6 +5,7 @@ use Prim.Native.Nat.{ℕ, zero, suc, ◌<◌}
 use native.Mathlib.Omega.{arith}
 use mathlib.Core.List.{List, [], ◌∷◌, ◌++◌, reverse, map}
 use lib.ListN.{length, take, get_or, length-map}
+use Rattle.std.proofs.lemmas.List.{nil_from_length}
 use Rattle.meaning.specs.declared.Element.{Element}
 use Rattle.meaning.specs.Text.{Bytes, gathered}
 use Rattle.meaning.specs.Model.{Result, refused, given, ◌then◌}
@@ -25,7 +26,7 @@ use Rattle.layout.proofs.Counts.{counts_are}
 use Rattle.elements.specs.Listed.{blank}
 use Rattle.header.specs.Told.{HeaderHolds, HeaderAs}
 use Rattle.checking.specs.Tested.{taken as kept, number_told, line_told, CheckedAs}
-use Rattle.treelines.specs.Writable.{Writable}
+use Rattle.treelines.specs.Writable.{Headed, Writable}
 use Rattle.writing.proofs.Texts.{told, Gives}
 use Rattle.writing.proofs.Kept.{elements_kept, lines_kept}
 
@@ -49,10 +50,6 @@ small_at [] i a l = absurd (omega arith)
 small_at (e ∷ es) zero a l = a.0
 small_at (e ∷ es) (suc i) a l = small_at es i a.1 (omega arith)
 
-empty_of : (es : List Element) → length es ≡ 0 → es ≡ []
-empty_of [] e = refl
-empty_of (x ∷ es) e = absurd (omega arith)
-
 -- attribute lines that are refused
 pub header_refused : (header : Bytes) (r : Refused) → HeaderAs header (Err r) (short header then (read_text header_tests)) → (es : List Element) (old : Bytes) → (answer_of r ≡ write_answer header es old) × (old ≡ write_lent header es old)
 header_refused header r is es old = (ap (answered length) (sym all), ap (lent old) (sym all))
@@ -74,6 +71,9 @@ module _ (header : Bytes) (a : Attributes) (is : HeaderAs header (Ok a) (short h
 
   pub holds : HeaderHolds header a header_read.0
   holds = header_read.2
+
+  pub headed : Headed header a
+  headed = record { short = holds.size; standing = holds.spaced.standing; few_values = holds.spaced.few_values }
 
   -- what was read so far: these attributes, and no element
   abbrev start : Sofar
@@ -106,7 +106,7 @@ module _ (header : Bytes) (a : Attributes) (is : HeaderAs header (Ok a) (short h
     -- no element
     pub none_given : length es ≡ 0 → (told 9 0 ≡ write_answer header es old) × (old ≡ write_lent header es old)
     none_given e =
-        let none = empty_of es e in
+        let none = nil_from_length es e in
         let all : write_file (length old) header es ≡ refused 9 0 = ap (write_file (length old) header) none ∙ written_behind [] in
         (ap (answered length) (sym all), ap (lent old) (sym all))
 
@@ -119,13 +119,12 @@ module _ (header : Bytes) (a : Attributes) (is : HeaderAs header (Ok a) (short h
           go (refused n m) e t = absurd (omega (arith, t.number, t.from_three))
           go (given z) e t = (z, e)
 
-      pub writable : Writable header a es
+      pub writable : Writable es
       writable =
           let (y, e) = taken in
           let first = suc (length (attributes_of header a)) in
           let most = taken_few first start es y e (omega arith) in
           record {
-            headed = record { short = holds.size; standing = holds.spaced.standing; few_values = holds.spaced.few_values };
             few = omega arith;
             each = λ i l. let small = small_at es i (taken_small first start es y e) l in
                 record { name = small.short; depth = small.shallow; few_obligations = small.few_obligations; obligations = small.short_obligations };

@@ -13,23 +13,24 @@ ghost use Rattle.meaning.specs.Operations.{answered, lent, write_answer, write_l
 ghost use Rattle.layout.specs.Places.{attributes_of};
 ghost use Rattle.treelines.specs.Writable.{Writable};
 
-use layout::Attributes;
+use checking::ValueCounts;
 use meaning::{Answer, Element};
 use printing::Sink;
 use refusals::{Refusal, Refused};
+use treelines::AttributeLines;
 
 // The text of good lines and elements: counted first, and written if it is no longer than a file and fits.
-fn write_text(header: &[u8], a: Attributes, list: &[Element], out: &mut [u8]) -> Answer
-    requires { Writable header.now a list.now }
-    ensures value { result ≡ answered length (short (header.now ++ gathered (element_lines (attributes_of header.now a)) list.now) then fitted (length out.old)) }
-    ensures out_after { out.new ≡ lent out.old (short (header.now ++ gathered (element_lines (attributes_of header.now a)) list.now) then fitted (length out.old)) }
+fn write_text(lines: &AttributeLines, list: &[Element], out: &mut [u8]) -> Answer
+    requires { Writable list.now }
+    ensures value { result ≡ answered length (short (lines.now.text.now ++ gathered (element_lines (attributes_of lines.now.text.now lines.now.attributes)) list.now) then fitted (length out.old)) }
+    ensures out_after { out.new ≡ lent out.old (short (lines.now.text.now ++ gathered (element_lines (attributes_of lines.now.text.now lines.now.attributes)) list.now) then fitted (length out.old)) }
 {
     let mut none = [0u8; 0];
     let mut count = Sink {
         out: &mut none,
         at: 0,
     };
-    treelines::put_file(header, a, list, &mut count);
+    treelines::put_file(lines, list, &mut count);
     let needed = count.at;
     if 16384 < needed {
         return Refused {
@@ -40,7 +41,7 @@ fn write_text(header: &[u8], a: Attributes, list: &[Element], out: &mut [u8]) ->
     }
     let room = out.len();
     if needed <= room {
-        treelines::put_file(header, a, list, &mut Sink { out, at: 0 });
+        treelines::put_file(lines, list, &mut Sink { out, at: 0 });
     }
     printing::text_answer(needed, room)
 }
@@ -55,7 +56,11 @@ pub fn write(header: &[u8], list: &[Element], out: &mut [u8]) -> Answer
         Ok(attributes) => attributes,
         Err(refused) => return refused.into(),
     };
-    if let Err(refused) = checking::check_elements(a.counts(), a.len, list) {
+    let values = ValueCounts {
+        counts: a.counts(),
+        len: a.len,
+    };
+    if let Err(refused) = checking::check_elements(&values, list) {
         return refused.into();
     }
     if list.is_empty() {
@@ -65,5 +70,9 @@ pub fn write(header: &[u8], list: &[Element], out: &mut [u8]) -> Answer
         }
         .into();
     }
-    write_text(header, a, list, out)
+    let lines = AttributeLines {
+        text: header,
+        attributes: a,
+    };
+    write_text(&lines, list, out)
 }

@@ -17,14 +17,14 @@ returns-in_err-on_line-clause-told c attrs are =
     let same : c.from_residual.result ≡ Err e = search rules in
     let number = c.in_err-on_line.ensures.number ∙ c.test_element.ensures attrs are in
     let other : (own_number attrs a.all.now i a.e ≡ 0 → ⊥) = counted e.why number in
-    rw same (refusal_told (Err e) _ _ _ (own_refused attrs a.all.now i a.e a.line other) (own_within attrs a.all.now i a.e other) (omega (arith, c.requires.2, c.requires.1.few)) number (c.in_err-on_line.ensures.line refl))
+    rw same (refusal_told (Err e) _ _ _ (own_refused attrs a.all.now i a.e a.line other) (own_within attrs a.all.now i a.e other) (omega (arith, c.requires.1, c.requires.0.few)) number (c.in_err-on_line.ensures.line refl))
 
 pub check_obligations-requires : goal.check_obligations-requires
 check_obligations-requires c =
     let a = c.args in
-    let ns = take a.attributes a.counts in
+    let ns = take a.values.now.len a.values.now.counts in
     let passed = sym (c.test_element.ensures (stand_ins ns) (stand_in_counts ns)) ∙ sym c.in_ok-on_line.ensures.number in
-    omega (arith, c.requires.2, few_before (stand_ins ns) a.all.now a.tree.len a.e passed)
+    omega (arith, c.requires.1, few_before (stand_ins ns) a.all.now a.tree.len a.e passed)
 
 pub returns-clause-told : goal.returns-clause-told
 returns-clause-told c attrs are =

@@ -64,37 +64,37 @@ module _ (counts : List ℕ) (attributes : ℕ) (all : List Element) (tree : Tre
 pub loop-e-init : goal.loop-e-init
 loop-e-init c =
     let a = c.args in
-    record { count = refl; begun = begun_first a.list.now; low = omega (arith, c.requires.few); shaped = λ k l. absurd (omega arith); left = λ attrs are. all_remain a.attributes attrs a.list.now }
+    record { count = refl; begun = begun_first a.list.now; low = omega (arith, c.args.values.now.few.few); shaped = λ k l. absurd (omega arith); left = λ attrs are. all_remain a.values.now.len attrs a.list.now }
 
 pub check_element-requires : goal.check_element-requires
-check_element-requires c = (c.requires, c.loop-e.invariant.begun, c.loop-e.invariant.low)
+check_element-requires c = (c.loop-e.invariant.begun, c.loop-e.invariant.low)
 
 pub returns-in_err-check_element-clause-told : goal.returns-in_err-check_element-clause-told
 returns-in_err-check_element-clause-told c attrs are =
     let e = c.in_err-check_element.field-0.0 in
     let same : c.from_residual.result ≡ Err e = search rules in
-    rw same (refused_here c.args.counts c.args.attributes c.args.list.now c.loop-e.tree c.loop-e.line c.loop-e.e-index c.loop-e.invariant.count (omega arith) c.loop-e.invariant.begun
+    rw same (refused_here c.args.values.now.counts c.args.values.now.len c.args.list.now c.loop-e.tree c.loop-e.line c.loop-e.e-index c.loop-e.invariant.count (omega arith) c.loop-e.invariant.begun
     (Err e) c.in_err-check_element.ensures.told (counted e.why refl) attrs are (c.loop-e.invariant.left attrs are))
 
 pub with_element-tree-requires : goal.with_element-tree-requires
 with_element-tree-requires c =
-    shallow c.args.counts c.args.attributes c.args.list.now c.loop-e.tree c.loop-e.line c.loop-e.e-index c.loop-e.invariant.count (omega arith) c.loop-e.invariant.begun
+    shallow c.args.values.now.counts c.args.values.now.len c.args.list.now c.loop-e.tree c.loop-e.line c.loop-e.e-index c.loop-e.invariant.count (omega arith) c.loop-e.invariant.begun
     c.check_element.result c.check_element.ensures.told (ap number_told c.in_ok-check_element.was)
 
 pub overflow_add-line : goal.overflow_add-line
-overflow_add-line c = omega (arith, c.requires.few)
+overflow_add-line c = omega (arith, c.args.values.now.few.few)
 
 pub overflow_add-line-in-loop-e-2 : goal.overflow_add-line-in-loop-e-2
 overflow_add-line-in-loop-e-2 c =
-    let low = line_more c.args.counts c.args.attributes c.args.list.now c.loop-e.tree c.loop-e.line c.loop-e.e-index c.loop-e.invariant.count (omega arith) c.loop-e.invariant.begun
+    let low = line_more c.args.values.now.counts c.args.values.now.len c.args.list.now c.loop-e.tree c.loop-e.line c.loop-e.e-index c.loop-e.invariant.count (omega arith) c.loop-e.invariant.begun
     c.check_element.result c.check_element.ensures.told (ap number_told c.in_ok-check_element.was) c.loop-e.invariant.low in
     omega (arith, low, c.from.ensures, c.loop-e.invariant.begun.few)
 
 pub loop-e-preserved : goal.loop-e-preserved
 loop-e-preserved c =
-    let low = line_more c.args.counts c.args.attributes c.args.list.now c.loop-e.tree c.loop-e.line c.loop-e.e-index c.loop-e.invariant.count (omega arith) c.loop-e.invariant.begun
+    let low = line_more c.args.values.now.counts c.args.values.now.len c.args.list.now c.loop-e.tree c.loop-e.line c.loop-e.e-index c.loop-e.invariant.count (omega arith) c.loop-e.invariant.begun
     c.check_element.result c.check_element.ensures.told (ap number_told c.in_ok-check_element.was) c.loop-e.invariant.low in
-    let (begun, more) = tree_more c.args.counts c.args.attributes c.args.list.now c.loop-e.tree c.loop-e.line c.loop-e.e-index c.loop-e.invariant.count (omega arith) c.loop-e.invariant.begun
+    let (begun, more) = tree_more c.args.values.now.counts c.args.values.now.len c.args.list.now c.loop-e.tree c.loop-e.line c.loop-e.e-index c.loop-e.invariant.count (omega arith) c.loop-e.invariant.begun
     c.check_element.result c.check_element.ensures.told (ap number_told c.in_ok-check_element.was) _ c.with_element-tree.ensures in
     record {
       count = more ∙ ap (λ n. n + 1) c.loop-e.invariant.count;
@@ -102,7 +102,7 @@ loop-e-preserved c =
       low = omega (arith, low, more, c.from.ensures);
       shaped = below_more _ _ c.loop-e.invariant.shaped c.check_element.ensures.shaped;
       left = λ attrs are. c.loop-e.invariant.left attrs are
-          ∙ left_more c.args.counts c.args.attributes c.args.list.now c.loop-e.tree c.loop-e.line c.loop-e.e-index c.loop-e.invariant.count (omega arith) c.loop-e.invariant.begun
+          ∙ left_more c.args.values.now.counts c.args.values.now.len c.args.list.now c.loop-e.tree c.loop-e.line c.loop-e.e-index c.loop-e.invariant.count (omega arith) c.loop-e.invariant.begun
           c.check_element.result c.check_element.ensures.told (ap number_told c.in_ok-check_element.was) _ (ap (λ n. c.loop-e.line + (1 + n)) c.from.ensures) _ more attrs are;
     }
 

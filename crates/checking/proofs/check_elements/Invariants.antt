@@ -18,5 +18,5 @@ invariant-loop-e l = record {
   begun : Begun l.list l.tree;
   low : l.line ≤ 7 + 3 * l.tree.len;
   shaped : (k : ℕ) → k < l.e-index → Shaped (get_or l.list k none);
-  left : (attrs : List Attribute) → take l.attributes l.counts ≡ value_counts attrs → read_elements (suc l.attributes) (record { attributes = attrs; before = [] }) l.list ≡ remaining l.line attrs l.list l.tree.len;
+  left : (attrs : List Attribute) → take l.values.len l.values.counts ≡ value_counts attrs → read_elements (suc l.values.len) (record { attributes = attrs; before = [] }) l.list ≡ remaining l.line attrs l.list l.tree.len;
 }

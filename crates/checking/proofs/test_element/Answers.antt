@@ -29,7 +29,7 @@ named c = sym c.bad_record.ensures ∙ c.if-bad_record.false
 pub known-requires : goal.known-requires
 known-requires c =
     let e = c.args.e in
-    let begun = c.requires.1 in
+    let begun = c.requires in
     let good = or_false (bad_name e) (bad_unused e) (named (goal.at.known-requires c).Else-bad_record) in
     (stored_short e.len e.name good.0, before_short c.args.all.now c.args.tree.len begun.inside begun.short_names)
 
@@ -60,40 +60,40 @@ module _ (attrs : List Attribute) (all : List Element) (n : ℕ) (e : Element) w
         past_4 some placed = past_3 ∙ rw (some, placed)
 
 -- where the element stands well, the word and the masks are left
-placed : (c : Else-not-well_placed) (attrs : List Attribute) → length c.args.counts ≡ 6 → take c.args.attributes c.args.counts ≡ value_counts attrs
+placed : (c : Else-not-well_placed) (attrs : List Attribute) → length c.args.values.now.counts ≡ 6 → take c.args.values.now.len c.args.values.now.counts ≡ value_counts attrs
     → number attrs c.args.all.now c.args.tree.len c.args.e ≡ number_from attrs c.args.all.now c.args.tree.len c.args.e 4
 placed c attrs six are =
     let a = c.args in
-    let some : empty attrs ≡ false = none_counted a.counts a.attributes attrs (omega (arith, six, c.requires.0.few)) are ∙ ne_eqb a.attributes 0 c.if-attributes-eq0.false in
-    let stands : well_placed a.e.kind a.e.depth (earlier a.all.now a.tree.len) ≡ true = sym (c.well_placed.ensures (earlier a.all.now a.tree.len) c.requires.1.stands) ∙ c.if-not-well_placed.false in
-    past_4 attrs a.all.now a.tree.len a.e c.requires.1.inside c.known.ensures (sym c.bad_record.ensures ∙ c.if-bad_record.false) c.if-known.false c.if-tree-ge64.false some stands
+    let some : empty attrs ≡ false = none_counted a.values.now.counts a.values.now.len attrs (omega (arith, six, c.args.values.now.few.few)) are ∙ ne_eqb a.values.now.len 0 c.if-values-eq0.false in
+    let stands : well_placed a.e.kind a.e.depth (earlier a.all.now a.tree.len) ≡ true = sym (c.well_placed.ensures (earlier a.all.now a.tree.len) c.requires.stands) ∙ c.if-not-well_placed.false in
+    past_4 attrs a.all.now a.tree.len a.e c.requires.inside c.known.ensures (sym c.bad_record.ensures ∙ c.if-bad_record.false) c.if-known.false c.if-tree-ge64.false some stands
 
 pub returns-then-known : goal.returns-then-known
 returns-then-known c attrs are =
     let a = c.args in
-    sym (rw (named (goal.at.returns-then-known c).Else-bad_record, known_told attrs a.all.now a.tree.len a.e c.requires.1.inside c.known.ensures ∙ c.if-known.true))
+    sym (rw (named (goal.at.returns-then-known c).Else-bad_record, known_told attrs a.all.now a.tree.len a.e c.requires.inside c.known.ensures ∙ c.if-known.true))
 
 pub returns-then-tree-ge64 : goal.returns-then-tree-ge64
 returns-then-tree-ge64 c attrs are =
     let a = c.args in
-    let past = past_2 attrs a.all.now a.tree.len a.e c.requires.1.inside c.known.ensures (named (goal.at.returns-then-tree-ge64 c).Else-bad_record) c.if-known.false in
+    let past = past_2 attrs a.all.now a.tree.len a.e c.requires.inside c.known.ensures (named (goal.at.returns-then-tree-ge64 c).Else-bad_record) c.if-known.false in
     sym (past ∙ rw (earlier_length a.all.now a.tree.len, le-leb 64 a.tree.len c.if-tree-ge64.true))
 
-pub returns-then-attributes-eq0 : goal.returns-then-attributes-eq0
-returns-then-attributes-eq0 c attrs are =
+pub returns-then-values-eq0 : goal.returns-then-values-eq0
+returns-then-values-eq0 c attrs are =
     let a = c.args in
-    let six : length a.counts ≡ 6 = search rules in
-    let none = none_counted a.counts a.attributes attrs (omega (arith, c.requires.0.few)) are ∙ eq-eqb a.attributes 0 c.if-attributes-eq0.true in
-    let past = past_3 attrs a.all.now a.tree.len a.e c.requires.1.inside c.known.ensures (named (goal.at.returns-then-attributes-eq0 c).Else-bad_record) c.if-known.false c.if-tree-ge64.false in
+    let six : length a.values.now.counts ≡ 6 = search rules in
+    let none = none_counted a.values.now.counts a.values.now.len attrs (omega (arith, c.args.values.now.few.few)) are ∙ eq-eqb a.values.now.len 0 c.if-values-eq0.true in
+    let past = past_3 attrs a.all.now a.tree.len a.e c.requires.inside c.known.ensures (named (goal.at.returns-then-values-eq0 c).Else-bad_record) c.if-known.false c.if-tree-ge64.false in
     sym (past ∙ rw none)
 
 pub returns-then-not-well_placed : goal.returns-then-not-well_placed
 returns-then-not-well_placed c attrs are =
     let a = c.args in
-    let six : length a.counts ≡ 6 = search rules in
-    let some = none_counted a.counts a.attributes attrs (omega (arith, c.requires.0.few)) are ∙ ne_eqb a.attributes 0 c.if-attributes-eq0.false in
-    let wrong = sym (c.well_placed.ensures (earlier a.all.now a.tree.len) c.requires.1.stands) ∙ c.if-not-well_placed.true in
-    let past = past_3 attrs a.all.now a.tree.len a.e c.requires.1.inside c.known.ensures (named (goal.at.returns-then-not-well_placed c).Else-bad_record) c.if-known.false c.if-tree-ge64.false in
+    let six : length a.values.now.counts ≡ 6 = search rules in
+    let some = none_counted a.values.now.counts a.values.now.len attrs (omega (arith, c.args.values.now.few.few)) are ∙ ne_eqb a.values.now.len 0 c.if-values-eq0.false in
+    let wrong = sym (c.well_placed.ensures (earlier a.all.now a.tree.len) c.requires.stands) ∙ c.if-not-well_placed.true in
+    let past = past_3 attrs a.all.now a.tree.len a.e c.requires.inside c.known.ensures (named (goal.at.returns-then-not-well_placed c).Else-bad_record) c.if-known.false c.if-tree-ge64.false in
     sym (past ∙ rw (some, wrong))
 
 pub returns-then-not-word_fits : goal.returns-then-not-word_fits

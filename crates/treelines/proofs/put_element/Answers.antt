@@ -8,8 +8,8 @@ use Rattle.treelines.proofs.put_element.Goals as goal
 pub returns : goal.returns
 returns c =
     let e = c.args.e in
-    let attributes = attributes_of c.args.header.now c.args.a in
-    tree_line_lem (kind_text e.kind) (name_of e) (word_text e.word) e.depth (target_texts attributes e.masks) c.requires.1.depth
+    let attributes = attributes_of c.args.lines.now.text.now c.args.lines.now.attributes in
+    tree_line_lem (kind_text e.kind) (name_of e) (word_text e.word) e.depth (target_texts attributes e.masks) c.requires.0.depth
     c.put_kind.ensures
     c.put_number.ensures
     c.put_name.ensures

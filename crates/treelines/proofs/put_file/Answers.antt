@@ -12,7 +12,7 @@ pub put_lines-requires : goal.put_lines-requires
 put_lines-requires c =
     let (pre, low) = c.requires in
     let l = c.loop-e in
-    (pre.headed, small_at _ _ c.args.list.now l.e-index pre (omega arith), omega (arith, pre.few, pre.headed.short, l.invariant.within, c.put_bytes.ensures.wrote.moved, low))
+    (small_at c.args.list.now l.e-index pre (omega arith), omega (arith, pre.few, c.args.lines.now.headed.short, l.invariant.within, c.put_bytes.ensures.wrote.moved, low))
 
 pub loop-e-preserved : goal.loop-e-preserved
 loop-e-preserved c = let l = c.loop-e in stored l.invariant c.put_lines.ensures
@@ -24,4 +24,4 @@ returns c =
     let pre = c.requires.0 in
     let head = c.put_bytes.ensures in
     let lines = ended_all l.invariant (length args.list.now) (omega arith) in
-    (file_text args.header.now args.a args.list.now head lines, omega (arith, head.wrote.moved, pre.few, pre.headed.short, l.invariant.within))
+    (file_text args.lines.now.text.now args.lines.now.attributes args.list.now head lines, omega (arith, head.wrote.moved, pre.few, c.args.lines.now.headed.short, l.invariant.within))

@@ -4,4 +4,4 @@ use Rattle.treelines.proofs.ElementLines.{lines_at}
 use Rattle.treelines.proofs.put_file.Given as goal
 
 abbrev pub invariant-loop-e : goal.invariant-loop-e
-invariant-loop-e l = Sofar (lines_at l.header l.a l.list) 100100 0 l.initial.sink l.e-index l.sink
+invariant-loop-e l = Sofar (lines_at l.lines.text.now l.lines.attributes l.list) 100100 0 l.initial.sink l.e-index l.sink

@@ -8,7 +8,7 @@ use Rattle.std.specs.Prelude.{Err}
 use Rattle.layout.proofs.Counts.{counts_few}
 use Rattle.refusals.proofs.Numbers.{not_zero}
 use Rattle.checking.specs.Tested.{number_told}
-use Rattle.writing.proofs.Writer.{header_refused, holds, element_refused, none_given, writable, text_written}
+use Rattle.writing.proofs.Writer.{header_refused, holds, headed, element_refused, none_given, writable, text_written}
 use Rattle.writing.proofs.write.Goals as goal
 
 pub returns-in-Err : goal.returns-in-Err
@@ -16,10 +16,10 @@ returns-in-Err c =
     let (value, after) = header_refused c.args.header.now c.in-Err.refused c.in-Err.ensures c.args.list.now c.args.out.now in
     record { value = c.into.ensures ∙ value; out_after = after; shaped = λ done. absurd (not_zero c.in-Err.refused.why (sym (ap (λ a. a.number) c.into.ensures) ∙ done)) }
 
-pub check_elements-requires : goal.check_elements-requires
-check_elements-requires c =
+pub invariant_of-values : goal.invariant_of-values
+invariant_of-values c =
     let spaced = (holds c.args.header.now c.in-Ok.attributes c.in-Ok.ensures []).spaced in
-    record { few = spaced.standing.few; few_values = λ i l. rw c.counts.ensures (counts_few c.in-Ok.attributes spaced.few_values i l) }
+    record { few = record { few = spaced.standing.few; few_values = λ i l. rw c.counts.ensures (counts_few c.in-Ok.attributes spaced.few_values i l) } }
 
 pub returns-in-Err-check_elements : goal.returns-in-Err-check_elements
 returns-in-Err-check_elements c =
@@ -32,6 +32,9 @@ returns-then-is_empty c =
     let none : length c.args.list.now ≡ 0 = search (rules, tests) in
     let (value, after) = none_given c.args.header.now c.in-Ok.attributes c.in-Ok.ensures c.args.out.now c.args.list.now c.check_elements.result c.counts.ensures c.check_elements.ensures.told none in
     record { value = c.into-then-is_empty.ensures ∙ value; out_after = after; shaped = λ done. absurd (omega (arith, done, ap (λ a. a.number) c.into-then-is_empty.ensures)) }
+
+pub invariant_of-lines : goal.invariant_of-lines
+invariant_of-lines c = record { headed = headed c.args.header.now c.in-Ok.attributes c.in-Ok.ensures [] }
 
 pub write_text-requires : goal.write_text-requires
 write_text-requires c =

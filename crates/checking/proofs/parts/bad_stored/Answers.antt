@@ -1,6 +1,5 @@
 -- `bad_stored` meets its contract, branch by branch.
 use mathlib.Core.Path.{◌≡◌, sym, ap, ◌∙◌}
-use Prim.Native.Nat.{◌-◌}
 use native.Mathlib.Omega.{arith}
 use lib.ListN.{length, drop, length-drop}
 use lib.Seq.{take_all}
@@ -22,4 +21,4 @@ pub returns : goal.returns
 returns c =
     let a = c.args in
     let size : length a.name ≡ 16 = search rules in
-    c.non_zero.ensures ∙ ap non_zero (take_all (16 - a.stored) (drop a.stored a.name) (omega (arith, length-drop a.stored a.name, size))) ∙ sym (name_right a.stored a.name (omega arith) (omega arith) (sym c.is_name.ensures ∙ c.if-not-is_name.false))
+    c.non_zero.ensures ∙ ap non_zero (take_all _ (drop a.stored a.name) (omega (arith, length-drop a.stored a.name, size))) ∙ sym (name_right a.stored a.name (omega arith) (omega arith) (sym c.is_name.ensures ∙ c.if-not-is_name.false))

@@ -4,4 +4,4 @@ use Rattle.treelines.proofs.TargetTexts.{tab_target}
 use Rattle.treelines.proofs.targets.put_targets.Given as goal
 
 abbrev pub invariant-loop-i : goal.invariant-loop-i
-invariant-loop-i l = Sofar (tab_target l.header l.a l.masks) 16386 0 l.initial.sink l.i l.sink
+invariant-loop-i l = Sofar (tab_target l.lines.text.now l.lines.attributes l.masks) 16386 0 l.initial.sink l.i l.sink

@@ -15,7 +15,7 @@ use Rattle.meaning.specs.Reading.{non_zero, bad_masks}
 use Rattle.layout.specs.Places.{value_counts}
 use Rattle.checking.proofs.Zeros.{any_is, other}
 use Rattle.checking.proofs.Masks.{wrong_masks, masks_by_counts, masks_end, mask_empty, mask_high}
-use Rattle.checking.proofs.bad_masks.Goals as goal
+use Rattle.checking.proofs.ValueCounts.bad_masks.Goals as goal
 
 module _ (counts masks : List ℕ) (n : ℕ) (six : length counts ≡ 6) (few : n ≤ 6) where
   -- what the counts of the attributes say
@@ -40,26 +40,26 @@ module _ (counts masks : List ℕ) (n : ℕ) (six : length counts ≡ 6) (few : 
 pub returns-then-mask-eq0 : goal.returns-then-mask-eq0
 returns-then-mask-eq0 c =
     let a = c.args in
-    let six : length a.counts ≡ 6 = search rules in
+    let six : length a.self.now.counts ≡ 6 = search rules in
     let masks : length a.masks ≡ 6 = search rules in
-    let few = c.requires.few in
-    told a.counts a.masks a.attributes six few true (sym c.loop-i.invariant ∙ none_set a.counts a.masks a.attributes six few c.loop-i.i (omega arith) (omega arith) c.if-mask-eq0.true)
+    let few = a.self.now.few.few in
+    told a.self.now.counts a.masks a.self.now.len six few true (sym c.loop-i.invariant ∙ none_set a.self.now.counts a.masks a.self.now.len six few c.loop-i.i (omega arith) (omega arith) c.if-mask-eq0.true)
 
 pub returns-then-full_mask-mask : goal.returns-then-full_mask-mask
 returns-then-full_mask-mask c =
     let a = c.args in
-    let six : length a.counts ≡ 6 = search rules in
+    let six : length a.self.now.counts ≡ 6 = search rules in
     let masks : length a.masks ≡ 6 = search rules in
-    let few = c.requires.few in
-    told a.counts a.masks a.attributes six few true (sym c.loop-i.invariant ∙ too_high a.counts a.masks a.attributes six few c.loop-i.i (omega arith) (omega arith) _ c.full_mask.ensures c.if-full_mask-mask.true)
+    let few = a.self.now.few.few in
+    told a.self.now.counts a.masks a.self.now.len six few true (sym c.loop-i.invariant ∙ too_high a.self.now.counts a.masks a.self.now.len six few c.loop-i.i (omega arith) (omega arith) _ c.full_mask.ensures c.if-full_mask-mask.true)
 
 pub returns : goal.returns
 returns c =
     let a = c.args in
-    let six : length a.counts ≡ 6 = search rules in
+    let six : length a.self.now.counts ≡ 6 = search rules in
     let masks : length a.masks ≡ 6 = search rules in
-    let few = c.requires.few in
-    let rest : List ℕ = take (6 - a.attributes) (drop a.attributes a.masks) in
-    let whole : rest ≡ drop a.attributes a.masks = take_all (6 - a.attributes) (drop a.attributes a.masks) (omega (arith, length-drop a.attributes a.masks)) in
+    let few = a.self.now.few.few in
+    let rest : List ℕ = take (6 - a.self.now.len) (drop a.self.now.len a.masks) in
+    let whole : rest ≡ drop a.self.now.len a.masks = take_all (6 - a.self.now.len) (drop a.self.now.len a.masks) (omega (arith, length-drop a.self.now.len a.masks)) in
     let found = any_from_yields_List other _ _ _ c.any.ensures.ran (YieldsList-from_slice rest cc) (λ x b q k. search (rules, tests)) ∙ any_is other rest ∙ ap non_zero whole in
-    told a.counts a.masks a.attributes six few _ (sym c.loop-i.invariant ∙ left a.counts a.masks a.attributes six few c.loop-i.i (omega arith) ∙ sym found)
+    told a.self.now.counts a.masks a.self.now.len six few _ (sym c.loop-i.invariant ∙ left a.self.now.counts a.masks a.self.now.len six few c.loop-i.i (omega arith) ∙ sym found)
