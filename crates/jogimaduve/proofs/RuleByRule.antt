@@ -9,6 +9,7 @@ use mathlib.Core.List.{List, [], ◌∷◌}
 use lib.Dec.{eqb}
 use lib.ListN.{length}
 use borrow.Author.Tests.{eqb-true, eqb-false, ne_eqb}
+use Rattle.std.proofs.lemmas.List.{nil_from_length}
 use Rattle.meaning.specs.declared.Answer.{Answer}
 use Rattle.meaning.specs.Text.{Bytes}
 use Rattle.meaning.specs.Model.{Policy, given, ◌then◌}
@@ -88,10 +89,6 @@ pub record RuleByRule (o : Operate) (f : Bytes) : Type 0 where
   -- and it comes to that: with room, a round for each rule that trimming strikes is enough
   pub comes_to_end : (names : List Bytes) (t : Bytes) → Trims f names t → (rounds : List Buffers) → All Roomy rounds → length names ≤ length rounds → after_rounds o f rounds ≡ t
 
-no_bytes : (t : Bytes) → length t ≡ 0 → t ≡ []
-no_bytes [] e = refl
-no_bytes (b ∷ t) e = absurd (omega (arith, e))
-
 -- What both write of an accepted file
 module _ (f : Bytes) (p : Policy) (h : read f ≡ given p) where
   shown_writes : (o : NextRule) (b : Bytes) → Writes 11 (given (next_name f)) (o.answer f b) b (o.after f b)
@@ -114,7 +111,7 @@ module _ (f : Bytes) (p : Policy) (h : read f ≡ given p) where
   -- none is named exactly if no rule is needless
   named_none : (o : NextRule) (b : Bytes) → (o.answer f b ≡ told 0 0) ↔ ((k : ℕ) → Needless f k → ⊥)
   named_none o b = (
-    λ e. (showing f p h).none_named.0 (no_bytes (next_name f) (sym (name_written o b (ap (λ a. a.number) e)).1 ∙ ap (λ a. a.second) e)),
+    λ e. (showing f p h).none_named.0 (nil_from_length (next_name f) (sym (name_written o b (ap (λ a. a.number) e)).1 ∙ ap (λ a. a.second) e)),
     λ needed. let none : next_name f ≡ [] = (showing f p h).none_named.1 needed in
         ((shown_writes o b).written_so [] (ap given none) zero-le).0,
   )

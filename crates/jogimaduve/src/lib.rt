@@ -20,10 +20,10 @@ fn held<'a>(
     file: &'a [u8],
     places: &'a [ElementPlaces],
     table: &'a [Row],
-    policy: Policy,
+    policy: &Policy,
 ) -> PolicyFile<'a>
-    requires { (policy.attributes.len ≤ 6) × FewValues policy.attributes }
-    ensures { result ≡ record { file = file.entry; places = places.entry; table = table.entry; shape = policy_shape policy } }
+    requires { (policy.now.attributes.len ≤ 6) × FewValues policy.now.attributes }
+    ensures { result ≡ record { file = file.entry; places = places.entry; table = table.entry; shape = policy_shape policy.now } }
 {
     PolicyFile {
         file,
@@ -55,8 +55,8 @@ pub fn jogimaduve_decide(file: &[u8], request: &[u8], out: &mut [u8]) -> Decided
         Ok(policy) => policy,
         Err(refused) => return undecided(refused),
     };
-    match request_lines::request_line(file, policy.attributes, request) {
-        Ok(q) => deciding::answer(held(file, &places, &table, policy), q, out),
+    match request_lines::request_line(file, &policy.attributes, request) {
+        Ok(q) => deciding::answer(held(file, &places, &table, &policy), q, out),
         Err(refused) => undecided(refused),
     }
 }
@@ -72,7 +72,7 @@ pub fn jogimaduve_trim(file: &[u8], out: &mut [u8]) -> Answer
         Ok(policy) => policy,
         Err(refused) => return refused.into(),
     };
-    let policy = held(file, &places, &table, policy);
+    let policy = held(file, &places, &table, &policy);
     let mut struck = [0u8; 64];
     trimming::strike(policy, &mut struck);
     let kept = KeptText {
@@ -90,7 +90,7 @@ pub fn jogimaduve_next_rule(file: &[u8], out: &mut [u8]) -> Answer
     let mut table = [Row::NONE; 64];
     let mut places = [ElementPlaces::NONE; 64];
     match reader::read(file, &mut table, &mut places) {
-        Ok(policy) => rule_by_rule::show(held(file, &places, &table, policy), out),
+        Ok(policy) => rule_by_rule::show(held(file, &places, &table, &policy), out),
         Err(refused) => refused.into(),
     }
 }
@@ -103,7 +103,7 @@ pub fn jogimaduve_strike(file: &[u8], rule: &[u8], out: &mut [u8]) -> Answer
     let mut table = [Row::NONE; 64];
     let mut places = [ElementPlaces::NONE; 64];
     match reader::read(file, &mut table, &mut places) {
-        Ok(policy) => rule_by_rule::strike(held(file, &places, &table, policy), rule, out),
+        Ok(policy) => rule_by_rule::strike(held(file, &places, &table, &policy), rule, out),
         Err(refused) => refused.into(),
     }
 }
@@ -132,7 +132,7 @@ pub fn jogimaduve_accept(original: &[u8], proposal: &[u8]) -> Answer
     let mut table = [Row::NONE; 64];
     let mut places = [ElementPlaces::NONE; 64];
     match reader::read(original, &mut table, &mut places) {
-        Ok(policy) => accepting::accept(held(original, &places, &table, policy), proposal),
+        Ok(policy) => accepting::accept(held(original, &places, &table, &policy), proposal),
         Err(refused) => refused.into(),
     }
 }
@@ -165,7 +165,7 @@ pub fn jogimaduve_report(file: &[u8], out: &mut [u8]) -> Answer
     let mut table = [Row::NONE; 64];
     let mut places = [ElementPlaces::NONE; 64];
     match reader::read(file, &mut table, &mut places) {
-        Ok(policy) => reporting::report(held(file, &places, &table, policy), out),
+        Ok(policy) => reporting::report(held(file, &places, &table, &policy), out),
         Err(refused) => refused.into(),
     }
 }
@@ -179,8 +179,8 @@ pub fn jogimaduve_value_pairs(file: &[u8], attribute: &[u8], out: &mut [u8]) -> 
     let mut places = [ElementPlaces::NONE; 64];
     match reader::read(file, &mut table, &mut places) {
         Ok(policy) => value_pairs::tell(
-            held(file, &places, &table, policy),
-            policy.attributes,
+            held(file, &places, &table, &policy),
+            &policy.attributes,
             attribute,
             out,
         ),

@@ -6,18 +6,11 @@ use meaning::{Element, Obligation, Word};
 use std::io;
 use std::io::Read;
 
-// A byte as a usize.
-fn wide(b: u8) -> usize
-    ensures { result < 256 }
-{
-    b as usize
-}
-
-// A number of two bytes, the higher first.
+// A number of two bytes, the higher first, as make_lists.c stores it.
 fn pair(high: u8, low: u8) -> usize
     ensures { result < 65536 }
 {
-    256 * wide(high) + wide(low)
+    usize::from(u16::from_be_bytes([high, low]))
 }
 
 // The numbers are the file's, as make_lists.c stores them: `table` has its own, which may change apart from them.

@@ -31,7 +31,7 @@ fn digit(b: u8) -> usize
     (b % 16) as usize
 }
 
-// A request's number in decimal; 4,096 or more for one that is none.
+// A request's number in decimal; 4,096 or more for one that is none: `lay_decision` tests it against its places anyway.
 fn number_of(digits: &[u8]) -> usize {
     let mut number = 0;
     for b in digits {

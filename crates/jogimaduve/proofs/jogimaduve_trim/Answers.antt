@@ -1,8 +1,8 @@
 -- `jogimaduve_trim` meets its contract: the file's refusal, or the trimmed text fitted to the buffer.
-use mathlib.Core.Path.{refl, ◌∙◌}
+use mathlib.Core.Path.{refl}
 use native.Mathlib.Omega.{arith}
 use Rattle.meaning.specs.Report.{trim_file}
-use Rattle.reader.proofs.FileRead.{file_refused, file_read, sizable}
+use Rattle.reader.proofs.FileRead.{file_read, sizable}
 use Rattle.jogimaduve.proofs.Refusing.{refusal}
 use Rattle.jogimaduve.proofs.Shaping.{ready, steady_read, copies}
 use Rattle.jogimaduve.proofs.Trimming.{small_text, trim_fitted}
@@ -10,9 +10,7 @@ use Rattle.jogimaduve.proofs.jogimaduve_trim.Goals as goal
 
 pub returns-in-Err : goal.returns-in-Err
 unfolding trim_file
-returns-in-Err c =
-    let (answer, buffer) = refusal _ (file_refused c.in-Err.ensures) c.args.out.now _ in
-    record { value = c.into.ensures ∙ answer; out_after = buffer }
+returns-in-Err c = let both = refusal c.in-Err.ensures c.into.ensures c.args.out.now _ in record { value = both.0; out_after = both.1 }
 
 pub held-policy-requires : goal.held-policy-requires
 held-policy-requires c = sizable c.in-Ok.ensures
